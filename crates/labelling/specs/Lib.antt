@@ -1,0 +1,10 @@
+-- boxes: width, height, union
+pub mod Rects
+-- the record of a component: no dot yet, one dot more
+pub mod Components
+-- numbers joined by a relation, directly or by others between, each class named by its first
+pub mod Classes
+-- what such a naming is to be, and that is all it is to be
+pub mod Chains
+-- the components of a mask and their labels
+pub mod Labels

@@ -1,0 +1,10 @@
+-- a table and its entries; a loop that fills one
+pub mod TableLaws
+-- one more word copied
+pub mod CopyLaws
+-- records: one more, and one read back
+pub mod RecordLaws
+-- a float written and read back
+pub mod FloatLaws
+-- a test that is passed
+pub mod RefusalLaws

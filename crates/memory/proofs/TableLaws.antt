@@ -1,0 +1,36 @@
+-- A table and its entries; a loop that fills one.
+use mathlib.Core.Path.{_≡_, refl, sym, ap, _∙_}
+use mathlib.Core.List.{List, [], _∷_, _++_}
+use Prim.Native.Nat.{ℕ, zero, suc, _+_, _≤_, _<_}
+use native.Mathlib.Nat.{not-suc-le-zero, le-refl}
+use native.Mathlib.Decide.{ℕ-discrete}
+use native.Mathlib.Omega.{arith}
+use lib.ListN.{getD, length, set, drop, length-append, List·getD-append}
+use lib.Seq.{getD-at, set-at, drop-cons, append-snoc}
+use Rattle.memory.specs.Lists.{table}
+
+pub length-table : {A : Type 0} (f : ℕ → A) (n : ℕ) → length (table f n) ≡ n
+unfolding table
+length-table f zero = refl
+length-table f (suc n) = length-append (table f n) (f n ∷ []) ∙ (let e = length-table f n in omega arith)
+
+pub getD-table : {A : Type 0} (f : ℕ → A) (n i : ℕ) (d : A) → i < n → getD (table f n) i d ≡ f i
+unfolding table
+getD-table f zero i d l = absurd (not-suc-le-zero l)
+getD-table {A} f (suc n) i d l = go (getD-table f n i d) (ℕ-discrete i n)
+  where
+    go : (i < n → getD (table f n) i d ≡ f i) → Dec (i ≡ n) → getD (table f n ++ (f n ∷ [])) i d ≡ f i
+    go ih (yes e) = getD-at (table f n) (f n) [] d i (length-table f n ∙ sym e) ∙ ap f (sym e)
+    go ih (no ne) = List·getD-append (table f n) (f n ∷ []) d i (let e = length-table f n in omega arith) ∙ ih (omega arith)
+
+pub table-ext : {A : Type 0} (f g : ℕ → A) (n : ℕ) → ((i : ℕ) → i < n → f i ≡ g i) → table f n ≡ table g n
+unfolding table
+table-ext f g zero h = refl
+table-ext {A} f g (suc n) h = λ i. table-ext f g n (λ k l. h k (omega arith)) i ++ (h n (le-refl (suc n)) i ∷ [])
+
+-- one more entry is stored
+pub table-step : (f : ℕ → ℕ) (s : List ℕ) (i : ℕ) → i < length s → set (table f i ++ drop i s) i (f i) ≡ table f (suc i) ++ drop (suc i) s
+unfolding table
+table-step f s i l =
+    ap (λ r. set (table f i ++ r) i (f i)) (drop-cons s i 0 l)
+    ∙ (set-at (table f i) (getD s i 0) (drop (suc i) s) (f i) i (length-table f i) ∙ sym (append-snoc (table f i) (f i) (drop (suc i) s)))

@@ -1,0 +1,14 @@
+// Lent memory: words, floats in two words, and the chain of tests that refuses a call. Every crate above keeps its records in
+// memory that the caller lends, and says what that memory holds by the definitions in specs/.
+mod floats;
+mod refusals;
+mod words;
+
+pub use floats::bits_of;
+pub use floats::float_at;
+pub use floats::from_bits;
+pub use floats::put_float;
+pub use refusals::refuse_if;
+pub use words::copy_bytes;
+pub use words::copy_words;
+pub use words::word_at;
