@@ -1,0 +1,13 @@
+-- Drift under a slope: each product is rounded once in f64, and then to the nearest whole number.
+use Prim.Native.Nat.{ℕ}
+use lib.IntN.{ℤ, pos}
+use lib.Ieee.{Float, binary64, mul, neg, ofInt}
+use Rattle.rounding.specs.Rounding.{roundToSigned}
+
+-- row drift of column c: round(c × slope) (01, part 3)
+abbrev pub drift : Float → ℕ → ℤ
+drift slope c = roundToSigned 31 (mul binary64 (ofInt binary64 (pos c)) slope)
+
+-- column drift of frame row r: round((−r) × slope) (01, part 3)
+abbrev pub driftX : Float → ℕ → ℤ
+driftX slope r = roundToSigned 31 (mul binary64 (neg (ofInt binary64 (pos r))) slope)

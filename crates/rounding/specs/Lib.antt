@@ -1,0 +1,9 @@
+-- Document 01, part 1, and the drift of part 3.
+-- rounding to whole numbers, the casts after it, and to six decimals
+pub mod Rounding
+-- the sum of a list in a fixed order
+pub mod Sums
+-- how far a row or a column has drifted under a slope
+pub mod Drift
+-- worked values of all of these
+pub mod Examples
