@@ -1,18 +1,17 @@
 -- Positive floats as fractions num / den, their order, and where x + x is exact.
 use mathlib.Core.Path.{_≡_, refl, sym, ap, _∙_, subst}
-use mathlib.Core.Bool.{Bool, true, false, not, _&&_, _||_, cond, true≢false}
+use mathlib.Core.Bool.{Bool, true, false, not, _&&_, _||_}
 use Prim.Native.Nat.{ℕ, zero, suc, _+_, _-_, _*_, _/_, _%_, _^_, _≤_, _<_, min}
-use native.Mathlib.Nat.{le-trans, le-of-eq, lt-of-lt-of-le, lt-of-le-of-lt, lt-of-not-le, lt-irrefl, mul-comm, mul-assoc, mul-left-comm, mul-right-comm, mul-le-mul-right, mul-lt-mul-of-pos-right, lt-of-mul-lt-mul-right, mul-one, one-mul, mul-pos, pow-suc, eq-of-mul-eq-mul-right, le-of-suc-le-suc, div-lt-iff-lt-mul, div-div-eq-div-mul, add-div-right, div-one, zero-lt-suc}
+use native.Mathlib.Nat.{le-of-eq, lt-of-lt-of-le, lt-of-le-of-lt, lt-of-not-le, lt-irrefl, mul-comm, mul-assoc, mul-right-comm, mul-lt-mul-of-pos-right, lt-of-mul-lt-mul-right, mul-one, one-mul, mul-pos, pow-suc, eq-of-mul-eq-mul-right, le-of-suc-le-suc, div-lt-iff-lt-mul}
 use native.Mathlib.Omega.{arith}
 use lib.IntN.{ℤ, pos, negsuc}
-use lib.Dec.{T, leb, ltb, eqb, ltb→lt, lt→ltb, nltb→le, leb→le, lit≤, lit<}
-use lib.Pow.{pow-add, pow-pos, pow-mono, pow-lt, shl-lt}
-use lib.Ieee.{Float, nan, inf, fin, binary64, prec, low, emax, up, down, round, add, lt, le, fits, toUnsigned}
+use lib.Dec.{T, leb, ltb, eqb, ltb→lt, lt→ltb, leb→le, lit≤}
+use lib.Pow.{pow-add, pow-pos, pow-lt}
+use lib.Ieee.{Float, nan, inf, fin, binary64, up, down, round, add, lt, le, fits, toUnsigned}
 use lib.Ieee.Fits.{down-pos, and-l, and-r}
 use lib.Ieee.Exact.{HasValue, round-exact}
 use lib.Ieee.Nearest.{div-same}
 use lib.Ieee.Positive.{num, den, positive, den-pos, value→cross, between, le→cross, positive-of-value}
-use Rattle.rounding.specs.Rounding.{nearestWhole}
 
 abbrev pub half : Float
 half = fin false 1 (negsuc 0)

@@ -1,19 +1,19 @@
 -- `roundHalfAway`: where it is the float of a whole number, where it changes nothing, where it is a zero, and with the sign turned.
 use mathlib.Core.Path.{_≡_, refl, sym, ap, _∙_, subst}
-use mathlib.Core.Bool.{Bool, true, false, not, _&&_, _||_, cond}
-use Prim.Native.Nat.{ℕ, zero, suc, _+_, _-_, _*_, _/_, _%_, _^_, _≤_, _<_, zero-le}
-use native.Mathlib.Nat.{le-trans, le-of-eq, lt-of-lt-of-le, lt-of-le-of-lt, mul-one, one-mul, mul-pos, mul-comm, mul-assoc, mul-lt-mul-of-pos-right, zero-mul, mul-zero, zero-lt-suc, div-eq-of-lt, div-le-of-le-mul}
+use mathlib.Core.Bool.{Bool, true, false, not, _&&_, _||_}
+use Prim.Native.Nat.{ℕ, zero, suc, _+_, _*_, _%_, _^_, _≤_, _<_, zero-le}
+use native.Mathlib.Nat.{le-trans, le-of-eq, lt-of-lt-of-le, lt-of-le-of-lt, mul-one, one-mul, mul-pos, mul-assoc, mul-lt-mul-of-pos-right, zero-mul, mul-zero, zero-lt-suc, div-le-of-le-mul}
 use native.Mathlib.Omega.{arith}
 use lib.IntN.{ℤ, pos, negsuc}
-use lib.Dec.{T, leb, ltb, eqb, ltb→lt, lt→ltb, le→leb, nltb→le, eqb-refl, T-not, lit≤}
+use lib.Dec.{T, leb, ltb, eqb, ltb→lt, lt→ltb, le→leb, nltb→le, eqb-refl, lit≤}
 use lib.Arith.{lt-of-le-ne}
 use lib.Pow.{pow-add, pow-pos}
-use lib.Ieee.{Float, nan, inf, fin, Format, binary64, prec, low, emax, up, down, size, nearest, odd, units, round, mul, neg, lt, le, fits, ofInt, inFloat}
-use lib.Ieee.Fits.{and-r, round-fits, round-is, core, neg-fits, down-pos}
+use lib.Ieee.{Float, nan, inf, fin, binary64, up, down, round, mul, neg, lt, le, fits, ofInt, inFloat}
+use lib.Ieee.Fits.{and-r, round-fits, down-pos}
 use lib.Ieee.Exact.{HasValue, round-exact}
 use lib.Ieee.Scale.{round-same}
 use lib.Ieee.Back.{round-whole, whole-unique}
-use lib.Ieee.Positive.{num, den, positive, den-pos, first-pos}
+use lib.Ieee.Positive.{num, den, positive, first-pos}
 use Rattle.rounding.specs.Rounding.{nearestWhole, roundHalfAway}
 use Rattle.rounding.proofs.Fractions.{half, two-to, Within, digits, large-whole}
 use Rattle.rounding.proofs.NearestWhole.{nearestWhole-of-whole, nearestWhole-below-half}

@@ -1,7 +1,7 @@
 -- `nearestWhole` over whole numbers: by twice the fraction, at a whole number, below a half, in order, and between its neighbours.
-use mathlib.Core.Path.{_≡_, refl, sym, ap, _∙_, subst}
+use mathlib.Core.Path.{_≡_, sym, ap, _∙_}
 use Prim.Native.Nat.{ℕ, suc, _+_, _*_, _/_, _%_, _≤_, _<_}
-use native.Mathlib.Nat.{le-trans, le-of-eq, lt-of-lt-of-le, mul-comm, mul-assoc, mul-left-comm, add-mul, div-div-eq-div-mul, add-div-right, div-one, div-eq-of-lt, le-div-iff-mul-le, div-lt-iff-lt-mul}
+use native.Mathlib.Nat.{le-trans, le-of-eq, lt-of-lt-of-le, mul-comm, mul-assoc, mul-left-comm, add-mul, div-div-eq-div-mul, add-div-right, div-eq-of-lt, le-div-iff-mul-le, div-lt-iff-lt-mul}
 use native.Mathlib.Omega.{arith}
 use lib.Ieee.Nearest.{div-mono}
 use Rattle.rounding.specs.Rounding.{nearestWhole}

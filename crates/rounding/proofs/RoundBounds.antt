@@ -1,19 +1,16 @@
 -- What `round` gives for a / b lies where a / b lies, against any k / 2 ^ t that the format holds; and so does its nearest whole number.
 use mathlib.Core.Path.{_≡_, refl, sym, ap, _∙_, subst}
 use mathlib.Core.Bool.{Bool, true, false, not, _&&_, _||_, cond}
-use Prim.Native.Nat.{ℕ, zero, suc, _+_, _-_, _*_, _/_, _%_, _^_, _≤_, _<_}
-use native.Mathlib.Nat.{le-trans, le-of-eq, lt-of-lt-of-le, lt-of-le-of-lt, mul-comm, mul-assoc, mul-left-comm, mul-right-comm, mul-le-mul-right, mul-one, mul-pos, add-mul, mul-add, le-div-iff-mul-le, div-lt-iff-lt-mul}
+use Prim.Native.Nat.{ℕ, zero, suc, _+_, _-_, _*_, _^_, _≤_, _<_}
+use native.Mathlib.Nat.{le-of-eq, lt-of-lt-of-le, mul-assoc}
 use native.Mathlib.Omega.{arith}
-use lib.IntN.{ℤ}
-use lib.Dec.{T, leb, ltb, eqb}
+use lib.Dec.{T, ltb, eqb}
 use lib.Pow.{pow-add, pow-pos, pow-mono, shl-lt}
 use lib.Ieee.{Float, nan, inf, fin, Format, binary64, prec, low, emax, up, down, odd, units, round, le}
-use lib.Ieee.Fits.{round-is, down-pos}
+use lib.Ieee.Fits.{round-is}
 use lib.Ieee.Exact.{HasValue, round-exact}
-use lib.Ieee.Nearest.{div-mono}
 use lib.Ieee.Order.{round-mono, transfer}
 use lib.Ieee.Positive.{num, den, den-pos}
-use Rattle.rounding.specs.Rounding.{nearestWhole}
 
 -- ---- `round f false` is not negative, and no NaN
 abbrev pub nonneg : Float → Bool

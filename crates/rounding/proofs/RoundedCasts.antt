@@ -5,7 +5,7 @@ use Prim.Native.Nat.{ℕ, _-_, _*_, _/_, _^_, _<_, min}
 use native.Mathlib.Nat.{mul-one, mul-div-cancel}
 use lib.IntN.{pos, negℤ}
 use lib.Dec.{T}
-use lib.Ieee.{Float, nan, inf, fin, binary64, up, down, fits, toUnsigned, toSigned}
+use lib.Ieee.{Float, fin, binary64, up, down, fits, toUnsigned, toSigned}
 use lib.Ieee.Exact.{HasValue}
 use lib.Ieee.Fits.{down-pos}
 use lib.Ieee.Positive.{num, den}
