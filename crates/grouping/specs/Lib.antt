@@ -1,0 +1,14 @@
+-- smoothing of the glyph dots along rows
+pub mod Smoothing
+-- text lines, and the line of each glyph
+pub mod Lines
+-- blocks of lines
+pub mod Blocks
+-- columns of the page
+pub mod Columns
+-- one record of all results of a page, and the refusals that it can give
+pub mod Layouts
+-- what is read from the results: `summarize`, the twenty-line measure, the dots of one kind in a box
+pub mod Readings
+-- the figures of the printed sheet
+pub mod Figures

@@ -1,0 +1,73 @@
+-- What is read from the results: `summarize` (01, part 8), the twenty-line measure and the dots of one kind in a box (01, "Added by us").
+use Prim.Native.Nat.{ℕ, _+_, _-_, _*_, _/_, _%_}
+use mathlib.Core.Bool.{Bool, cond, _&&_}
+use mathlib.Core.List.{List, [], _∷_, _++_, map}
+use lib.Ieee.{Float, binary64, div}
+use lib.ListN.{getD, length}
+use lib.Dec.{eqb, leb}
+use Rattle.memory.specs.Lists.{upto, keep}
+use Rattle.rounding.specs.Rounding.{positiveZero}
+use Rattle.labelling.specs.declared.rect.Rect.{Rect}
+use Rattle.levelling.specs.Frames.{Frame, rowOf, columnOf}
+use Rattle.sorting.specs.Lengths.{float}
+use Rattle.sorting.specs.Units.{median, unitValue}
+use Rattle.grouping.specs.Blocks.{Block, noRect}
+use Rattle.grouping.specs.Layouts.{Layout, TextLine}
+
+-- from each number of the list to the next, below 0 as 0
+unfoldable pub differences : List ℕ → List ℕ
+differences [] = []
+differences (a ∷ []) = []
+differences (a ∷ (b ∷ l)) = (b - a) ∷ differences (b ∷ l)
+
+-- differences of y0 + y1 between following lines of a block, of all blocks together
+unfoldable pub pitches : List Rect → List Block → List ℕ
+pitches ls [] = []
+pitches ls (b ∷ bs) = differences (map (λ i. getD ls i noRect .y0 + getD ls i noRect .y1) (b .lines)) ++ pitches ls bs
+
+abbrev pub pitchesOf : Layout → List ℕ
+pitchesOf l = pitches (map (λ (t : TextLine). t .bbox) (l .lines)) (l .blocks)
+
+-- the twenty-line measure: 10 times their median, and 0 without any
+unfoldable pub twentyLineMeasure : Layout → ℕ
+twentyLineMeasure l = 10 * median (pitchesOf l)
+
+-- the twelve numbers of `summarize`, in the order in which it puts them: xheight_px, skew_deg_applied, glyphs, lines, blocks, columns,
+-- rules, graphics, glyph_ink_fraction, text_share_of_ink, median_line_pitch_xh, median_glyph_height_xh
+unfoldable pub summary : Frame → Float → Layout → List Float
+summary f skew l =
+    let xheight = unitValue (l .unit) in
+    let glyph-ink = float (getD (l .counts) 3 0) in
+    xheight
+    ∷ skew
+    ∷ float (length (l .glyphs))
+    ∷ float (length (l .lines))
+    ∷ float (length (l .blocks))
+    ∷ float (length (l .columns))
+    ∷ float (length (l .rules))
+    ∷ float (length (l .graphics))
+    ∷ div binary64 glyph-ink (float (f .w * f .h))
+    ∷ cond (eqb (l .ink-pixels) 0) positiveZero (div binary64 glyph-ink (float (l .ink-pixels)))
+    ∷ div binary64 (div binary64 (float (median (pitchesOf l))) (float 2)) xheight
+    ∷ div binary64 (float (median (map (λ (t : TextLine). t .glyph-height) (l .lines)))) xheight
+    ∷ []
+
+-- whether a frame point lies in a box
+abbrev pub inBox : Rect → ℕ → ℕ → Bool
+inBox r x y = leb (r .x0) x && leb x (r .x1) && leb (r .y0) y && leb y (r .y1)
+
+-- whether page dot i has the kind k and its frame place lies in the box r
+unfoldable pub listed : Frame → List ℕ → ℕ → Rect → ℕ → Bool
+listed f kinds k r i =
+    let c = i % f .page-w in
+    let y = i / f .page-w in
+    eqb (getD kinds (rowOf f c y * f .w + columnOf f c y) 0) k && inBox r (columnOf f c y) (rowOf f c y)
+
+-- page dots as two words each: page column, then page row
+unfoldable pub columnsAndRows : ℕ → List ℕ → List ℕ
+columnsAndRows w [] = []
+columnsAndRows w (i ∷ l) = i % w ∷ i / w ∷ columnsAndRows w l
+
+-- the page dots of one kind inside a frame box, ordered by page row, then page column
+unfoldable pub dotList : Frame → List ℕ → ℕ → Rect → List ℕ
+dotList f kinds k r = columnsAndRows (f .page-w) (keep (listed f kinds k r) (upto (f .page-w * f .page-h)))

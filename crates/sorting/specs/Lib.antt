@@ -1,0 +1,12 @@
+-- lengths in f64: a count as a float, a product rounded once, a length in whole dots
+pub mod Lengths
+-- run extents along rows and columns
+pub mod Extents
+-- thin rulings: the two cut masks and the ink after the cut
+pub mod Rulings
+-- the median, and the x-height as 01's unit
+pub mod Units
+-- the kind of each component and of each dot
+pub mod Kinds
+-- a whole ink plane sorted: cuts, components after the cut, kinds, lists and counts
+pub mod Sorted
