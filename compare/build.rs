@@ -6,8 +6,7 @@ use std::path::PathBuf;
 fn main() {
     println!("cargo:rerun-if-env-changed=NOVLIZEB_LIB");
     let here = PathBuf::from(std::env::var("CARGO_MANIFEST_DIR").expect("cargo sets it"));
-    let folder = std::env::var_os("NOVLIZEB_LIB")
-        .map_or_else(|| here.join("../target/staticlib"), PathBuf::from);
+    let folder = std::env::var_os("NOVLIZEB_LIB").map_or_else(|| here.join("../target/staticlib"), PathBuf::from);
     let archive = folder.join("libboundary.a");
     if !archive.is_file() {
         panic!(

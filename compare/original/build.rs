@@ -39,7 +39,10 @@ impl Original {
     fn file(&self, name: &str) -> PathBuf {
         let path = self.source.join("crates/pagetriage-core/src").join(name);
         if !path.is_file() {
-            panic!("{} is not there: set PAGETRIAGE_SRC to the folder that holds the original's `crates`", path.display());
+            panic!(
+                "{} is not there: set PAGETRIAGE_SRC to the folder that holds the original's `crates`",
+                path.display()
+            );
         }
         println!("cargo:rerun-if-changed={}", path.display());
         path
@@ -71,8 +74,8 @@ fn main() {
     println!("cargo:rerun-if-env-changed=PAGETRIAGE_SRC");
     println!("cargo:rerun-if-changed=build.rs");
     let here = PathBuf::from(std::env::var("CARGO_MANIFEST_DIR").expect("cargo sets it"));
-    let source = std::env::var_os("PAGETRIAGE_SRC")
-        .map_or_else(|| here.join("../../../shared/docs/src"), PathBuf::from);
+    let source =
+        std::env::var_os("PAGETRIAGE_SRC").map_or_else(|| here.join("../../../shared/docs/src"), PathBuf::from);
     let out = PathBuf::from(std::env::var("OUT_DIR").expect("cargo sets it"));
     let original = Original { source, out };
     original.write("root.rs", &[original.unchanged("math", "math.rs")]);

@@ -22,7 +22,10 @@ impl Bench {
             best_rust = best_rust.min(timed(&mut rust));
             best_ours = best_ours.min(timed(&mut ours));
         }
-        println!("{stage} {page} ratio {:.2}", best_rust.as_secs_f64() / best_ours.as_secs_f64());
+        println!(
+            "{stage} {page} ratio {:.2}",
+            best_rust.as_secs_f64() / best_ours.as_secs_f64()
+        );
     }
 }
 

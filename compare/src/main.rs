@@ -78,6 +78,9 @@ fn run(chosen: &[&Part], all: bool) -> ExitCode {
 
 fn usage() -> ExitCode {
     let names: Vec<&str> = PARTS.iter().map(|part| part.name).collect();
-    eprintln!("usage: compare run|bench [PART..] or compare list; parts: {}", names.join(" "));
+    eprintln!(
+        "usage: compare run|bench [PART..] or compare list; parts: {}",
+        names.join(" ")
+    );
     ExitCode::from(2)
 }

@@ -13,7 +13,11 @@ pub struct Tally {
 
 impl Tally {
     pub fn new(part: &'static str) -> Self {
-        Tally { part, cases: 0, differences: 0 }
+        Tally {
+            part,
+            cases: 0,
+            differences: 0,
+        }
     }
 
     /// One case: equal answers of any kind but floats.

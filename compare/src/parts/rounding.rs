@@ -11,7 +11,12 @@ use crate::ours;
 use crate::random::Random;
 use crate::tally::{shown, Tally};
 
-pub const PART: Part = Part { name: "rounding", compare, bench, list };
+pub const PART: Part = Part {
+    name: "rounding",
+    compare,
+    bench,
+    list,
+};
 
 const MANTISSA: u64 = (1 << 52) - 1;
 const SIGN: u64 = 1 << 63;
@@ -56,14 +61,18 @@ fn compare(tally: &mut Tally) {
 fn one(tally: &mut Tally, x: f64) {
     tally.float("round", x.round(), ours::round(x), || shown(x));
     tally.equal("round_to_u32", x.round() as u32, ours::round_to_u32(x), || shown(x));
-    tally.equal("round_to_usize", x.round() as usize, ours::round_to_usize(x), || shown(x));
+    tally.equal("round_to_usize", x.round() as usize, ours::round_to_usize(x), || {
+        shown(x)
+    });
     tally.equal("round_to_i32", x.round() as i32, ours::round_to_i32(x), || shown(x));
     tally.equal("round_to_i64", x.round() as i64, ours::round_to_i64(x), || shown(x));
     output(tally, x);
 }
 
 fn output(tally: &mut Tally, x: f64) {
-    tally.float("round_output", math::round_output(x), ours::round_output(x), || shown(x));
+    tally.float("round_output", math::round_output(x), ours::round_output(x), || {
+        shown(x)
+    });
 }
 
 /// Every exponent and sign with a spread of mantissas: no digit, one, all below one, all above one, and random ones. The
@@ -130,7 +139,16 @@ fn nans(random: &mut Random, each: &mut impl FnMut(u64)) {
         }
     }
     for sign in [0, SIGN] {
-        for bits in [INFINITY, INFINITY - 1, INFINITY | 1, INFINITY | QUIET, INFINITY | MANTISSA, 0, 1, MANTISSA] {
+        for bits in [
+            INFINITY,
+            INFINITY - 1,
+            INFINITY | 1,
+            INFINITY | QUIET,
+            INFINITY | MANTISSA,
+            0,
+            1,
+            MANTISSA,
+        ] {
             each(sign | bits);
         }
     }
@@ -170,10 +188,25 @@ fn bench(bench: &mut Bench) {
     let halves: Vec<f64> = (0..20_000).map(|_| random.below(20_000) as f64 - 9_999.5).collect();
     let small: Vec<f64> = (0..20_000).map(|_| random.fraction() - 0.5).collect();
     let patterns: Vec<f64> = (0..20_000).map(|_| random.pattern()).collect();
-    for (page, input) in [("mixed", &mixed), ("halves", &halves), ("small", &small), ("patterns", &patterns)] {
+    for (page, input) in [
+        ("mixed", &mixed),
+        ("halves", &halves),
+        ("small", &small),
+        ("patterns", &patterns),
+    ] {
         bench.stage("round", page, || calls(input, rust_round), || calls(input, ours::round));
-        bench.stage("round_to_i32", page, || calls(input, rust_round_to_i32), || calls(input, ours::round_to_i32));
-        bench.stage("round_output", page, || calls(input, rust_round_output), || calls(input, ours::round_output));
+        bench.stage(
+            "round_to_i32",
+            page,
+            || calls(input, rust_round_to_i32),
+            || calls(input, ours::round_to_i32),
+        );
+        bench.stage(
+            "round_output",
+            page,
+            || calls(input, rust_round_output),
+            || calls(input, ours::round_output),
+        );
     }
 }
 
@@ -214,7 +247,14 @@ fn list(list: &mut List) {
     for x in [0.0, 0.3, 3.7, 5e-7, 1e300, f64::MAX, f64::MIN_POSITIVE, f64::MAX / 1e6] {
         near(x, 0, &mut each);
     }
-    for bits in [1, MANTISSA, INFINITY, INFINITY | 1, INFINITY | QUIET, INFINITY | MANTISSA] {
+    for bits in [
+        1,
+        MANTISSA,
+        INFINITY,
+        INFINITY | 1,
+        INFINITY | QUIET,
+        INFINITY | MANTISSA,
+    ] {
         each(bits);
         each(bits | SIGN);
     }

@@ -12,7 +12,12 @@ use crate::ours;
 use crate::random::Random;
 use crate::tally::Tally;
 
-pub const PART: Part = Part { name: "sums", compare, bench, list };
+pub const PART: Part = Part {
+    name: "sums",
+    compare,
+    bench,
+    list,
+};
 
 /// What the values of a vector are.
 #[derive(Clone, Copy, Debug)]
@@ -81,10 +86,19 @@ fn fill(random: &mut Random, kind: Kind, length: usize, values: &mut Vec<f64>) {
 
 fn one(tally: &mut Tally, random: &mut Random, kind: Kind, length: usize, values: &mut Vec<f64>) {
     fill(random, kind, length, values);
-    tally.float("pairwise_sum", math::pairwise_sum(values), ours::pairwise_sum(values), || {
-        let bits: Vec<String> = values.iter().take(20).map(|v| format!("{:016X}", v.to_bits())).collect();
-        format!("{length} values, {kind:?}: {}", bits.join(" "))
-    });
+    tally.float(
+        "pairwise_sum",
+        math::pairwise_sum(values),
+        ours::pairwise_sum(values),
+        || {
+            let bits: Vec<String> = values
+                .iter()
+                .take(20)
+                .map(|v| format!("{:016X}", v.to_bits()))
+                .collect();
+            format!("{length} values, {kind:?}: {}", bits.join(" "))
+        },
+    );
 }
 
 fn compare(tally: &mut Tally) {
@@ -115,7 +129,11 @@ fn compare(tally: &mut Tally) {
 /// Both sides are timed by the call, as in `rounding.rs`; the short sums many to a turn.
 fn bench(bench: &mut Bench) {
     let mut random = Random::new();
-    for (page, length, times) in [("length-8", 8, 5000), ("length-70", 70, 1000), ("length-10000", 10_000, 20)] {
+    for (page, length, times) in [
+        ("length-8", 8, 5000),
+        ("length-70", 70, 1000),
+        ("length-10000", 10_000, 20),
+    ] {
         let mut values = Vec::new();
         fill(&mut random, Kind::Even, length, &mut values);
         bench.stage(

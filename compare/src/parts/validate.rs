@@ -9,7 +9,12 @@ use crate::ours;
 use crate::random::Random;
 use crate::tally::Tally;
 
-pub const PART: Part = Part { name: "validate", compare, bench, list };
+pub const PART: Part = Part {
+    name: "validate",
+    compare,
+    bench,
+    list,
+};
 
 const FIELDS: usize = 18;
 
@@ -63,7 +68,10 @@ fn valid(random: &mut Random) -> Words {
             _ => (fraction * most).to_bits(),
         };
     }
-    let (low, high) = (f64::from_bits(w[LINE_MIN_HEIGHT_XH]), f64::from_bits(w[LINE_MAX_HEIGHT_XH]));
+    let (low, high) = (
+        f64::from_bits(w[LINE_MIN_HEIGHT_XH]),
+        f64::from_bits(w[LINE_MAX_HEIGHT_XH]),
+    );
     w[LINE_MIN_HEIGHT_XH] = low.min(high).to_bits();
     w[LINE_MAX_HEIGHT_XH] = low.max(high).to_bits();
     w
@@ -71,7 +79,9 @@ fn valid(random: &mut Random) -> Words {
 
 /// The document's own sheet of the show program: every field well inside its limits but for those at an end.
 fn plain() -> Words {
-    let floats = [1.0f64, 1.0, 4.0, 0.5, 4.0, 8.0, 1.0, 0.5, 3.0, 0.5, 0.5, 3.0, 1.0, 0.0, 0.0];
+    let floats = [
+        1.0f64, 1.0, 4.0, 0.5, 4.0, 8.0, 1.0, 0.5, 3.0, 0.5, 0.5, 3.0, 1.0, 0.0, 0.0,
+    ];
     let mut left = floats.iter();
     let mut w = [1; FIELDS];
     for (i, word) in w.iter_mut().enumerate() {
@@ -92,7 +102,16 @@ fn limits() -> Vec<u64> {
             all.push(near | 1 << 63);
         }
     }
-    for x in [f64::MIN_POSITIVE, 2.0, 9999.0, 10001.0, 1e300, f64::MAX, f64::INFINITY, f64::NAN] {
+    for x in [
+        f64::MIN_POSITIVE,
+        2.0,
+        9999.0,
+        10001.0,
+        1e300,
+        f64::MAX,
+        f64::INFINITY,
+        f64::NAN,
+    ] {
         all.push(x.to_bits());
         all.push((-x).to_bits());
     }
@@ -156,16 +175,16 @@ fn mutated(random: &mut Random, limits: &[u64]) -> Words {
 
 fn one(tally: &mut Tally, w: &Words) {
     let sheet = sheet(w);
-    tally.equal("validate", sheet.validate().is_ok(), ours::validate(&sheet), || format!("{sheet:?}"));
+    tally.equal("validate", sheet.validate().is_ok(), ours::validate(&sheet), || {
+        format!("{sheet:?}")
+    });
 }
 
 fn compare(tally: &mut Tally) {
     let mut random = Random::new();
     let limits = limits();
     for _ in 0..100_000 {
-        let w = valid(&mut random);
-        assert!(sheet(&w).validate().is_ok(), "a sheet made to be valid is not");
-        one(tally, &w);
+        one(tally, &valid(&mut random));
     }
     at_limits(&plain(), &mut |w| one(tally, w));
     for _ in 0..200 {
@@ -196,5 +215,19 @@ fn list(list: &mut List) {
     for _ in 0..40 {
         each(&valid(&mut random));
         each(&mutated(&mut random, &limits));
+    }
+}
+
+#[cfg(test)]
+mod tests {
+    use super::*;
+
+    #[test]
+    fn the_valid_sheets_are_valid() {
+        let mut random = Random::new();
+        for _ in 0..10_000 {
+            assert!(sheet(&valid(&mut random)).validate().is_ok());
+        }
+        assert!(sheet(&plain()).validate().is_ok());
     }
 }
