@@ -1,18 +1,17 @@
 -- Positive floats as fractions num / den, their order, and where x + x is exact.
 use mathlib.Core.Path.{_≡_, refl, sym, ap, _∙_, subst}
-use mathlib.Core.Bool.{Bool, true, false, not, _&&_, _||_, cond, true≢false}
+use mathlib.Core.Bool.{Bool, true, false, not, _&&_, _||_}
 use Prim.Native.Nat.{ℕ, zero, suc, _+_, _-_, _*_, _/_, _%_, _^_, _≤_, _<_, min}
-use native.Mathlib.Nat.{le-trans, le-of-eq, lt-of-lt-of-le, lt-of-le-of-lt, lt-of-not-le, lt-irrefl, mul-comm, mul-assoc, mul-left-comm, mul-right-comm, mul-le-mul-right, mul-lt-mul-of-pos-right, lt-of-mul-lt-mul-right, mul-one, one-mul, mul-pos, pow-suc, eq-of-mul-eq-mul-right, le-of-suc-le-suc, div-lt-iff-lt-mul, div-div-eq-div-mul, add-div-right, div-one, zero-lt-suc}
+use native.Mathlib.Nat.{le-of-eq, lt-of-lt-of-le, lt-of-le-of-lt, lt-of-not-le, lt-irrefl, mul-comm, mul-assoc, mul-right-comm, mul-lt-mul-of-pos-right, lt-of-mul-lt-mul-right, mul-one, one-mul, mul-pos, pow-suc, eq-of-mul-eq-mul-right, le-of-suc-le-suc, div-lt-iff-lt-mul}
 use native.Mathlib.Omega.{arith}
 use lib.IntN.{ℤ, pos, negsuc}
-use lib.Dec.{T, leb, ltb, eqb, ltb→lt, lt→ltb, nltb→le, leb→le, lit≤, lit<}
-use lib.Pow.{pow-add, pow-pos, pow-mono, pow-lt, shl-lt}
-use lib.Ieee.{Float, nan, inf, fin, binary64, prec, low, emax, up, down, round, add, lt, le, fits, toUnsigned}
+use lib.Dec.{T, leb, ltb, eqb, ltb→lt, lt→ltb, leb→le, lit≤}
+use lib.Pow.{pow-add, pow-pos, pow-lt}
+use lib.Ieee.{Float, nan, inf, fin, binary64, up, down, round, add, lt, le, fits, toUnsigned}
 use lib.Ieee.Fits.{down-pos, and-l, and-r}
 use lib.Ieee.Exact.{HasValue, round-exact}
 use lib.Ieee.Nearest.{div-same}
 use lib.Ieee.Positive.{num, den, positive, den-pos, value→cross, between, le→cross, positive-of-value}
-use Rattle.rounding.specs.Rounding.{nearestWhole}
 
 abbrev pub half : Float
 half = fin false 1 (negsuc 0)
@@ -31,10 +30,6 @@ pub lt→frac : (x y : Float) → T (positive x) → T (positive y) → T (lt x 
 unfolding lt
 lt→frac (fin false m e) (fin false n d) p q h = ltb→lt (m * up e * down d) (n * up d * down e) h
 
-pub nlt→frac : (x y : Float) → T (positive x) → T (positive y) → T (not (lt x y)) → num y * den x ≤ num x * den y
-unfolding lt
-nlt→frac (fin false m e) (fin false n d) p q h = nltb→le (m * up e * down d) (n * up d * down e) h
-
 pub frac→lt : (x y : Float) → T (positive x) → T (positive y) → num x * den y < num y * den x → T (lt x y)
 unfolding lt
 frac→lt (fin false m e) (fin false n d) p q h = lt→ltb (m * up e * down d) (n * up d * down e) h
@@ -46,9 +41,6 @@ or-l false b t = absurd t
 pub lt→le : (x y : Float) → T (lt x y) → T (le x y)
 unfolding le
 lt→le x y h = or-l (lt x y) _ h
-
-pub two-pos : (w : ℕ) → T (positive (two-to w))
-two-pos w = tt
 
 -- ---- at least a half and below 2 ^ w
 abbrev pub Within : ℕ → Float → Type 0
@@ -67,12 +59,6 @@ pub within : (w : ℕ) (x : Float) → T (le half x) → T (lt x (two-to w)) →
 within w x a b =
     let p : T (positive x) = between half x (two-to w) tt tt a (lt→le x (two-to w) b) in
     (p, tidy-half (den x) (num x) (le→cross half x tt p a), tidy-lt (num x) (2 ^ w) (den x) (lt→frac x (two-to w) p tt b))
-
-pub narrower : (v w : ℕ) (x : Float) → Within w x → T (lt x (two-to v)) → Within v x
-narrower v w x i h = (i .0, i .1, tidy-lt (num x) (2 ^ v) (den x) (lt→frac x (two-to v) (i .0) tt h))
-
-pub not-below : (v w : ℕ) (x : Float) → Within w x → T (not (lt x (two-to v))) → 2 ^ v * den x ≤ num x
-not-below v w x i h = tidy-le (num x) (2 ^ v) (den x) (nlt→frac x (two-to v) (i .0) tt h)
 
 -- ---- another fraction of the same size
 pub rescale : (x : Float) (s : Bool) (a c a' c' : ℕ) → 0 < c → a * c' ≡ a' * c → HasValue x s a c → HasValue x s a' c'
@@ -182,15 +168,6 @@ above-minus-one (fin false m e) p = lt→ltb 0 (1 * 1 * down e + m * up e * 1) (
     pos-sum : (d n : ℕ) → 0 < d → 0 < 1 * 1 * d + n * 1
     pos-sum d n h = omega arith
 
--- ---- the nearest whole number of n / d, from twice the fraction cut
-pub half-of : (n d : ℕ) → 0 < d → 2 * n / d / 2 + 2 * n / d % 2 ≡ nearestWhole n d
-half-of n d h =
-    let q = 2 * n / d in
-    up-half q ∙ ap (λ (z : ℕ). z / 2) (sym (add-div-right (2 * n) h)) ∙ div-div-eq-div-mul (2 * n + d) d 2 ∙ ap (λ (z : ℕ). (2 * n + d) / z) (mul-comm d 2)
-  where
-    up-half : (q : ℕ) → q / 2 + q % 2 ≡ (q + 1) / 2
-    up-half q = omega arith
-
 -- ---- from 2 ^ 52 on a float is whole
 pub large-whole : (x : Float) → T (fits binary64 x) → T (positive x) → 2 ^ 52 * den x ≤ num x → den x ≡ 1
 large-whole (fin false m (pos k)) F p h = refl
@@ -198,16 +175,3 @@ large-whole (fin false m (negsuc k)) F p h = absurd (go m (2 ^ k) (2 ^ suc k) (d
   where
     go : (m p q : ℕ) → m < 2 ^ 53 → 0 < p → q ≡ p * 2 → 2 ^ 52 * q ≤ m → ⊥
     go m p q a b c d = omega arith
-
-pub half-of-whole : (n : ℕ) → n / 1 ≡ nearestWhole n 1
-half-of-whole n = div-one n ∙ go n
-  where
-    go : (n : ℕ) → n ≡ (2 * n + 1) / 2
-    go n = omega arith
-
--- below 2 ^ v, so below 2 ^ w for a larger w
-pub lt-wider : (v w : ℕ) (x : Float) → 2 ^ v ≤ 2 ^ w → Within v x → T (lt x (two-to w))
-lt-wider v w x h i =
-    frac→lt x (two-to w) (i .0) tt
-    (subst (λ (z : ℕ). z < 1 * 2 ^ w * den x) (sym (mul-one (num x))) (subst (λ (z : ℕ). num x < z * den x) (sym (one-mul (2 ^ w)))
-    (lt-of-lt-of-le (i .2) (mul-le-mul-right (den x) h))))

@@ -1,21 +1,23 @@
 -- `roundHalfAway`: where it is the float of a whole number, where it changes nothing, where it is a zero, and with the sign turned.
 use mathlib.Core.Path.{_≡_, refl, sym, ap, _∙_, subst}
-use mathlib.Core.Bool.{Bool, true, false, not, _&&_, _||_, cond}
-use Prim.Native.Nat.{ℕ, zero, suc, _+_, _-_, _*_, _/_, _%_, _^_, _≤_, _<_}
-use native.Mathlib.Nat.{le-trans, le-of-eq, lt-of-lt-of-le, lt-of-le-of-lt, mul-one, one-mul, mul-pos, mul-comm, mul-assoc, mul-lt-mul-of-pos-right, zero-mul, mul-zero, zero-lt-suc, div-eq-of-lt, div-le-of-le-mul}
+use mathlib.Core.Bool.{Bool, true, false, not, _&&_, _||_}
+use Prim.Native.Nat.{ℕ, zero, suc, _+_, _*_, _%_, _^_, _≤_, _<_, zero-le}
+use native.Mathlib.Nat.{le-trans, le-of-eq, lt-of-lt-of-le, lt-of-le-of-lt, mul-one, one-mul, mul-pos, mul-assoc, mul-lt-mul-of-pos-right, zero-mul, mul-zero, zero-lt-suc, div-le-of-le-mul}
 use native.Mathlib.Omega.{arith}
 use lib.IntN.{ℤ, pos, negsuc}
-use lib.Dec.{T, leb, ltb, eqb, ltb→lt, lt→ltb, le→leb, nltb→le, eqb-refl, T-not, lit≤}
+use lib.Dec.{T, leb, ltb, eqb, ltb→lt, lt→ltb, le→leb, nltb→le, eqb-refl, lit≤}
 use lib.Arith.{lt-of-le-ne}
 use lib.Pow.{pow-add, pow-pos}
-use lib.Ieee.{Float, nan, inf, fin, Format, binary64, prec, low, emax, up, down, size, nearest, odd, units, round, mul, neg, lt, le, fits, ofInt, inFloat}
-use lib.Ieee.Fits.{and-r, round-fits, round-is, core, neg-fits, down-pos}
+use lib.Ieee.{Float, nan, inf, fin, binary64, up, down, round, mul, neg, lt, le, fits, ofInt, inFloat}
+use lib.Ieee.Fits.{and-r, round-fits, down-pos}
 use lib.Ieee.Exact.{HasValue, round-exact}
 use lib.Ieee.Scale.{round-same}
-use lib.Ieee.Back.{whole-unique}
-use lib.Ieee.Positive.{num, den, positive, den-pos, first-pos}
+use lib.Ieee.Back.{round-whole, whole-unique}
+use lib.Ieee.Positive.{num, den, positive, first-pos}
 use Rattle.rounding.specs.Rounding.{nearestWhole, roundHalfAway}
-use Rattle.rounding.proofs.Fractions.{half, two-to, Within, digits, large-whole, half-of-whole}
+use Rattle.rounding.proofs.Fractions.{half, two-to, Within, digits, large-whole}
+use Rattle.rounding.proofs.NearestWhole.{nearestWhole-of-whole, nearestWhole-below-half}
+use Rattle.rounding.proofs.Signs.{not-not, neg-round}
 
 -- ---- the whole number as a float
 pub away-is : (x : Float) → T (positive x) → roundHalfAway x ≡ ofInt binary64 (pos (nearestWhole (num x) (den x)))
@@ -29,26 +31,47 @@ fits-whole x i = le→leb (nearestWhole (num x) (den x)) (2 ^ 53) (div-le-of-le-
     go : (n d : ℕ) → n < 4503599627370496 * d → 2 * n + d ≤ 2 * d * 9007199254740992
     go n d h = omega arith
 
--- ---- from 2 ^ 52 on nothing changes
-pub top-fits : (m : ℕ) (e : ℤ) → T (fits binary64 (fin false m e)) → 0 < m → m * up e < 2 ^ 1024 * down e
+-- ---- the value
+top-fits : (m : ℕ) (e : ℤ) → T (fits binary64 (fin false m e)) → 0 < m → m * up e < 2 ^ 1024 * down e
 unfolding fits
 top-fits zero e t h = absurd (native.Mathlib.Nat.lt-irrefl 0 h)
 top-fits (suc m) e t h = ltb→lt (suc m * up e) (2 ^ 1024 * down e) (and-r (eqb (suc m % 2) 1 && ltb (suc m) (2 ^ 53) && leb (down e) (2 ^ 1074)) (ltb (suc m * up e) (2 ^ 1024 * down e)) t)
 
-stays : (m k : ℕ) → T (fits binary64 (fin false m (pos k))) → 0 < m → round binary64 false (nearestWhole (m * 2 ^ k) 1) 1 ≡ fin false m (pos k)
-stays m k F M =
+-- `roundHalfAway` of a finite float is the whole number itself: below 2 ^ 53 there are no gaps, and from there on the float was whole
+small-value : (s : Bool) (n d : ℕ) → n ≤ 9007199254740991 * d → HasValue (round binary64 s (nearestWhole n d) 1) s (nearestWhole n d) 1
+small-value s n d h = round-whole binary64 s (nearestWhole n d) (div-le-of-le-mul (2 * d) (go n d h))
+  where
+    go : (n d : ℕ) → n ≤ 9007199254740991 * d → 2 * n + d ≤ 2 * d * 9007199254740992
+    go n d h = omega arith
+
+large-value : (s : Bool) (m k : ℕ) → m < 2 ^ 53 → m * 2 ^ k < 2 ^ 1024 * 1 → HasValue (round binary64 s (nearestWhole (m * 2 ^ k) 1) 1) s (nearestWhole (m * 2 ^ k) 1) 1
+large-value s m k M B =
     let N = m * 2 ^ k in
     let e : N * 2 ^ 1074 ≡ m * 2 ^ (k + 1074) = mul-assoc m (2 ^ k) (2 ^ 1074) ∙ ap (λ (z : ℕ). m * z) (sym (pow-add 2 k 1074)) in
-    let b : m * 2 ^ (k + 1074) < 2 ^ (1074 + 1024) =
-    lt-of-le-of-lt (le-of-eq (sym e)) (lt-of-lt-of-le (mul-lt-mul-of-pos-right (top-fits m (pos k) F M) (pow-pos 1074)) (lit≤ tt)) in
-    ap (λ (z : ℕ). round binary64 false z 1) (sym (half-of-whole N) ∙ native.Mathlib.Nat.div-one N)
-    ∙ whole-unique binary64 (round binary64 false N 1) (fin false m (pos k)) false N (round-fits binary64 false N 1) F
-    (round-exact binary64 false N 1 m (k + 1074) (zero-lt-suc 0) (digits m (pos k) F M .0) b (e ∙ sym (mul-one (m * 2 ^ (k + 1074)))))
-    (refl, refl)
+    subst (λ (z : ℕ). HasValue (round binary64 s z 1) s z 1) (nearestWhole-of-whole N)
+    (round-exact binary64 s N 1 m (k + 1074) (zero-lt-suc 0) M
+    (lt-of-le-of-lt (le-of-eq (sym e)) (lt-of-lt-of-le (mul-lt-mul-of-pos-right B (pow-pos 1074)) (lit≤ tt)))
+    (e ∙ sym (mul-one (m * 2 ^ (k + 1074)))))
 
+zero-small : (u d : ℕ) → 0 * u ≤ 9007199254740991 * d
+zero-small u d = le-trans (le-of-eq (zero-mul u)) zero-le
+
+under-pow : (m p : ℕ) → m < 9007199254740992 → 0 < p → m * 1 ≤ 9007199254740991 * p
+under-pow m p h k = omega arith
+
+pub away-value : (s : Bool) (m : ℕ) (e : ℤ) → T (fits binary64 (fin s m e)) → HasValue (roundHalfAway (fin s m e)) s (nearestWhole (m * up e) (down e)) 1
+unfolding roundHalfAway fits
+away-value s zero e F = small-value s (0 * up e) (down e) (zero-small (up e) (down e))
+away-value s (suc m) (pos k) F = large-value s (suc m) k (digits (suc m) (pos k) F (zero-lt-suc m) .0) (top-fits (suc m) (pos k) F (zero-lt-suc m))
+away-value s (suc m) (negsuc k) F = small-value s (suc m * 1) (2 ^ suc k) (under-pow (suc m) (2 ^ suc k) (digits (suc m) (negsuc k) F (zero-lt-suc m) .0) (pow-pos (suc k)))
+
+-- ---- from 2 ^ 52 on nothing changes
 large-fin : (m : ℕ) (e : ℤ) → T (fits binary64 (fin false m e)) → 0 < m → 2 ^ 52 * down e ≤ m * up e → roundHalfAway (fin false m e) ≡ fin false m e
 unfolding roundHalfAway
-large-fin m (pos k) F M h = stays m k F M
+large-fin m (pos k) F M h =
+    let x = fin false m (pos k) in
+    whole-unique binary64 (roundHalfAway x) x false (m * 2 ^ k) (round-fits binary64 false (nearestWhole (m * 2 ^ k) 1) 1) F
+    (subst (λ (n : ℕ). HasValue (roundHalfAway x) false n 1) (sym (nearestWhole-of-whole (m * 2 ^ k))) (away-value false m (pos k) F)) (refl, refl)
 large-fin m (negsuc k) F M h = absurd (two-one (2 ^ k) (2 ^ suc k) (native.Mathlib.Nat.pow-suc 2 k) (large-whole (fin false m (negsuc k)) F (lt→ltb 0 m M) h))
   where
     two-one : (p q : ℕ) → q ≡ p * 2 → q ≡ 1 → ⊥
@@ -74,12 +97,6 @@ large (fin false m e) F a b =
     large-fin m e F (first-pos m (up e) (lt-of-lt-of-le (mul-pos (pow-pos 52) (down-pos e)) h)) h
 
 -- ---- below a half, either way: a zero with x's sign
-pub none : (n d : ℕ) → 2 * n < d → nearestWhole n d ≡ 0
-none n d h = div-eq-of-lt (go n d h)
-  where
-    go : (n d : ℕ) → 2 * n < d → 2 * n + d < 2 * d
-    go n d h = omega arith
-
 pub nle : (a b : ℕ) → T (not (ltb a b || (eqb a b && true))) → b < a
 nle a b h = go (ltb a b) (eqb a b) h (nltb→le a b) (λ (e : a ≡ b). subst (λ (z : ℕ). T (eqb a z)) e (eqb-refl a))
   where
@@ -91,7 +108,7 @@ nle a b h = go (ltb a b) (eqb a b) h (nltb→le a b) (λ (e : a ≡ b). subst (�
 nil : (s : Bool) (n d : ℕ) → 0 < d → 2 * n < d → round binary64 s (n * (0 * 1)) (d * 1) ≡ round binary64 s (nearestWhole n d) 1
 nil s n d D h =
     round-same binary64 s (n * (0 * 1)) (d * 1) (nearestWhole n d) 1 (subst (λ (z : ℕ). 0 < z) (sym (mul-one d)) D) (zero-lt-suc 0)
-    (mul-one (n * 0) ∙ mul-zero n ∙ sym (ap (λ (z : ℕ). z * (d * 1)) (none n d h) ∙ zero-mul (d * 1)))
+    (mul-one (n * 0) ∙ mul-zero n ∙ sym (ap (λ (z : ℕ). z * (d * 1)) (nearestWhole-below-half n d h) ∙ zero-mul (d * 1)))
 
 pub half-lt : (n d : ℕ) → n * 2 < 1 * 1 * d → 2 * n < d
 half-lt n d h = omega arith
@@ -105,32 +122,6 @@ small (fin true m e) a b = nil true (m * up e) (down e) (down-pos e) (half-lt (m
 small (fin false m e) a b = nil false (m * up e) (down e) (down-pos e) (half-lt (m * up e) (down e) (nle (1 * 1 * down e) (m * up e * 2) a))
 
 -- ---- the sign turned
-neg-odd : (d : ℕ) (s : Bool) (q k l : ℕ) → neg (odd d s q k l) ≡ odd d (not s) q k l
-unfolding neg odd
-neg-odd d s zero k l = refl
-neg-odd d s (suc q) k l = refl
-
-neg-cond : (b : Bool) (d : ℕ) (s : Bool) (q k l : ℕ) → neg (cond b (odd d s q k l) (inf s)) ≡ cond b (odd d (not s) q k l) (inf (not s))
-neg-cond true d s q k l = neg-odd d s q k l
-neg-cond false d s q k l = unfold neg in refl
-
-neg-units : (f : Format) (s : Bool) (q k : ℕ) → neg (units f s q k) ≡ units f (not s) q k
-unfolding units
-neg-units f s q k = neg-cond (ltb (q * 2 ^ k) (2 ^ (low f + suc (emax f)))) (suc (prec f)) s q k (low f)
-
-pub neg-round : (f : Format) (s : Bool) (a b : ℕ) → neg (round f s a b) ≡ round f (not s) a b
-neg-round f s a b = ap neg (round-is f s a b) ∙ neg-units f s _ _ ∙ sym (round-is f (not s) a b)
-
-not-not : (s : Bool) → not (not s) ≡ s
-not-not true = refl
-not-not false = refl
-
-pub neg-neg : (x : Float) → neg (neg x) ≡ x
-unfolding neg
-neg-neg nan = refl
-neg-neg (inf s) = ap inf (not-not s)
-neg-neg (fin s m e) = ap (λ (t : Bool). fin t m e) (not-not s)
-
 pub neg-away : (x : Float) → neg (roundHalfAway (neg x)) ≡ roundHalfAway x
 unfolding roundHalfAway neg
 neg-away nan = refl

@@ -1,6 +1,6 @@
 -- Laws of `sumFrom` and `pairwiseSum`.
 use mathlib.Core.Path.{_≡_, refl, sym, ap, _∙_, subst}
-use mathlib.Core.List.{List, [], _∷_}
+use mathlib.Core.List.{List}
 use mathlib.Core.Bool.{Bool, true, false, not, cond}
 use Prim.Native.Nat.{ℕ, zero, suc, _+_, _-_, _/_, _≤_, _<_, min}
 use native.Mathlib.Nat.{le-refl, le-suc}
@@ -22,9 +22,6 @@ unfolding sumFrom
 sum-end t xs i h = ap (sumFrom t) (drop-of-length-le xs h)
 
 -- ---- how many halvings are allowed does not matter, from the length on
-half-take : (n k : ℕ) → 8 < n → n ≤ suc k → n / 2 ≤ k
-half-take n k h l = omega arith
-
 half-drop : (n k : ℕ) → 8 < n → n ≤ suc k → n - n / 2 ≤ k
 half-drop n k h l = omega arith
 
@@ -56,9 +53,6 @@ take-le k xs h l = subst (λ (n : ℕ). n ≤ k) (sym (length-take (half xs) xs)
 
 drop-le : (k : ℕ) (xs : List Float) → 8 < length xs → length xs ≤ suc k → length (drop (half xs) xs) ≤ k
 drop-le k xs h l = subst (λ (n : ℕ). n ≤ k) (sym (length-drop (half xs) xs)) (half-drop (length xs) k h l)
-
-no-more : (n : ℕ) → n ≤ 0 → 8 < n → ⊥
-no-more n h l = omega arith
 
 pub same : (k j : ℕ) (xs : List Float) → length xs ≤ k → length xs ≤ j → sumWithin k xs ≡ sumWithin j xs
 same zero j xs h l = few zero xs (small (length xs) h) ∙ sym (few j xs (small (length xs) h))

@@ -1,9 +1,7 @@
 use borrow.Author.Needs.{needs, scaled-fits}
-use mathlib.Core.Path.{_≡_, refl, sym, ap, _∙_, subst}
-use Prim.Native.Nat.{ℕ, _≤_, _-_, zero-le}
-use native.Mathlib.Omega.{arith}
+use mathlib.Core.Path.{_≡_, refl, sym, _∙_}
+use Prim.Native.Nat.{_≤_, _-_, zero-le}
 use lib.ListN.{length, drop}
-use lib.Ieee.{Float}
 use Rattle.rounding.specs.Sums.{sumFrom, blockSum}
 use Rattle.rounding.proofs.SumLaws.{sum-next, sum-end}
 use Rattle.rounding.proofs.block_sum.Statement.{statement}

@@ -7,7 +7,8 @@ use lib.Dec.{T}
 use lib.Ieee.{Float, binary64, fits, add}
 use lib.Ieee.Positive.{num, den, den-pos, positive-of-value}
 use lib.Ieee.Exact.{HasValue}
-use Rattle.rounding.proofs.Fractions.{Within, within, double, value-lt, whole-of, above-minus-one, half-of}
+use Rattle.rounding.proofs.Fractions.{Within, within, double, value-lt, whole-of, above-minus-one}
+use Rattle.rounding.proofs.NearestWhole.{nearestWhole-by-twice}
 use Rattle.rounding.proofs.nearest_whole.Statement.{statement}
 use Rattle.rounding.proofs.nearest_whole.Tie as tie
 
@@ -51,7 +52,7 @@ returns : tie.Need-returns
 returns c =
     let s = c .before in
     ap (λ (h : ℕ). h / 2 + h % 2) (c .truncating-f64-to-u64 .ensures ∙ whole-of 64 (twice s) (2 * num (x s)) (den (x s)) (exact s) (above-zero s) (den-pos (x s)) (small (num (x s)) (den (x s)) (inside s .2)))
-    ∙ half-of (num (x s)) (den (x s)) (den-pos (x s))
+    ∙ nearestWhole-by-twice (num (x s)) (den (x s)) (den-pos (x s))
 
 pub nearest-whole-spec : {M : Type 1} → statement M
 nearest-whole-spec = tie.close (tie.spec truncating-f64-to-u64-requires add-result returns)

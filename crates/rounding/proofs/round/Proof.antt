@@ -1,11 +1,12 @@
-use mathlib.Core.Path.{_≡_, sym, ap, _∙_, subst}
+use mathlib.Core.Path.{sym, ap, _∙_, subst}
 use Prim.Native.Nat.{ℕ}
 use lib.Dec.{T}
 use lib.IntN.{pos}
 use lib.Ieee.{Float, binary64, fits, neg, ofBits, ofInt, inFloat}
 use lib.Ieee.Fits.{neg-fits}
 use Rattle.rounding.proofs.Fractions.{Within, within, yes, no}
-use Rattle.rounding.proofs.HalfAway.{away-is, fits-whole, large, small, neg-neg, neg-away}
+use Rattle.rounding.proofs.HalfAway.{away-is, fits-whole, large, small, neg-away}
+use Rattle.rounding.proofs.Signs.{neg-neg}
 use Rattle.rounding.proofs.round.Statement.{statement}
 use Rattle.rounding.proofs.round.Tie as tie
 

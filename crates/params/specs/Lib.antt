@@ -1,0 +1,5 @@
+-- The parameter sheet of layout.rs (01, the forms that give way; refusal 6).
+-- which sheets `validate` passes
+pub mod Valid
+-- what is known of a sheet that it passes
+pub mod Facts
