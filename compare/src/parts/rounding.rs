@@ -184,16 +184,23 @@ fn outputs(tally: &mut Tally, random: &mut Random) {
 
 fn bench(bench: &mut Bench) {
     let mut random = Random::new();
-    let mixed: Vec<f64> = (0..20_000).map(|_| (random.fraction() - 0.5) * 20_000.0).collect();
-    let halves: Vec<f64> = (0..20_000).map(|_| random.below(20_000) as f64 - 9_999.5).collect();
-    let small: Vec<f64> = (0..20_000).map(|_| random.fraction() - 0.5).collect();
-    let patterns: Vec<f64> = (0..20_000).map(|_| random.pattern()).collect();
-    for (page, input) in [
-        ("mixed", &mixed),
-        ("halves", &halves),
-        ("small", &small),
-        ("patterns", &patterns),
-    ] {
+    let pages: [(&str, Vec<f64>); 5] = [
+        // as levelling calls it: the drifts of the columns of a page, in their order
+        ("drifts", (0..COUNT).map(|c| f64::from(c) * -0.0123).collect()),
+        // both signs in no order, which the branches on the sign do not foresee
+        (
+            "mixed",
+            (0..COUNT).map(|_| (random.fraction() - 0.5) * 20_000.0).collect(),
+        ),
+        (
+            "halves",
+            (0..COUNT).map(|_| random.below(20_000) as f64 - 9_999.5).collect(),
+        ),
+        // below a half
+        ("small", (0..COUNT).map(|_| random.fraction() - 0.5).collect()),
+        ("patterns", (0..COUNT).map(|_| random.pattern()).collect()),
+    ];
+    for (page, input) in &pages {
         bench.stage("round", page, || calls(input, rust_round), || calls(input, ours::round));
         bench.stage(
             "round_to_i32",
@@ -209,6 +216,9 @@ fn bench(bench: &mut Bench) {
         );
     }
 }
+
+/// How many numbers a page of the benchmark has.
+const COUNT: u32 = 20_000;
 
 // Both sides are timed by the call: ours is a call of the static library, which no compiler sees into, and the Rust is a
 // function that is not inlined either.

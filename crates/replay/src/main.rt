@@ -17,6 +17,7 @@ const MOST_CASES: u64 = 1_000_000;
 // The most words of a case. Their digits and the line feed fit io::large_buffer.
 const MOST_WORDS: u64 = 4095;
 
+// The digits before the words: those of the kind and of the count.
 const HEAD: usize = 6;
 
 const LINE_FEED: u8 = 10;
@@ -80,6 +81,7 @@ fn next_case() -> Outcome {
     )
 }
 
+// Every case of the input, counted.
 fn replay() -> Tally {
     let mut cases: u64 = 0;
     let mut differences: u64 = 0;
