@@ -1,5 +1,5 @@
 //! This project's functions: the C exports of `crates/boundary`, in safe Rust. A slice crosses as a pointer and a length, a
-//! bool as one byte, which Rust's `bool` in an `extern "C"` signature is too.
+//! bool as one byte, which is held to be 0 or 1.
 
 use original::pixel::layout::LayoutParams;
 
@@ -31,7 +31,7 @@ mod c {
             column_gap_xh: f64,
             column_cover_frac: f64,
             shear_min_deg: f64,
-        ) -> bool;
+        ) -> u8;
     }
 }
 
@@ -66,7 +66,7 @@ pub fn pairwise_sum(values: &[f64]) -> f64 {
 }
 
 pub fn validate(p: &LayoutParams) -> bool {
-    unsafe {
+    flag(unsafe {
         c::novlizeb_validate(
             p.glyph_min_area,
             p.glyph_max_extent_frac,
@@ -87,5 +87,11 @@ pub fn validate(p: &LayoutParams) -> bool {
             p.column_cover_frac,
             p.shear_min_deg,
         )
-    }
+    })
+}
+
+/// A bool of C.
+fn flag(byte: u8) -> bool {
+    assert!(byte < 2, "a bool of {byte}");
+    byte == 1
 }

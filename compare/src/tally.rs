@@ -1,14 +1,17 @@
 //! Counts a part's cases, and says where the two sides differ. A case is one answer of one function.
 
+use std::collections::BTreeMap;
 use std::fmt::Debug;
 
-/// How many differences of a part are printed in full.
-const SHOWN: u64 = 5;
+/// How many differences of each function are printed in full.
+const SHOWN: u64 = 3;
 
 pub struct Tally {
     part: &'static str,
     pub cases: u64,
     pub differences: u64,
+    /// The functions that differ, with how often.
+    differing: BTreeMap<String, u64>,
 }
 
 impl Tally {
@@ -17,6 +20,7 @@ impl Tally {
             part,
             cases: 0,
             differences: 0,
+            differing: BTreeMap::new(),
         }
     }
 
@@ -39,7 +43,9 @@ impl Tally {
     #[cold]
     fn differ(&mut self, what: &str, input: &str, rust: &str, ours: &str) {
         self.differences += 1;
-        if self.differences <= SHOWN {
+        let times = self.differing.entry(what.to_owned()).or_insert(0);
+        *times += 1;
+        if *times <= SHOWN {
             println!("{}: {what} of {input}: the Rust {rust}, ours {ours}", self.part);
         }
     }
