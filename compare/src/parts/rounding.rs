@@ -1,4 +1,4 @@
-//! `round`, the casts after it, and `round_output`, on some 17 million patterns of bits.
+//! `round`, the casts after it, and `round_output`, on some 14 million different patterns of bits.
 
 use std::hint::black_box;
 
