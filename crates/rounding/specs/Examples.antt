@@ -3,7 +3,7 @@ use mathlib.Core.Path.{_≡_, refl}
 use mathlib.Core.Bool.{true, false}
 use mathlib.Core.List.{[], _∷_}
 use lib.IntN.{pos, negsuc}
-use lib.Ieee.{nan, inf, fin, round, mul, div, eq, add, neg, ofBits, ofInt, toUnsigned, toSigned}
+use lib.Ieee.{binary64, nan, inf, fin, round, mul, div, eq, add, neg, ofBits, ofInt, toUnsigned, toSigned}
 use Rattle.rounding.specs.Rounding.{roundHalfAway, roundToUnsigned, roundToSigned, roundOutput}
 use Rattle.rounding.specs.Sums.{pairwiseSum}
 use Rattle.rounding.specs.Drift.{drift, driftX}
@@ -47,7 +47,7 @@ unfolding roundHalfAway round toSigned
 signed-ends = (refl, refl, refl)
 
 -- 2^-20 has the six decimals 0.000001, -2^-30 has 0.0
-six-decimals : (roundOutput (fin false 1 (negsuc 19)) ≡ round lib.Ieee.binary64 false 1 1000000) × (roundOutput (fin true 1 (negsuc 29)) ≡ fin false 0 (pos 0))
+six-decimals : (roundOutput (fin false 1 (negsuc 19)) ≡ round binary64 false 1 1000000) × (roundOutput (fin true 1 (negsuc 29)) ≡ fin false 0 (pos 0))
 unfolding roundHalfAway round mul div eq ofBits
 six-decimals = (refl, refl)
 
@@ -56,7 +56,7 @@ sum-of-minus-zero : pairwiseSum (fin true 0 (pos 0) ∷ []) ≡ fin false 0 (pos
 unfolding pairwiseSum add round ofBits
 sum-of-minus-zero = refl
 
--- nine values are four and five: 2^53 takes up three ones that come singly, and then the six of the others
+-- nine values are four and five (01, leaves to try): 2^53 swallows three ones one by one, and then takes the six of the other part
 nine-values : pairwiseSum (fin false 1 (pos 53) ∷ fin false 1 (pos 0) ∷ fin false 1 (pos 0) ∷ fin false 1 (pos 0) ∷ fin false 1 (pos 0) ∷ fin false 1 (pos 0) ∷ fin false 1 (pos 0) ∷ fin false 1 (pos 0) ∷ fin false 1 (pos 1) ∷ []) ≡ fin false 4503599627370499 (pos 1)
 unfolding pairwiseSum add round ofBits
 nine-values = refl

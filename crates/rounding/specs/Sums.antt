@@ -24,7 +24,7 @@ blockSum xs = sumFrom positiveZero xs
 abbrev pub half : List Float → ℕ
 half xs = length xs / 2
 
--- the pairwise sum, with at most k splits one in another
+-- a block is summed, a longer list splits, at most k times one in another
 unfoldable pub sumWithin : ℕ → List Float → Float
 unfolding sumFrom
 sumWithin zero xs = blockSum xs

@@ -3,14 +3,14 @@ use borrow.Author.Needs.{needs, scaled-fits}
 use borrow.Fn.Kinds.{In}
 use borrow.Fn.PlainCycle.{Measures, is, falls, and}
 use denote.Ref.{now}
-use mathlib.Core.Path.{_≡_, sym, ap, _∙_, subst}
+use mathlib.Core.Path.{_≡_, sym, ap, _∙_}
 use mathlib.Core.List.{List}
 use Prim.Native.Nat.{ℕ, _<_, _-_}
 use native.Mathlib.Omega.{arith}
 use lib.ListN.{length, take, drop, length-take, length-drop}
 use lib.Seq.{take-length}
 use lib.Ieee.{Float, add, binary64}
-use Rattle.rounding.specs.Sums.{block, half, pairwiseSum}
+use Rattle.rounding.specs.Sums.{half, pairwiseSum}
 use Rattle.rounding.proofs.SumLaws.{pairwiseSum-short, pairwiseSum-split}
 use Rattle.rounding.proofs.block_sum.Reads as block-sum
 use Rattle.rounding.proofs.pairwise_sum.Reads as pairwise-sum
@@ -32,39 +32,22 @@ below t = and 1 kinds.ps (falls 1 kinds.ps _<_ μ t) pairwise-sum.Pre
 abbrev claims : ℕ → lts.Claims
 claims t = (block-sum.Asked, block-sum.Learnt, below t, pairwise-sum.Post)
 
--- the two parts of a list, and that each is shorter
-left-length : (xs : List Float) → length (take (half xs) xs) ≡ half xs
-left-length xs = let e = length-take (half xs) xs in omega arith
-
+-- the right part reaches to the end
 right-whole : (xs : List Float) → take (length xs - half xs) (drop (half xs) xs) ≡ drop (half xs) xs
 right-whole xs = ap (λ (n : ℕ). take n (drop (half xs) xs)) (sym (length-drop (half xs) xs)) ∙ take-length (drop (half xs) xs)
-
-left-shorter : (xs : List Float) → block < length xs → length (take (half xs) xs) < length xs
-left-shorter xs h = let e = left-length xs in omega arith
-
-right-shorter : (xs : List Float) → block < length xs → length (take (length xs - half xs) (drop (half xs) xs)) < length xs
-right-shorter xs h =
-    let e : length (take (length xs - half xs) (drop (half xs) xs)) ≡ length xs - half xs = ap length (right-whole xs) ∙ length-drop (half xs) xs in
-    omega arith
 
 module _ (t : ℕ) where
   block-sum-requires : lts.Need-block-sum-requires (claims t) (at t) pairwise-sum.Post
   block-sum-requires c κs = tt
 
   left-counted : lts.Need-slice-aggregate-pairwise-sum (claims t) (at t) pairwise-sum.Post
-  left-counted c = sym (left-length (c .before .before .before .args .values .now))
+  left-counted c = simp length-take (omega arith)
 
   left-requires : lts.Need-pairwise-sum-requires (claims t) (at t) pairwise-sum.Post
-  left-requires c κs =
-      let s = c .before .before .before in
-      let xs = s .args .values .now in
-      (subst (λ (n : ℕ). length (take (half xs) xs) < n) (s .pre .0) (left-shorter xs (c .before .if1 .left)), tt)
+  left-requires c κs = (simp length-take (omega arith), tt)
 
   right-start-fits : lts.Need-mul-pairwise-sum (claims t) (at t) pairwise-sum.Post
-  right-start-fits c =
-      let s = c .before .before .before .before in
-      let xs = s .args .values .now in
-      scaled-fits (half xs) (length xs) 8 (subst (λ (n : ℕ). n < length xs) (left-length xs) (left-shorter xs (c .before .before .if1 .left))) (s .good .0 .1)
+  right-start-fits c = scaled-fits _ (length (c .before .before .before .before .args .values .now)) 8 (omega arith) (c .before .before .before .before .good .0 .1)
 
   right-length : lts.Need-sub-pairwise-sum (claims t) (at t) pairwise-sum.Post
   right-length c = search needs
@@ -76,10 +59,7 @@ module _ (t : ℕ) where
   right-end c = search needs
 
   right-requires : lts.Need-pairwise-sum-requires-2 (claims t) (at t) pairwise-sum.Post
-  right-requires c κs =
-      let s = c .before .before .before .before .before in
-      let xs = s .args .values .now in
-      (subst (λ (n : ℕ). length (take (length xs - half xs) (drop (half xs) xs)) < n) (s .pre .0) (right-shorter xs (c .before .before .before .if1 .left)), tt)
+  right-requires c κs = (simp (length-take, length-drop) (omega arith), tt)
 
   returns : lts.Need-returns (claims t) (at t) pairwise-sum.Post
   returns c = c .block-sum .ensures ∙ sym (pairwiseSum-short (c .before .before .before .args .values .now) (c .before .if1 .taken))
