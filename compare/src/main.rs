@@ -1,10 +1,12 @@
 //! Compares this project's functions with the original Rust's, times both, and writes the list that the gate replays.
 //!
-//! `compare run [PART..]` compares, `compare bench [PART..]` times, `compare list` writes the list to standard output.
+//! `compare run [PART..]` compares, `compare bench [PART..]` times, `compare list` writes the list to standard output,
+//! `compare definitions N` the Rust's answers for N pages as equations over this project's definitions.
 //! No PART means all. The parts are in `parts/`; `parts/mod.rs` says how to add one. The bash scripts `run`, `bench` and
 //! `list` build all that is needed and call this.
 
 mod bench;
+mod definitions;
 mod list;
 mod ours;
 mod parts;
@@ -20,6 +22,15 @@ fn main() -> ExitCode {
     let Some((command, names)) = words.split_first() else {
         return usage();
     };
+    if let ("definitions", [pages]) = (command.as_str(), names) {
+        return pages.parse().map_or_else(
+            |_| usage(),
+            |pages| {
+                print!("{}", definitions::module(pages));
+                ExitCode::SUCCESS
+            },
+        );
+    }
     let Some(chosen) = chosen(names) else {
         return usage();
     };
@@ -79,7 +90,7 @@ fn run(chosen: &[&Part], all: bool) -> ExitCode {
 fn usage() -> ExitCode {
     let names: Vec<&str> = PARTS.iter().map(|part| part.name).collect();
     eprintln!(
-        "usage: compare run|bench [PART..] or compare list; parts: {}",
+        "usage: compare run|bench [PART..], compare list or compare definitions N; parts: {}",
         names.join(" ")
     );
     ExitCode::from(2)
