@@ -1,0 +1,22 @@
+-- `firsts` names each class by its first, and nothing else does
+pub mod FirstLaws
+-- union-find over any relation, number by number
+pub mod LinkLaws
+-- the parents meanwhile
+pub mod ParentLaws
+-- path halving keeps the roots
+pub mod HalvingLaws
+-- dots that touch, and runs that do
+pub mod TouchLaws
+-- from a naming of the runs to the labels of the dots
+pub mod TransferLaws
+-- the turns of a mask are its runs
+pub mod TurnLaws
+-- the labelling by runs: labels
+pub mod RunLabelLaws
+-- the labelling by runs: records
+pub mod RunComponentLaws
+-- a run absorbed at once
+pub mod AbsorbLaws
+-- a loop that writes the turns, and the room that they take
+pub mod ScanLaws

@@ -8,3 +8,9 @@ pub mod Classes
 pub mod Chains
 -- the components of a mask and their labels
 pub mod Labels
+-- union-find: parents, and what they owe to a relation
+pub mod Forests
+-- runs of ink, and labels and components by runs
+pub mod InkRuns
+-- runs of small masks, by computation
+pub mod RunExamples
