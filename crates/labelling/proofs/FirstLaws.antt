@@ -10,12 +10,9 @@ use borrow.Author.Tests.{eq-eqb, ne-eqb}
 use lib.ListN.{getD, length, length-map, List·getD-eq-default}
 use Rattle.memory.specs.Lists.{table, upto}
 use Rattle.labelling.specs.Classes.{firstOf, renamed, join, joinIf, joinOne, joinAll, firsts}
+use Rattle.labelling.specs.Forests.{joinF}
 use Rattle.labelling.specs.Chains.{Chain, here, rise, fall, Firsts}
 use Rattle.memory.proofs.TableLaws.{length-table, getD-table}
-
--- the classes of a and b of a naming f joined, under the smaller name
-abbrev pub joinF : (ℕ → ℕ) → ℕ → ℕ → ℕ → ℕ
-joinF f a b j = renamed (max (f a) (f b)) (min (f a) (f b)) (f j)
 
 -- Chains
 

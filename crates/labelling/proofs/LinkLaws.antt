@@ -7,8 +7,8 @@ use native.Mathlib.Decide.{ℕ-discrete, decLt, decLe}
 use native.Mathlib.Omega.{arith}
 use Rattle.labelling.specs.Classes.{renamed}
 use Rattle.labelling.specs.Chains.{Chain, here, rise, fall}
-use Rattle.labelling.specs.Forests.{Named, Seen}
-use Rattle.labelling.proofs.FirstLaws.{joinF, chain-trans, chain-sym, renamed-case, joinF-a, joinF-b, min-case, max-case}
+use Rattle.labelling.specs.Forests.{joinF, Named, Seen}
+use Rattle.labelling.proofs.FirstLaws.{chain-trans, chain-sym, renamed-case, joinF-a, joinF-b, min-case, max-case}
 
 module _ (r : ℕ → ℕ → Bool) (n : ℕ) where
   pub seen-none : Seen r n (λ k. k) 0 0

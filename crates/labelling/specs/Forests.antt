@@ -2,9 +2,10 @@
 use mathlib.Core.Path.{_≡_}
 use mathlib.Core.Bool.{Bool, true}
 use mathlib.Core.List.{List}
-use Prim.Native.Nat.{ℕ, _≤_, _<_}
+use Prim.Native.Nat.{ℕ, _≤_, _<_, min, max}
 use lib.ListN.{getD, length}
 use Rattle.labelling.specs.Chains.{Chain}
+use Rattle.labelling.specs.Classes.{renamed}
 
 -- f names the class of each number below n by its first
 pub record Named (r : ℕ → ℕ → Bool) (n : ℕ) (f : ℕ → ℕ) : Type 0 where
@@ -35,3 +36,13 @@ pub record Found (p p' : List ℕ) (x r : ℕ) : Type 0 where
   pub down : (j : ℕ) → getD p' j 0 ≤ getD p j 0
   pub keep : (f : ℕ → ℕ) (n : ℕ) → x < n → n ≤ length p → Forest f p n → Forest f p' n
   pub root : (f : ℕ → ℕ) (n : ℕ) → x < n → n ≤ length p → Forest f p n → r ≡ f x
+
+-- the classes of a and b of a naming f joined, under the smaller name
+abbrev pub joinF : (ℕ → ℕ) → ℕ → ℕ → ℕ → ℕ
+joinF f a b j = renamed (max (f a) (f b)) (min (f a) (f b)) (f j)
+
+-- the class of k and the class whose root was given have become one, with the root r
+pub record United (p p' : List ℕ) (root k r : ℕ) : Type 0 where
+  pub len : length p' ≡ length p
+  pub joined : (f : ℕ → ℕ) (n j : ℕ) → k < n → root < n → n ≤ length p → ((i : ℕ) → f i ≤ i) → ((i : ℕ) → f (f i) ≡ f i) → f j ≡ root → Forest f p n
+      → Forest (joinF f k j) p' n × (r ≡ joinF f k j j)
