@@ -1,3 +1,5 @@
+-- a range of numbers, with one more
+pub mod RangeLaws
 -- `firsts` names each class by its first, and nothing else does
 pub mod FirstLaws
 -- union-find over any relation, number by number

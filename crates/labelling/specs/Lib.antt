@@ -14,3 +14,5 @@ pub mod Forests
 pub mod InkRuns
 -- runs of small masks, by computation
 pub mod RunExamples
+-- what linking keeps and gives
+pub mod Linking
