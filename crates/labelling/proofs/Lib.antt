@@ -1,3 +1,5 @@
+-- a part of a slice that is lent and put back
+pub mod PartLaws
 -- a range of numbers, with one more
 pub mod RangeLaws
 -- `firsts` names each class by its first, and nothing else does
@@ -6,6 +8,8 @@ pub mod FirstLaws
 pub mod LinkLaws
 -- the parents meanwhile
 pub mod ParentLaws
+-- runs linked row by row
+pub mod RunLinkLaws
 -- path halving keeps the roots
 pub mod HalvingLaws
 -- dots that touch, and runs that do

@@ -57,6 +57,19 @@ pub record Under (w c : ℕ) (t : List ℕ) (i to j : ℕ) : Type 0 where
   pub above : (a : ℕ) → i ≤ a → a < to → startOf t a / w + 1 ≡ startOf t j / w
   pub beside : (a : ℕ) → to ≤ a → a < j → touching w t a j ≡ false
 
+-- what linking run j asks
+pub record Linkable (w c : ℕ) (s : List ℕ) (i to j : ℕ) : Type 0 where
+  pub list : RunList w c s
+  pub under : Under w c (take (2 * c) s) i to j
+  pub linked : Linked w c (take (2 * c) s) (drop (2 * c) s) j
+
+-- what joining run j, its own parent so far, asks: the runs before `first` are passed, and it ends far enough right
+pub record Joinable (w c : ℕ) (s : List ℕ) (first to j : ℕ) : Type 0 where
+  pub list : RunList w c s
+  pub under : Under w c (take (2 * c) s) first to j
+  pub reach : first < to → startOf (take (2 * c) s) j ≤ endOf (take (2 * c) s) 0 first + w
+  pub joining : Joining w c (take (2 * c) s) (drop (2 * c) s) j first j
+
 -- r is the first run, from i up to `to`, that does not end left of the dot `start` in the row below
 pub record Skipped (w i to start : ℕ) (t : List ℕ) (r : ℕ) : Type 0 where
   pub from : i ≤ r
@@ -81,7 +94,13 @@ pub record Rows (w c : ℕ) (t : List ℕ) (above here next : ℕ) : Type 0 wher
   pub rows : (a j : ℕ) → above ≤ a → a < here → here ≤ j → j < next → startOf t a / w + 1 ≡ startOf t j / w
   pub beside : (a j : ℕ) → here ≤ a → a < j → j < next → touching w t a j ≡ false
 
--- the row is linked too
+-- what linking a row asks
+pub record RowLinkable (w c : ℕ) (s : List ℕ) (above here next : ℕ) : Type 0 where
+  pub list : RunList w c s
+  pub rows : Rows w c (take (2 * c) s) above here next
+  pub linked : Linked w c (take (2 * c) s) (drop (2 * c) s) here
+
+-- the runs below j are linked
 pub record LinkedTo (w c : ℕ) (s s' : List ℕ) (j : ℕ) : Type 0 where
   pub kept : Kept c s s'
   pub linked : Linked w c (take (2 * c) s) (drop (2 * c) s') j

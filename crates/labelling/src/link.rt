@@ -2,10 +2,10 @@
 // (the end excluded), then the parent of each. Nothing here sees a mask: any run list is linked so.
 ghost use mathlib.Core.Path.{_≡_};
 ghost use Prim.Native.Nat.{ℕ, suc, _+_, _*_, _≤_, _<_};
-ghost use lib.ListN.{length, getD, take, drop};
+ghost use lib.ListN.{length, getD};
 ghost use Rattle.labelling.specs.Forests.{Found, United};
-ghost use Rattle.labelling.specs.InkRuns.{startOf, endOf};
-ghost use Rattle.labelling.specs.Linking.{RunList, Joining, Linked, Under, Skipped, LinkedOne, Rows, LinkedTo, RowEnd, AllLinked};
+ghost use Rattle.labelling.specs.InkRuns.{startOf};
+ghost use Rattle.labelling.specs.Linking.{RunList, Linkable, Joinable, RowLinkable, Skipped, LinkedOne, LinkedTo, RowEnd, AllLinked};
 use crate::words::wide;
 
 // The root of run x; each second parent on the way is passed over from now on.
@@ -55,7 +55,7 @@ fn skip_left(runs: &[u32], w: usize, i: usize, to: usize, start: usize) -> usize
 
 // Joins run j, its own parent so far, with those of the runs from `first` up to `to`, in the row above, that it touches.
 fn join_touching(words: &mut [u32], c: usize, w: usize, first: usize, to: usize, j: usize)
-    requires { ⌜ RunList w c (now words) × Under w c (take (2 * c) (now words)) first to j × (first < to → startOf (now words) j ≤ endOf (now words) 0 first + w) × Joining w c (take (2 * c) (now words)) (drop (2 * c) (now words)) j first j ⌝ }
+    requires { ⌜ Joinable w c (now words) first to j ⌝ }
     ensures { λ _. ⌜ LinkedTo w c (now (words .entry)) (now (words .exit)) (suc j) ⌝ }
 {
     let parents = 2 * c;
@@ -73,7 +73,7 @@ fn join_touching(words: &mut [u32], c: usize, w: usize, first: usize, to: usize,
 
 // Gives run j its parent, from the runs of the row above, i up to `to`; answers where the next run of the row may look from.
 fn link_one(words: &mut [u32], c: usize, w: usize, i: usize, to: usize, j: usize) -> usize
-    requires { ⌜ RunList w c (now words) × Under w c (take (2 * c) (now words)) i to j × Linked w c (take (2 * c) (now words)) (drop (2 * c) (now words)) j ⌝ }
+    requires { ⌜ Linkable w c (now words) i to j ⌝ }
     ensures { λ r. ⌜ LinkedOne w c (now (words .entry)) (now (words .exit)) i to j r ⌝ }
 {
     words[2 * c + j] = j as u32;
@@ -85,7 +85,7 @@ fn link_one(words: &mut [u32], c: usize, w: usize, i: usize, to: usize, j: usize
 
 // Gives the runs of a row, `here` up to `next`, their parents; the runs of the row above are `above` up to `here`.
 fn link_row(words: &mut [u32], c: usize, w: usize, above: usize, here: usize, next: usize)
-    requires { ⌜ RunList w c (now words) × Rows w c (take (2 * c) (now words)) above here next × Linked w c (take (2 * c) (now words)) (drop (2 * c) (now words)) here ⌝ }
+    requires { ⌜ RowLinkable w c (now words) above here next ⌝ }
     ensures { λ _. ⌜ LinkedTo w c (now (words .entry)) (now (words .exit)) next ⌝ }
 {
     let mut i = above;
