@@ -13,7 +13,7 @@ use lib.Seq.{getD-take, take-at, drop-at, length-take-le, take-set-le, drop-set-
 use lib.Dec.{eqb, leb}
 use Rattle.labelling.specs.InkRuns.{startOf, endOf, touchRuns}
 use Rattle.labelling.specs.Forests.{Seen, Forest, United, joinF}
-use Rattle.labelling.specs.Linking.{touching, Order, RunList, Kept, Linked, Joining, Under, Linkable, Joinable, Skipped, LinkedOne, LinkedTo}
+use Rattle.labelling.specs.Linking.{touching, Order, RunList, Kept, Linked, Joining, Under, Linkable, Joinable, Skipped, LinkedOne, RowLinkable, LinkedTo}
 use Rattle.labelling.proofs.LinkLaws.{seen-skip, seen-join, seen-next}
 use Rattle.labelling.proofs.ParentLaws.{forest-new}
 
@@ -237,3 +237,66 @@ module _ {w c i to j : ℕ} {s : List ℕ} (A : Linkable w c s i to j) where
           left = passed;
           linked = subst (λ t. Linked w c t (drop (2 * c) s') (suc j)) (own-kept .runs) (l .linked);
         }
+
+-- One row: the runs below j are linked, and those before i touch none from j on
+
+pub record RowSweep (w c : ℕ) (s₀ s : List ℕ) (above here next i j : ℕ) : Type 0 where
+  pub asks : RowLinkable w c s₀ above here next
+  pub kept : Kept c s₀ s
+  pub from : here ≤ j
+  pub upto : j ≤ next
+  pub low : above ≤ i
+  pub high : i ≤ here
+  pub left : (a k : ℕ) → a < i → j ≤ k → k < c → touching w (take (2 * c) s₀) a k ≡ false
+  pub linked : Linked w c (take (2 * c) s₀) (drop (2 * c) s) j
+
+pub row-none : {w c : ℕ} {s : List ℕ} {above here next : ℕ} → RowLinkable w c s above here next → RowSweep w c s s above here next above here
+row-none {w} {c} {s} {above} {here} {next} A =
+    record {
+      asks = A;
+      kept = kept-none c s;
+      from = le-refl here;
+      upto = A .rows .mid;
+      low = le-refl above;
+      high = A .rows .low;
+      left = A .rows .far;
+      linked = A .linked;
+    }
+
+module _ {w c : ℕ} {s₀ s : List ℕ} {above here next i j : ℕ} (S : RowSweep w c s₀ s above here next i j) where
+  pub row-linkable : j < next → Linkable w c s i here j
+  row-linkable l =
+      let R = S .asks .rows in
+      record {
+        list = kept-list (S .kept) (S .asks .list);
+        under =
+            rw (S .kept .runs)
+            (record {
+              low = S .high;
+              mid = S .from;
+              high = let h = R .high in omega arith;
+              left = S .left;
+              above = λ a l₁ l₂. let h = S .low in R .rows a j (omega arith) l₂ (S .from) l;
+              beside = λ a l₁ l₂. R .beside a j l₁ l₂ l;
+            });
+        linked = rw (S .kept .runs) (S .linked);
+      }
+
+  pub row-more : j < next → (s' : List ℕ) (r : ℕ) → LinkedOne w c s s' i here j r → RowSweep w c s₀ s' above here next r (j + 1)
+  row-more l s' r L =
+      let h₁ = S .from in
+      let h₂ = S .low in
+      let h₃ = L .from in
+      record {
+        asks = S .asks;
+        kept = kept-trans (S .kept) (L .kept);
+        from = omega arith;
+        upto = omega arith;
+        low = omega arith;
+        high = L .upto;
+        left = λ a k l₁ l₂ l₃. subst (λ t. touching w t a k ≡ false) (S .kept .runs) (L .left a k l₁ (omega arith) l₃);
+        linked = rw (add-one j) (subst (λ t. Linked w c t (drop (2 * c) s') (suc j)) (S .kept .runs) (L .linked));
+      }
+
+  pub row-done : next ≤ j → LinkedTo w c s₀ s next
+  row-done l = record { kept = S .kept; linked = subst (Linked w c (take (2 * c) s₀) (drop (2 * c) s)) (let h = S .upto in let e : j ≡ next = omega arith in e) (S .linked) }
