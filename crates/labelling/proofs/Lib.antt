@@ -8,8 +8,6 @@ pub mod FirstLaws
 pub mod LinkLaws
 -- the parents meanwhile
 pub mod ParentLaws
--- runs linked row by row
-pub mod RunLinkLaws
 -- path halving keeps the roots
 pub mod HalvingLaws
 -- dots that touch, and runs that do
@@ -26,3 +24,5 @@ pub mod RunComponentLaws
 pub mod AbsorbLaws
 -- a loop that writes the turns, and the room that they take
 pub mod ScanLaws
+-- runs linked row by row
+pub mod RunLinkLaws

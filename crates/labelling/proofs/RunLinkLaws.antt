@@ -1,9 +1,9 @@
 -- Runs linked row by row: which runs need no look, and what each step of the sweep keeps.
 use mathlib.Core.Path.{_≡_, refl, sym, ap, _∙_, subst}
-use mathlib.Core.List.{List, _++_}
+use mathlib.Core.List.{List, [], _++_}
 use mathlib.Core.Bool.{Bool, true, false, _&&_}
-use Prim.Native.Nat.{ℕ, suc, _+_, _*_, _/_, _≤_, _<_}
-use native.Mathlib.Nat.{le-refl}
+use Prim.Native.Nat.{ℕ, zero, suc, _+_, _-_, _*_, _/_, _≤_, _<_}
+use native.Mathlib.Nat.{le-refl, not-suc-le-zero, suc-mul, mul-le-mul-right, div-add-mod', mul-add-div-right, div-eq-of-lt}
 use native.Mathlib.Numerals.{add-one}
 use native.Mathlib.Decide.{ℕ-discrete, decLt}
 use native.Mathlib.Omega.{arith}
@@ -11,10 +11,13 @@ use borrow.Author.Tests.{le-leb, lt-leb, eq-eqb, ne-eqb}
 use lib.ListN.{getD, length, set, take, drop, length-append, length-take, length-drop, length-set}
 use lib.Seq.{getD-take, take-at, drop-at, length-take-le, take-set-le, drop-set-add}
 use lib.Dec.{eqb, leb}
+use Rattle.memory.specs.Limits.{maxMaskSide}
 use Rattle.labelling.specs.InkRuns.{startOf, endOf, touchRuns}
 use Rattle.labelling.specs.Forests.{Seen, Forest, United, joinF}
-use Rattle.labelling.specs.Linking.{touching, Order, RunList, Kept, Linked, Joining, Under, Linkable, Joinable, Skipped, LinkedOne, RowLinkable, LinkedTo}
-use Rattle.labelling.proofs.LinkLaws.{seen-skip, seen-join, seen-next}
+use Rattle.labelling.specs.Linking.{touching, Order, RunList, Kept, Linked, Joining, Under, Linkable, Joinable, Skipped, LinkedOne, RowLinkable, LinkedTo, RowEnd, AllLinked, firstRun}
+use Rattle.labelling.proofs.LinkLaws.{seen-none, seen-skip, seen-join, seen-next, seen-all}
+use Rattle.labelling.proofs.TouchLaws.{row-rise}
+use Rattle.labelling.proofs.TransferLaws.{named-firsts}
 use Rattle.labelling.proofs.ParentLaws.{forest-new}
 
 and-off : (x : Bool) → (x && false) ≡ false
@@ -300,3 +303,154 @@ module _ {w c : ℕ} {s₀ s : List ℕ} {above here next i j : ℕ} (S : RowSwe
 
   pub row-done : next ≤ j → LinkedTo w c s₀ s next
   row-done l = record { kept = S .kept; linked = subst (Linked w c (take (2 * c) s₀) (drop (2 * c) s)) (let h = S .upto in let e : j ≡ next = omega arith in e) (S .linked) }
+
+-- All rows: those before row y are linked, which starts at dot `base`
+
+pub row-at : (w base y s : ℕ) → 0 < w → base ≡ y * w → base ≤ s → s < base + w → s / w ≡ y
+row-at w base y s hw e l₁ l₂ =
+    let q : s ≡ y * w + (s - base) = omega arith in
+    let z : (s - base) / w ≡ 0 = div-eq-of-lt (let h : s - base < w = omega arith in h) in
+    ap (λ n. n / w) q ∙ (mul-add-div-right hw y (s - base) ∙ (let x : y + (s - base) / w ≡ y = omega arith in x))
+
+row-above : (w base y s : ℕ) → 0 < w → base ≡ y * w → base ≤ s + w → s < base → s / w + 1 ≡ y
+row-above w base zero s hw e l₁ l₂ = absurd (let z : zero * w ≡ 0 = omega arith in omega arith)
+row-above w base (suc y) s hw e l₁ l₂ =
+    let m : suc y * w ≡ y * w + w = suc-mul y w in
+    let q : s / w ≡ y = row-at w (y * w) y s hw refl (omega arith) (omega arith) in
+    omega arith
+
+row-far : (w base y a j : ℕ) → 0 < w → base ≡ y * w → a + w < base → base ≤ j → a / w + 1 ≡ j / w → ⊥
+row-far w base y a j hw e l₁ l₂ q =
+    let r : y * w / w ≤ j / w = row-rise w [] hw (y * w) j (omega arith) in
+    let r₂ : y * w / w ≡ y = row-at w (y * w) y (y * w) hw refl (le-refl _) (omega arith) in
+    let h : y * w ≤ j / w * w = mul-le-mul-right w (let x : y ≤ j / w = omega arith in x) in
+    let z : suc (a / w) ≡ j / w = omega arith in
+    let m : suc (a / w) * w ≡ a / w * w + w = suc-mul (a / w) w in
+    let n : suc (a / w) * w ≡ j / w * w = ap (λ k. k * w) z in
+    let d = div-add-mod' a w in
+    omega arith
+
+pub record PlaneSweep (w c h : ℕ) (s₀ s : List ℕ) (above here base y : ℕ) : Type 0 where
+  pub list : RunList w c s₀
+  pub tall : h ≤ maxMaskSide
+  pub inside : (k : ℕ) → k < c → startOf (take (2 * c) s₀) k < h * w
+  pub kept : Kept c s₀ s
+  pub base-is : base ≡ y * w
+  pub upto : y ≤ h
+  pub low : above ≤ here
+  pub high : here ≤ c
+  pub far : (a : ℕ) → a < above → startOf (take (2 * c) s₀) a + w < base
+  pub row-low : (a : ℕ) → above ≤ a → a < here → base ≤ startOf (take (2 * c) s₀) a + w
+  pub row-high : (a : ℕ) → a < here → startOf (take (2 * c) s₀) a < base
+  pub rest : (a : ℕ) → here ≤ a → a < c → base ≤ startOf (take (2 * c) s₀) a
+  pub linked : Linked w c (take (2 * c) s₀) (drop (2 * c) s) here
+
+pub plane-none : (w c h : ℕ) (s : List ℕ) → RunList w c s → h ≤ maxMaskSide → ((k : ℕ) → k < c → startOf s k < h * w) → PlaneSweep w c h s s 0 0 0 0
+plane-none w c h s R th ins =
+    record {
+      list = R;
+      tall = th;
+      inside = λ k l. let e = getD-take (2 * c) s (2 * k) 0 (omega arith) in let g = ins k l in omega arith;
+      kept = kept-none c s;
+      base-is = let z : 0 ≡ 0 * w = omega arith in z;
+      upto = omega arith;
+      low = le-refl 0;
+      high = omega arith;
+      far = λ a l. absurd (not-suc-le-zero l);
+      row-low = λ a l l₂. absurd (not-suc-le-zero l₂);
+      row-high = λ a l. absurd (not-suc-le-zero l);
+      rest = λ a l l₂. omega arith;
+      linked = record { rep = λ k. k; seen = seen-none (touching w (take (2 * c) s)) c; forest = record { down = λ j l. absurd (not-suc-le-zero l); same = λ j l. absurd (not-suc-le-zero l); root = λ j l. absurd (not-suc-le-zero l) } };
+    }
+
+module _ {w c h : ℕ} {s₀ s : List ℕ} {above here base y : ℕ} (S : PlaneSweep w c h s₀ s above here base y) where
+  hw : 0 < w
+  hw = S .list .wide
+
+  pub plane-small : base ≤ maxMaskSide * maxMaskSide
+  plane-small =
+      let e = S .base-is in
+      let u = S .upto in
+      let t = S .tall in
+      let n = S .list .narrow in
+      let h : y * w ≤ maxMaskSide * w = mul-le-mul-right w (let x : y ≤ maxMaskSide = omega arith in x) in
+      omega arith
+
+  module _ (next : ℕ) (E : RowEnd c here (base + w) s next) where
+    start-is-now : (a : ℕ) → a < c → startOf s a ≡ startOf (take (2 * c) s₀) a
+    start-is-now a l = kept-word (S .kept) (2 * a) (omega arith)
+
+    row-of-next : (a : ℕ) → here ≤ a → a < next → startOf (take (2 * c) s₀) a / w ≡ y
+    row-of-next a l₁ l₂ =
+        let u = E .upto in
+        let e = start-is-now a (omega arith) in
+        let i = E .inside a l₁ l₂ in
+        row-at w base y (startOf (take (2 * c) s₀) a) hw (S .base-is) (S .rest a l₁ (omega arith)) (omega arith)
+
+    pub plane-linkable : RowLinkable w c s above here next
+    plane-linkable =
+        record {
+          list = kept-list (S .kept) (S .list);
+          rows =
+              rw (S .kept .runs)
+              (record {
+                low = S .low;
+                mid = E .from;
+                high = E .upto;
+                far = λ a j l₁ l₂ l₃. other-row w (take (2 * c) s₀) a j (row-far w base y _ _ hw (S .base-is) (S .far a l₁) (S .rest j l₂ l₃));
+                rows = λ a j l₁ l₂ l₃ l₄. row-above w base y _ hw (S .base-is) (S .row-low a l₁ l₂) (S .row-high a l₂) ∙ sym (row-of-next j l₃ l₄);
+                beside = λ a j l₁ l₂ l₃.
+                    let p = row-of-next a l₁ (omega arith) in
+                    let q = row-of-next j (omega arith) l₃ in
+                    other-row w (take (2 * c) s₀) a j (λ e. omega arith);
+              });
+          linked = rw (S .kept .runs) (S .linked);
+        }
+
+    pub plane-more : y < h → (s' : List ℕ) → LinkedTo w c s s' next → PlaneSweep w c h s₀ s' here next (base + w) (y + 1)
+    plane-more l s' L =
+        let u = E .upto in
+        let f = E .from in
+        record {
+          list = S .list;
+          tall = S .tall;
+          inside = S .inside;
+          kept = kept-trans (S .kept) (L .kept);
+          base-is = let e = S .base-is in let m : suc y * w ≡ y * w + w = suc-mul y w in (let q : base + w ≡ suc y * w = omega arith in q) ∙ ap (λ z. z * w) (sym (add-one y));
+          upto = omega arith;
+          low = f;
+          high = u;
+          far = λ a l₁. let q = S .row-high a l₁ in omega arith;
+          row-low = λ a l₁ l₂. let q = S .rest a l₁ (omega arith) in omega arith;
+          row-high = λ a l₁. high-row a l₁ (decLt a here);
+          rest = λ a l₁ l₂. let e = start-is-now next (omega arith) in let g = E .past (omega arith) in let q = starts-up w c (take (2 * c) s₀) (S .list .order) next a l₁ l₂ in omega arith;
+          linked = subst (λ t. Linked w c t (drop (2 * c) s') next) (S .kept .runs) (L .linked);
+        }
+      where
+        high-row : (a : ℕ) → a < next → Dec (a < here) → startOf (take (2 * c) s₀) a < base + w
+        high-row a l₁ (yes q) = let z = S .row-high a q in omega arith
+        high-row a l₁ (no q) = let u = E .upto in let e = start-is-now a (omega arith) in let i = E .inside a (omega arith) l₁ in omega arith
+
+  pub plane-done : h ≤ y → AllLinked w c s₀ s
+  plane-done l = record { kept = S .kept; forest = forest-firsts (all (decLt here c)) }
+    where
+      all : Dec (here < c) → Linked w c (take (2 * c) s₀) (drop (2 * c) s) c
+      all (yes q) =
+          let a = S .rest here (le-refl here) q in
+          let b = S .inside here q in
+          let e = S .base-is in
+          let u = S .upto in
+          let z : h * w ≡ y * w = ap (λ k. k * w) (let x : h ≡ y = omega arith in x) in
+          absurd (omega arith)
+      all (no q) = subst (Linked w c (take (2 * c) s₀) (drop (2 * c) s)) (let u = S .high in let x : here ≡ c = omega arith in x) (S .linked)
+
+      forest-firsts : Linked w c (take (2 * c) s₀) (drop (2 * c) s) c → Forest (firstRun w c (take (2 * c) s₀)) (drop (2 * c) s) c
+      forest-firsts L =
+          let r = touching w (take (2 * c) s₀) in
+          let e = named-firsts r c (L .rep) (seen-all r c (L .rep) (L .seen)) in
+          let F = L .forest in
+          record {
+            down = F .down;
+            same = λ j lj. let d = F .down j lj in sym (e (getD (drop (2 * c) s) j 0) (omega arith)) ∙ (F .same j lj ∙ e j lj);
+            root = λ j lj q. sym (e j lj) ∙ F .root j lj q;
+          }
