@@ -26,3 +26,5 @@ pub mod AbsorbLaws
 pub mod ScanLaws
 -- runs linked row by row
 pub mod RunLinkLaws
+-- numbers in the place of parents
+pub mod NumberLaws

@@ -16,3 +16,5 @@ pub mod InkRuns
 pub mod RunExamples
 -- what linking keeps and gives
 pub mod Linking
+-- what numbering gives
+pub mod Numbering

@@ -2,6 +2,7 @@
 // that every crate above reads and makes, by value.
 mod component;
 mod link;
+mod number;
 mod rect;
 mod words;
 
