@@ -28,3 +28,5 @@ pub mod ScanLaws
 pub mod RunLinkLaws
 -- numbers in the place of parents
 pub mod NumberLaws
+-- turns written row by row
+pub mod ExtractLaws

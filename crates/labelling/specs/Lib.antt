@@ -18,3 +18,5 @@ pub mod RunExamples
 pub mod Linking
 -- what numbering gives
 pub mod Numbering
+-- what run extraction asks and gives
+pub mod Extraction

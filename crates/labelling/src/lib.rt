@@ -4,6 +4,7 @@ mod component;
 mod link;
 mod number;
 mod rect;
+mod runs;
 mod words;
 
 pub use component::Component;
