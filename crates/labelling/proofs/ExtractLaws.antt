@@ -3,12 +3,12 @@ use mathlib.Core.Path.{_≡_, refl, sym, ap, _∙_, subst}
 use mathlib.Core.List.{List, [], _∷_, _++_, map, append-assoc, append-nil}
 use mathlib.Core.Bool.{Bool, true, false, cond, _&&_, not}
 use Prim.Native.Nat.{ℕ, zero, suc, _+_, _-_, _*_, _/_, _%_, _≤_, _<_}
-use native.Mathlib.Nat.{le-refl, le-trans, not-suc-le-zero, suc-mul, mul-comm, mod-eq-of-lt, mod-self, mul-mod-left, mul-add-mod-self-right, mul-le-mul-right}
+use native.Mathlib.Nat.{le-refl, le-trans, not-suc-le-zero, suc-mul, mul-comm, mod-eq-of-lt, mod-self, mul-mod-left, mul-add-mod-self-right, mul-le-mul-right, mul-left-comm}
 use native.Mathlib.Numerals.{add-one}
 use native.Mathlib.Decide.{ℕ-discrete, decLt}
 use native.Mathlib.Omega.{arith}
 use borrow.Author.Tests.{eq-eqb, ne-eqb, lt-ltb, le-ltb}
-use lib.ListN.{getD, length, set, take, drop, length-set, length-map, length-append, length-take}
+use lib.ListN.{getD, length, set, take, drop, length-set, length-map, length-append, length-drop}
 use lib.Seq.{getD-take, getD-drop, length-take-le, take-set-le, take-suc-set}
 use lib.Dec.{eqb, ltb}
 use Rattle.labelling.specs.Labels.{isInk}
@@ -16,7 +16,7 @@ use Rattle.labelling.specs.InkRuns.{inkBefore, differ, appendIf, turns, 
 use Rattle.labelling.specs.Extraction.{rowWords, rowTurns, RowRoom, RowExtracted, PlaneRoom, Extracted}
 use Rattle.labelling.proofs.TurnLaws.{bit, scanned}
 use Rattle.labelling.proofs.ScanLaws.{append-step, turns-inner, turns-last, inkBefore-inner, turns-room, turns-fit}
-use Rattle.labelling.proofs.RunLabelLaws.{inkBefore-row}
+use Rattle.labelling.proofs.RunLabelLaws.{inkBefore-row, turns-even}
 
 -- Within a row
 
@@ -213,3 +213,128 @@ module _ {row : List ℕ} {base : ℕ} {s₀ s : List ℕ} {at k before x : ℕ}
               (let a = S .place in let e = length-appendIf true x L in let g : k + 1 ≡ at + length (appendIf true x L) = omega arith in g)
               ∙ (ap (λ z. at + length z) (sym c') ∙ ap (λ z. at + z) (sym (length-map (turns (length row) row (length row)) (λ i. base + i))));
         }
+
+-- Row by row
+
+module _ (w : ℕ) (m row : List ℕ) (y : ℕ) (hw : 0 < w) (same : (x : ℕ) → x < w → getD row x 0 ≡ getD m (y * w + x) 0) where
+  ink-same : (x : ℕ) → x < w → isInk m (y * w + x) ≡ isInk row x
+  unfolding isInk
+  ink-same x l = ap (ltb 0) (sym (same x l))
+
+  end-same : (x : ℕ) → suc (y * w + x) % w ≡ suc x % w
+  end-same x = ap (λ z. z % w) (let e : suc (y * w + x) ≡ y * w + suc x = omega arith in e) ∙ mul-add-mod-self-right y w (suc x)
+
+  before-same : (x : ℕ) → x < w → inkBefore w m (y * w + x) ≡ inkBefore w row x
+  unfolding inkBefore
+  before-same zero l = ap (inkBefore w m) (let e : y * w + 0 ≡ y * w = omega arith in e) ∙ inkBefore-row w m (y * w) (mul-mod-left y w)
+  before-same (suc x) l =
+      ap (inkBefore w m) (let e : y * w + suc x ≡ suc (y * w + x) = omega arith in e)
+      ∙ (ap (λ z. cond (eqb z 0) false (isInk m (y * w + x))) (end-same x) ∙ ap (λ t. cond (eqb (suc x % w) 0) false t) (ink-same x (omega arith)))
+
+  turns-from : (x : ℕ) → x ≤ w → turns w m (y * w + x) ≡ turns w m (y * w) ++ map (λ i. y * w + i) (turns w row x)
+  unfolding turns
+  turns-from zero l = ap (turns w m) (let e : y * w + 0 ≡ y * w = omega arith in e) ∙ sym (append-nil (turns w m (y * w)))
+  turns-from (suc x) l =
+      let b = y * w in
+      let A = turns w m b in
+      let L = turns w row x in
+      let i₁ = ink-same x l in
+      ap (turns w m) (let e : b + suc x ≡ suc (b + x) = omega arith in e)
+      ∙ (ap (λ t. appendIf (isInk m (b + x) && eqb (suc (b + x) % w) 0) (suc (b + x)) (appendIf (differ (inkBefore w m (b + x)) (isInk m (b + x))) (b + x) t)) (turns-from x (omega arith))
+      ∙ (ap (λ t. appendIf (isInk m (b + x) && eqb (suc (b + x) % w) 0) (suc (b + x)) (appendIf (differ t (isInk m (b + x))) (b + x) (A ++ map (λ i. b + i) L))) (before-same x l)
+      ∙ (ap (λ t. appendIf (t && eqb (suc (b + x) % w) 0) (suc (b + x)) (appendIf (differ (inkBefore w row x) t) (b + x) (A ++ map (λ i. b + i) L))) i₁
+      ∙ (ap (λ z. appendIf (isInk row x && eqb z 0) (suc (b + x)) (appendIf (differ (inkBefore w row x) (isInk row x)) (b + x) (A ++ map (λ i. b + i) L))) (end-same x)
+      ∙ (ap (appendIf (isInk row x && eqb (suc x % w) 0) (suc (b + x))) (append-map (differ (inkBefore w row x) (isInk row x)) b x A L)
+      ∙ (ap (λ z. appendIf (isInk row x && eqb (suc x % w) 0) z (A ++ map (λ i. b + i) (appendIf (differ (inkBefore w row x) (isInk row x)) x L))) (let e : suc (b + x) ≡ b + suc x = omega arith in e)
+      ∙ append-map (isInk row x && eqb (suc x % w) 0) b (suc x) A (appendIf (differ (inkBefore w row x) (isInk row x)) x L)))))))
+
+-- the rows before row y are read
+pub record PlaneScan (w h : ℕ) (m s₀ s : List ℕ) (k base y : ℕ) : Type 0 where
+  pub asks : PlaneRoom w h m s₀
+  pub len : length s ≡ length s₀
+  pub upto : y ≤ h
+  pub base-is : base ≡ y * w
+  pub words : take k s ≡ turns w m (y * w)
+  pub place : k ≡ length (turns w m (y * w))
+
+pub plane-none : {w h : ℕ} {m s : List ℕ} → PlaneRoom w h m s → PlaneScan w h m s s 0 0 0
+unfolding turns
+plane-none {w} {h} {m} {s} A =
+    let z : 0 * w ≡ 0 = omega arith in
+    record {
+      asks = A;
+      len = refl;
+      upto = omega arith;
+      base-is = sym z;
+      words = sym (ap (turns w m) z);
+      place = sym (ap (λ n. length (turns w m n)) z);
+    }
+
+module _ {w h : ℕ} {m s₀ s : List ℕ} {k base y : ℕ} (S : PlaneScan w h m s₀ s k base y) where
+  pub plane-inside : y < h → base + w ≤ length m
+  plane-inside l =
+      let e = S .base-is in
+      let n = S .asks .whole in
+      let c : w * h ≡ h * w = mul-comm w h in
+      let q : suc y * w ≤ h * w = mul-le-mul-right w l in
+      let r : suc y * w ≡ y * w + w = suc-mul y w in
+      omega arith
+
+  module _ (l : y < h) where
+    row-length : length (take (base + w - base) (drop base m)) ≡ w
+    row-length = let i = plane-inside l in let e : base + w - base ≡ w = omega arith in rw e (length-take-le w (drop base m) (simp length-drop (omega arith)))
+
+    pub plane-row : RowRoom (take (base + w - base) (drop base m)) base s k
+    plane-row =
+        let A = S .asks in
+        let e = row-length in
+        let i = plane-inside l in
+        let f = turns-fit w m (A .wide) y in
+        let r = A .room in
+        let q : suc y * ((w + 1) / 2) ≤ h * ((w + 1) / 2) = mul-le-mul-right ((w + 1) / 2) l in
+        let t : suc y * ((w + 1) / 2) ≡ y * ((w + 1) / 2) + (w + 1) / 2 = suc-mul y ((w + 1) / 2) in
+        let two : h * (2 * ((w + 1) / 2)) ≡ 2 * (h * ((w + 1) / 2)) = twice h ((w + 1) / 2) in
+        record {
+          some = let x = A .wide in omega arith;
+          dots = let d = A .dots in let n = A .whole in omega arith;
+          room = rw e (let p = S .place in let n = S .len in omega arith);
+        }
+      where
+        twice : (a b : ℕ) → a * (2 * b) ≡ 2 * (a * b)
+        twice a b = mul-left-comm a 2 b
+
+    pub plane-more : (s' : List ℕ) (r : ℕ) → RowExtracted (take (base + w - base) (drop base m)) base s s' k r → PlaneScan w h m s₀ s' r (base + w) (y + 1)
+    plane-more s' r X =
+        let row = take (base + w - base) (drop base m) in
+        let n : suc y * w ≡ y * w + w = suc-mul y w in
+        let b : base ≡ y * w = S .base-is in
+        let one : y * w + w ≡ (y + 1) * w = (let q : y * w + w ≡ suc y * w = omega arith in q) ∙ ap (λ z. z * w) (sym (add-one y)) in
+        let T : turns w m ((y + 1) * w) ≡ turns w m (y * w) ++ rowTurns row base =
+        ap (turns w m) (sym one)
+        ∙ (turns-from w m row y (S .asks .wide) at-row w (le-refl w)
+        ∙ (ap (λ z. turns w m (y * w) ++ map (λ i. z + i) (turns w row w)) (sym b)
+        ∙ ap (λ z. turns w m (y * w) ++ map (λ i. base + i) (turns z row z)) (sym row-length))) in
+        record {
+          asks = S .asks;
+          len = X .len ∙ S .len;
+          upto = omega arith;
+          base-is = (let q : base + w ≡ y * w + w = omega arith in q) ∙ one;
+          words = X .words ∙ (ap (λ z. z ++ rowTurns row base) (S .words) ∙ sym T);
+          place = X .upto ∙ ((ap (λ z. z + length (rowTurns row base)) (S .place) ∙ sym (length-append (turns w m (y * w)) (rowTurns row base))) ∙ ap length (sym T));
+        }
+      where
+        at-row : (x : ℕ) → x < w → getD (take (base + w - base) (drop base m)) x 0 ≡ getD m (y * w + x) 0
+        at-row x h = getD-take (base + w - base) (drop base m) x 0 (omega arith) ∙ (getD-drop base m x 0 ∙ ap (λ z. getD m (z + x) 0) (S .base-is))
+
+  pub plane-done : h ≤ y → Extracted w h m s₀ s (k / 2)
+  plane-done l =
+      let A = S .asks in
+      let e : y * w ≡ w * h = ap (λ z. z * w) (let u = S .upto in let q : y ≡ h = omega arith in q) ∙ mul-comm h w in
+      let t = turns-even w h m (A .wide) in
+      let p : k ≡ length (turns w m (w * h)) = S .place ∙ ap (λ z. length (turns w m z)) e in
+      let c : k / 2 ≡ runCount w m (w * h) = omega arith in
+      record {
+        len = S .len;
+        count = c;
+        runs = ap (λ z. take z s) (let q : 2 * (k / 2) ≡ k = omega arith in q) ∙ (S .words ∙ ap (turns w m) e);
+      }
