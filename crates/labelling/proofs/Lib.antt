@@ -30,3 +30,5 @@ pub mod RunLinkLaws
 pub mod NumberLaws
 -- turns written row by row
 pub mod ExtractLaws
+-- nine words
+pub mod NineLaws

@@ -20,3 +20,5 @@ pub mod Linking
 pub mod Numbering
 -- what run extraction asks and gives
 pub mod Extraction
+-- a component's record as nine words
+pub mod RecordWords

@@ -3,6 +3,7 @@
 mod component;
 mod link;
 mod number;
+mod record;
 mod rect;
 mod runs;
 mod words;
