@@ -90,21 +90,3 @@ componentRuns w start end rep q (suc k) =
     let p = componentRuns w start end rep q k in
     let t = absorbDots w (start k) (end k - start k) p in
     cond (eqb (componentNumber rep k) q) t p
-
--- x + (x + 1) + .., d of them
-unfoldable pub columnSum : ℕ → ℕ → ℕ
-columnSum x zero = 0
-columnSum x (suc d) = columnSum x d + (x + d)
-
--- d dots and one more, from s on in s's row, taken in at once
-abbrev pub absorbedRun : ℕ → ℕ → ℕ → Component → Component
-absorbedRun w s d p =
-    record {
-      area = p .area + suc d;
-      x0 = min (p .x0) (s % w);
-      y0 = min (p .y0) (s / w);
-      x1 = max (p .x1) ((s + d) % w);
-      y1 = max (p .y1) (s / w);
-      «sum_x» = p .«sum_x» + columnSum (s % w) (suc d);
-      «sum_y» = p .«sum_y» + suc d * (s / w);
-    }
