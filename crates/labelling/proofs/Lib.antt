@@ -32,3 +32,5 @@ pub mod NumberLaws
 pub mod ExtractLaws
 -- nine words
 pub mod NineLaws
+-- labels painted run by run
+pub mod PaintLaws

@@ -22,3 +22,5 @@ pub mod Numbering
 pub mod Extraction
 -- a component's record as nine words
 pub mod RecordWords
+-- what painting asks and gives
+pub mod Painting

@@ -3,6 +3,7 @@
 mod component;
 mod link;
 mod number;
+mod paint;
 mod record;
 mod rect;
 mod runs;
