@@ -20,7 +20,7 @@ columnSum-closed x (suc d) =
     omega arith
 
 -- d steps on in a row, the column is d further
-column-on : (w s d : ℕ) → 0 < w → s / w ≡ (s + d) / w → (s + d) % w ≡ s % w + d
+pub column-on : (w s d : ℕ) → 0 < w → s / w ≡ (s + d) / w → (s + d) % w ≡ s % w + d
 column-on w s d hw e = let h = row-same w [] hw s (s + d) e in omega arith
 
 pub absorb-run : (w s d : ℕ) (p : Component) → 0 < w → ((i : ℕ) → s ≤ i → i < s + suc d → i / w ≡ s / w) → absorbDots w s (suc d) p ≡ absorbedRun p (s % w) d (s / w)

@@ -34,3 +34,7 @@ pub mod ExtractLaws
 pub mod NineLaws
 -- labels painted run by run
 pub mod PaintLaws
+-- records written run by run
+pub mod TallyLaws
+-- the records of the first k runs, and one run more
+pub mod RecordSweepLaws

@@ -24,3 +24,5 @@ pub mod Extraction
 pub mod RecordWords
 -- what painting asks and gives
 pub mod Painting
+-- the components' records, run by run
+pub mod Tallying

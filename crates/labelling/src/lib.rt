@@ -7,6 +7,7 @@ mod paint;
 mod record;
 mod rect;
 mod runs;
+mod tally;
 mod words;
 
 pub use component::Component;
