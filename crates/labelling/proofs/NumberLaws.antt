@@ -25,6 +25,14 @@ count-up p a (suc b) l = go (ℕ-discrete a (suc b)) (count-up p a b)
     go (yes e) ih = subst (λ z. countIf p z ≤ countIf p b + cond (p b) 1 0) (sym e) (le-refl _)
     go (no ne) ih = let h = ih (omega arith) in omega arith
 
+pub count-step : (p : ℕ → Bool) (n : ℕ) → countIf p (suc n) ≤ countIf p n + 1
+unfolding countIf
+count-step p n = go (p n)
+  where
+    go : (t : Bool) → countIf p n + cond t 1 0 ≤ countIf p n + 1
+    go true = le-refl _
+    go false = omega arith
+
 pub record NumberSweep (c capacity : ℕ) (p₀ p : List ℕ) (k count : ℕ) : Type 0 where
   pub room : c ≤ length p₀
   pub few : capacity ≤ 65535

@@ -29,7 +29,14 @@ fn larger(a: usize, b: usize) -> usize
 }
 
 // The dots from `start` up to `end`, a run of the component with this number, absorbed by its record.
-fn tally_run(components: &mut [u32], number: usize, count: usize, start: usize, end: usize, w: usize)
+fn tally_run(
+    components: &mut [u32],
+    number: usize,
+    count: usize,
+    start: usize,
+    end: usize,
+    w: usize,
+)
     requires { ⌜ RunTallyable (now components) number count start end w ⌝ }
     ensures { λ _. ⌜ now (components .exit) ≡ tallied (now (components .entry)) number count start end w ⌝ }
 {
@@ -50,7 +57,14 @@ pub fn tally(runs: &[u32], c: usize, w: usize, components: &mut [u32])
     let mut k = 0;
     while k < c {
         let number = wide(runs[2 * c + k]);
-        tally_run(components, number, count, wide(runs[2 * k]), wide(runs[2 * k + 1]), w);
+        tally_run(
+            components,
+            number,
+            count,
+            wide(runs[2 * k]),
+            wide(runs[2 * k + 1]),
+            w,
+        );
         count = larger(count, number);
         k += 1;
     }
