@@ -26,3 +26,5 @@ pub mod RecordWords
 pub mod Painting
 -- the components' records, run by run
 pub mod Tallying
+-- what labelling called by itself answers and leaves
+pub mod Answer
