@@ -38,3 +38,5 @@ pub mod PaintLaws
 pub mod TallyLaws
 -- the records of the first k runs, and one run more
 pub mod RecordSweepLaws
+-- the stages one after the other
+pub mod StageLaws

@@ -38,7 +38,14 @@ pub fn label(
     let h = wide(height);
     let p = wide(capacity);
     let dots = w * h;
-    let lent = judge_lent(dots, mask.len(), p, labels.len(), components.len(), scratch.len());
+    let lent = judge_lent(
+        dots,
+        mask.len(),
+        p,
+        labels.len(),
+        components.len(),
+        scratch.len(),
+    );
     if lent != 0 {
         return LabelAnswer::Refused(lent);
     }
@@ -57,7 +64,14 @@ fn judge_sides(width: u32, height: u32) -> u32
 }
 
 // 2, 7 or 9 where the mask's length, the capacity or the memory lent is not as it must be, else 0.
-fn judge_lent(dots: usize, mask: usize, capacity: usize, labels: usize, components: usize, scratch: usize) -> u32
+fn judge_lent(
+    dots: usize,
+    mask: usize,
+    capacity: usize,
+    labels: usize,
+    components: usize,
+    scratch: usize,
+) -> u32
     requires { ⌜ (dots ≤ maxMaskDots) × (capacity ≤ 4294967295) ⌝ }
     ensures { λ r. ⌜ r ≡ lentRefusal dots mask capacity labels components scratch 0 ⌝ }
 {

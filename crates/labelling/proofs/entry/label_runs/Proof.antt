@@ -1,85 +1,63 @@
 use borrow.Author.Needs.{needs}
+use native.Mathlib.Omega.{arith}
+use mathlib.Core.Path.{_≡_, sym, _∙_}
+use Rattle.labelling.proofs.StageLaws.{stage-extract, stage-list, stage-inside, stage-number, stage-many, stage-paint, stage-tally, stage-done, stage-room, stage-length}
 use Rattle.labelling.proofs.entry.label_runs.Statement.{statement}
 use Rattle.labelling.proofs.entry.label_runs.Tie as tie
-use Rattle.labelling.proofs.entry.label_runs.Reads as reads
-use Rattle.labelling.proofs.entry.label_runs.Lts as lts
-use Rattle.labelling.proofs.link.link.Reads as link-reads
-use Rattle.labelling.proofs.number.number.Reads as number-reads
-use Rattle.labelling.proofs.paint.paint.Reads as paint-reads
-use Rattle.labelling.proofs.runs.extract.Reads as extract-reads
-use Rattle.labelling.proofs.tally.tally.Reads as tally-reads
 
--- src/entry.rt:84:9
 extract-requires : tie.Need-extract-requires
-extract-requires c κs = ?
+extract-requires c κs = stage-extract ((c .before .before .before .before .before) .pre)
 
--- src/entry.rt:85:5
 link-requires : tie.Need-link-requires
-link-requires c κs = ?
+link-requires c κs = (stage-list ((c .before .before .before .before .before .before .before .before .before) .pre) ((c .before .before .before .extract) .ensures), (c .before .before .before .before .before .before .before .before .before) .pre .low, stage-inside ((c .before .before .before .before .before .before .before .before .before) .pre) ((c .before .before .before .extract) .ensures))
 
--- src/entry.rt:86:19
 mul-parents : tie.Need-mul-parents
-mul-parents c = ?
+mul-parents c = let h = stage-room ((c .before .before .before .before .before .before .before .before .before .before .before .before) .pre) ((c .before .before .before .before .before .before .extract) .ensures) ((c .before .before .link) .ensures) in omega arith
 
--- src/entry.rt:87:24
 mul-number : tie.Need-mul-number
-mul-number c = ?
+mul-number c = let h = stage-room ((c .before .before .before .before .before .before .before .before .before .before .before .before) .pre) ((c .before .before .before .before .before .before .extract) .ensures) ((c .before .before .link) .ensures) in omega arith
 
--- src/entry.rt:87:24
 sub-number : tie.Need-sub-number
-sub-number c = ?
+sub-number c = let h = stage-room ((c .before .before .before .before .before .before .before .before .before .before .before .before) .pre) ((c .before .before .before .before .before .before .extract) .ensures) ((c .before .before .link) .ensures) in h .1
 
--- src/entry.rt:87:24
 part-number-start : tie.Need-part-number-start
-part-number-start c = ?
+part-number-start c = let h = stage-room ((c .before .before .before .before .before .before .before .before .before .before .before .before) .pre) ((c .before .before .before .before .before .before .extract) .ensures) ((c .before .before .link) .ensures) in h .1
 
--- src/entry.rt:87:24
 part-number-end : tie.Need-part-number-end
 part-number-end c = search needs
 
--- src/entry.rt:87:9
 number-requires : tie.Need-number-requires
-number-requires c κs = ?
+number-requires c κs = stage-number ((c .before .before .before .before .before .before .before .before .before .before .before .before .before) .pre) ((c .before .before .before .before .before .before .before .extract) .ensures) ((c .before .before .before .link) .ensures)
 
--- src/entry.rt:89:9
 same-length : tie.Need-same-length
-same-length c = search needs
+same-length c = stage-length ((c .before .before .before .before .before .before .before .before .before .before .before .before .before .before .before .before .before) .pre) ((c .before .before .before .before .before .before .before .before .before .before .before .extract) .ensures) ((c .before .before .before .before .before .before .before .link) .ensures) ((c .before .before .before .number) .ensures)
 
--- src/entry.rt:89:9
 returns : tie.Need-returns
-returns c = ?
+returns c = stage-many ((c .before .before .before .before .before .before .before .before .before .before .before .before .before .before .before .before .before) .pre) ((c .before .before .before .before .before .before .before .before .before .before .before .extract) .ensures) ((c .before .before .before .before .before .before .before .link) .ensures) ((c .before .before .before .number) .ensures) ((c .if1) .taken)
 
--- src/entry.rt:91:37
 mul-paint : tie.Need-mul-paint
 mul-paint c = search needs
 
--- src/entry.rt:91:5
 paint-requires : tie.Need-paint-requires
-paint-requires c κs = ?
+paint-requires c κs = stage-paint ((c .before .before .before .before .before .before .before .before .before .before .before .before .before .before .before .before .before .before .before) .pre) ((c .before .before .before .before .before .before .before .before .before .before .before .before .before .extract) .ensures) ((c .before .before .before .before .before .before .before .before .before .link) .ensures) ((c .before .before .before .before .before .number) .ensures) ((c .before .before .if1) .left)
 
--- src/entry.rt:92:5
 tally-requires : tie.Need-tally-requires
-tally-requires c κs = ?
+tally-requires c κs = stage-tally ((c .before .before .before .before .before .before .before .before .before .before .before .before .before .before .before .before .before .before .before .before .before .before .before .before) .pre) ((c .before .before .before .before .before .before .before .before .before .before .before .before .before .before .before .before .before .before .extract) .ensures) ((c .before .before .before .before .before .before .before .before .before .before .before .before .before .before .link) .ensures) ((c .before .before .before .before .before .before .before .before .before .before .number) .ensures) ((c .before .before .before .before .before .before .before .if1) .left)
 
--- src/entry.rt:93:27
 cast-t30 : tie.Need-cast-t30
-cast-t30 c = search needs
+cast-t30 c = omega (arith, (c .before .before .before .before .before .before .before .before .before .before .before .before .before .before .before .before .before .before .before .before .before .before .before .before .before .before .before) .pre .few, (c .before .before .before .before .before .before .before .before .before .before .if1) .left)
 
--- src/entry.rt:72:1
 same-length-2 : tie.Need-same-length-2
-same-length-2 c = search needs
+same-length-2 c = (c .before .before .before .before .before .before .before .paint) .ensures .len
 
--- src/entry.rt:72:1
 same-length-3 : tie.Need-same-length-3
 same-length-3 c = search needs
 
--- src/entry.rt:72:1
 same-length-4 : tie.Need-same-length-4
-same-length-4 c = search needs
+same-length-4 c = stage-length ((c .before .before .before .before .before .before .before .before .before .before .before .before .before .before .before .before .before .before .before .before .before .before .before .before .before .before .before) .pre) ((c .before .before .before .before .before .before .before .before .before .before .before .before .before .before .before .before .before .before .before .before .before .extract) .ensures) ((c .before .before .before .before .before .before .before .before .before .before .before .before .before .before .before .before .before .link) .ensures) ((c .before .before .before .before .before .before .before .before .before .before .before .before .before .number) .ensures)
 
--- src/entry.rt:72:1
 returns-2 : tie.Need-returns-2
-returns-2 c = ?
+returns-2 c = stage-done ((c .before .before .before .before .before .before .before .before .before .before .before .before .before .before .before .before .before .before .before .before .before .before .before .before .before .before .before) .pre) ((c .before .before .before .before .before .before .before .before .before .before .before .before .before .before .before .before .before .before .before .before .before .extract) .ensures) ((c .before .before .before .before .before .before .before .before .before .before .before .before .before .before .before .before .before .link) .ensures) ((c .before .before .before .before .before .before .before .before .before .before .before .before .before .number) .ensures) ((c .before .before .before .before .before .before .before .before .before .before .if1) .left) ((c .before .before .before .before .before .before .before .paint) .ensures) ((c .before .before .tally) .ensures)
 
 pub label-runs-spec : {M : Type 1} → statement M
 label-runs-spec =
