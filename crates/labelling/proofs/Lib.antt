@@ -40,3 +40,5 @@ pub mod TallyLaws
 pub mod RecordSweepLaws
 -- the stages one after the other
 pub mod StageLaws
+-- which number a call is refused with, and what it leaves
+pub mod EntryLaws

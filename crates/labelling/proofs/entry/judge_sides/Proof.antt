@@ -1,46 +1,35 @@
 use borrow.Author.Needs.{needs}
+use native.Mathlib.Omega.{arith}
+use Rattle.labelling.proofs.EntryLaws.{area-fits, sides-judged}
 use Rattle.labelling.proofs.entry.judge_sides.Statement.{statement}
 use Rattle.labelling.proofs.entry.judge_sides.Tie as tie
-use Rattle.labelling.proofs.entry.judge_sides.Reads as reads
-use Rattle.labelling.proofs.entry.judge_sides.Lts as lts
-use Rattle.labelling.proofs.words.wide.Reads as wide-reads
-use Rattle.memory.proofs.refuse_if.Reads as refuse-if-reads
 
--- src/entry.rt:53:16
 wide-requires : tie.Need-wide-requires
 wide-requires c κs = search needs
 
--- src/entry.rt:53:30
 wide-requires-2 : tie.Need-wide-requires-2
 wide-requires-2 c κs = search needs
 
--- src/entry.rt:53:16
 mul-dots : tie.Need-mul-dots
-mul-dots c = ?
+mul-dots c = let h = area-fits ((c .before .wide) .result) ((c .wide2) .result) (omega (arith, (c .before .wide) .ensures)) (omega (arith, (c .wide2) .ensures)) in omega arith
 
--- src/entry.rt:54:9
 refuse-if-requires : tie.Need-refuse-if-requires
 refuse-if-requires c κs = search needs
 
--- src/entry.rt:55:47
 refuse-if-requires-2 : tie.Need-refuse-if-requires-2
 refuse-if-requires-2 c κs = search needs
 
--- src/entry.rt:55:9
 refuse-if-requires-3 : tie.Need-refuse-if-requires-3
 refuse-if-requires-3 c κs = search needs
 
--- src/entry.rt:56:30
 refuse-if-requires-4 : tie.Need-refuse-if-requires-4
 refuse-if-requires-4 c κs = search needs
 
--- src/entry.rt:56:5
 refuse-if-requires-5 : tie.Need-refuse-if-requires-5
 refuse-if-requires-5 c κs = search needs
 
--- src/entry.rt:50:1
 returns : tie.Need-returns
-returns c = ?
+returns c = sides-judged ((c .before .before .before .before .before .before .before) .args .width) ((c .before .before .before .before .before .before .before) .args .height) ((c .before .before .before .before .before .before .wide) .result) ((c .before .before .before .before .before .wide2) .result) ((c .before .before .before .before .refuse-if) .result) ((c .before .before .before .refuse-if2) .result) ((c .before .before .refuse-if3) .result) ((c .before .refuse-if4) .result) ((c .refuse-if5) .result) ((c .before .before .before .before .before .before .wide) .ensures) ((c .before .before .before .before .before .wide2) .ensures) ((c .before .before .before .before .refuse-if) .ensures) ((c .before .before .before .refuse-if2) .ensures) ((c .before .before .refuse-if3) .ensures) ((c .before .refuse-if4) .ensures) ((c .refuse-if5) .ensures)
 
 pub judge-sides-spec : {M : Type 1} → statement M
 judge-sides-spec =
