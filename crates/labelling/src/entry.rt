@@ -8,7 +8,6 @@ use crate::link::link;
 use crate::number::number;
 use crate::paint::paint;
 use crate::runs::extract;
-use crate::tally::tally;
 use crate::words::wide;
 use memory::refuse_if;
 
@@ -102,7 +101,6 @@ fn label_runs(
     if capacity < count {
         return LabelAnswer::Refused(20);
     }
-    paint(&words[..], runs, labels, w * h);
-    tally(&words[..], runs, w, components);
+    paint(&words[..], runs, w, labels, w * h, components);
     LabelAnswer::Labelled(count as u32)
 }

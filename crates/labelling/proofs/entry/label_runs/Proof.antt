@@ -39,25 +39,22 @@ mul-paint : tie.Need-mul-paint
 mul-paint c = search needs
 
 paint-requires : tie.Need-paint-requires
-paint-requires c κs = stage-paint ((c .before .before .before .before .before .before .before .before .before .before .before .before .before .before .before .before .before .before .before) .pre) ((c .before .before .before .before .before .before .before .before .before .before .before .before .before .extract) .ensures) ((c .before .before .before .before .before .before .before .before .before .link) .ensures) ((c .before .before .before .before .before .number) .ensures) ((c .before .before .if1) .left)
+paint-requires c κs = (stage-paint ((c .before .before .before .before .before .before .before .before .before .before .before .before .before .before .before .before .before .before .before .before) .pre) ((c .before .before .before .before .before .before .before .before .before .before .before .before .before .before .extract) .ensures) ((c .before .before .before .before .before .before .before .before .before .before .link) .ensures) ((c .before .before .before .before .before .before .number) .ensures) ((c .before .before .before .if1) .left), stage-tally ((c .before .before .before .before .before .before .before .before .before .before .before .before .before .before .before .before .before .before .before .before) .pre) ((c .before .before .before .before .before .before .before .before .before .before .before .before .before .before .extract) .ensures) ((c .before .before .before .before .before .before .before .before .before .before .link) .ensures) ((c .before .before .before .before .before .before .number) .ensures) ((c .before .before .before .if1) .left))
 
-tally-requires : tie.Need-tally-requires
-tally-requires c κs = stage-tally ((c .before .before .before .before .before .before .before .before .before .before .before .before .before .before .before .before .before .before .before .before .before .before .before .before) .pre) ((c .before .before .before .before .before .before .before .before .before .before .before .before .before .before .before .before .before .before .extract) .ensures) ((c .before .before .before .before .before .before .before .before .before .before .before .before .before .before .link) .ensures) ((c .before .before .before .before .before .before .before .before .before .before .number) .ensures) ((c .before .before .before .before .before .before .before .if1) .left)
-
-cast-t30 : tie.Need-cast-t30
-cast-t30 c = omega (arith, (c .before .before .before .before .before .before .before .before .before .before .before .before .before .before .before .before .before .before .before .before .before .before .before .before .before .before .before) .pre .few, (c .before .before .before .before .before .before .before .before .before .before .if1) .left)
+cast-t28 : tie.Need-cast-t28
+cast-t28 c = omega (arith, (c .before .before .before .before .before .before .before .before .before .before .before .before .before .before .before .before .before .before .before .before .before .before .before .before .before) .pre .few, (c .before .before .before .before .before .before .before .before .if1) .left)
 
 same-length-2 : tie.Need-same-length-2
-same-length-2 c = (c .before .before .before .before .before .before .before .paint) .ensures .len
+same-length-2 c = (c .before .before .before .before .paint) .ensures .0 .len
 
 same-length-3 : tie.Need-same-length-3
 same-length-3 c = search needs
 
 same-length-4 : tie.Need-same-length-4
-same-length-4 c = stage-length ((c .before .before .before .before .before .before .before .before .before .before .before .before .before .before .before .before .before .before .before .before .before .before .before .before .before .before .before) .pre) ((c .before .before .before .before .before .before .before .before .before .before .before .before .before .before .before .before .before .before .before .before .before .extract) .ensures) ((c .before .before .before .before .before .before .before .before .before .before .before .before .before .before .before .before .before .link) .ensures) ((c .before .before .before .before .before .before .before .before .before .before .before .before .before .number) .ensures)
+same-length-4 c = stage-length ((c .before .before .before .before .before .before .before .before .before .before .before .before .before .before .before .before .before .before .before .before .before .before .before .before .before) .pre) ((c .before .before .before .before .before .before .before .before .before .before .before .before .before .before .before .before .before .before .before .extract) .ensures) ((c .before .before .before .before .before .before .before .before .before .before .before .before .before .before .before .link) .ensures) ((c .before .before .before .before .before .before .before .before .before .before .before .number) .ensures)
 
 returns-2 : tie.Need-returns-2
-returns-2 c = stage-done ((c .before .before .before .before .before .before .before .before .before .before .before .before .before .before .before .before .before .before .before .before .before .before .before .before .before .before .before) .pre) ((c .before .before .before .before .before .before .before .before .before .before .before .before .before .before .before .before .before .before .before .before .before .extract) .ensures) ((c .before .before .before .before .before .before .before .before .before .before .before .before .before .before .before .before .before .link) .ensures) ((c .before .before .before .before .before .before .before .before .before .before .before .before .before .number) .ensures) ((c .before .before .before .before .before .before .before .before .before .before .if1) .left) ((c .before .before .before .before .before .before .before .paint) .ensures) ((c .before .before .tally) .ensures)
+returns-2 c = stage-done ((c .before .before .before .before .before .before .before .before .before .before .before .before .before .before .before .before .before .before .before .before .before .before .before .before .before) .pre) ((c .before .before .before .before .before .before .before .before .before .before .before .before .before .before .before .before .before .before .before .extract) .ensures) ((c .before .before .before .before .before .before .before .before .before .before .before .before .before .before .before .link) .ensures) ((c .before .before .before .before .before .before .before .before .before .before .before .number) .ensures) ((c .before .before .before .before .before .before .before .before .if1) .left) ((c .before .before .before .before .paint) .ensures .0) ((c .before .before .before .before .paint) .ensures .1)
 
 pub label-runs-spec : {M : Type 1} → statement M
 label-runs-spec =
@@ -75,8 +72,7 @@ label-runs-spec =
     returns
     mul-paint
     paint-requires
-    tally-requires
-    cast-t30
+    cast-t28
     same-length-2
     same-length-3
     same-length-4
