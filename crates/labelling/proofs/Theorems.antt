@@ -1,7 +1,7 @@
 -- What the definition `labelling` of specs/Labels says: the theorems that a reader wants (01, part 2).
-use mathlib.Core.Path.{_≡_, refl, sym, ap, _∙_, subst}
+use mathlib.Core.Path.{_≡_, refl, sym, ap, _∙_}
 use mathlib.Core.List.{List}
-use mathlib.Core.Bool.{Bool, true, false, cond, _&&_, true≢false}
+use mathlib.Core.Bool.{Bool, true, false, cond}
 use Prim.Native.Nat.{ℕ, zero, suc, _+_, _-_, _*_, _/_, _%_, _≤_, _<_, min, max}
 use native.Mathlib.Nat.{le-refl, le-trans, not-suc-le-zero, mod-le, div-le-self}
 use native.Mathlib.Decide.{ℕ-discrete, decLt}
@@ -14,12 +14,12 @@ use Rattle.memory.proofs.TableLaws.{length-table, getD-table}
 use Rattle.labelling.specs.Chains.{Chain, here, rise, fall, Firsts}
 use Rattle.labelling.specs.Classes.{firstOf, firsts}
 use Rattle.labelling.specs.Components.{noDots, absorbed}
-use Rattle.labelling.specs.Labels.{isInk, touches, isFirst, labelAt, componentTo, Labelling, labelling}
+use Rattle.labelling.specs.Labels.{isInk, touches, isFirst, labelAt, componentTo, labelling}
 use Rattle.labelling.specs.declared.component.Component.{Component}
 use Rattle.labelling.proofs.CountLaws.{count-up, count-one, count-reach}
-use Rattle.labelling.proofs.ExtremeLaws.{Extreme, Least, Greatest, extreme, min-either, max-either}
+use Rattle.labelling.proofs.ExtremeLaws.{Least, Greatest, extreme, min-either, max-either}
 use Rattle.labelling.proofs.FirstLaws.{firsts-right, firsts-unique, firsts-chain, along}
-use Rattle.labelling.proofs.TouchLaws.{and-both, and-intro, Near, near-of}
+use Rattle.labelling.proofs.TouchLaws.{and-both, and-intro, near-of}
 
 -- the sum of f over the numbers below n that pass the test p
 unfoldable pub sumIf : (ℕ → Bool) → (ℕ → ℕ) → ℕ → ℕ

@@ -1,6 +1,5 @@
 use borrow.Author.Needs.{needs}
 use native.Mathlib.Omega.{arith}
-use mathlib.Core.Path.{_≡_, sym, _∙_}
 use Rattle.labelling.proofs.StageLaws.{stage-extract, stage-list, stage-inside, stage-number, stage-many, stage-paint, stage-tally, stage-done, stage-room, stage-length}
 use Rattle.labelling.proofs.entry.label_runs.Statement.{statement}
 use Rattle.labelling.proofs.entry.label_runs.Tie as tie

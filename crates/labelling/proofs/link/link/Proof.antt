@@ -1,7 +1,6 @@
 use borrow.Author.Needs.{needs}
 use native.Mathlib.Omega.{arith}
 use Prim.Native.Nat.{_-_}
-use lib.ListN.{length-set}
 use Rattle.labelling.proofs.RunLinkLaws.{PlaneSweep, plane-none, plane-linkable, plane-small, plane-more, plane-done}
 use Rattle.labelling.proofs.link.link.Statement.{statement}
 use Rattle.labelling.proofs.link.link.Tie as tie

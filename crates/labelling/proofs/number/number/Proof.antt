@@ -1,5 +1,4 @@
 use borrow.Author.Needs.{needs}
-use native.Mathlib.Omega.{arith}
 use mathlib.Core.Path.{_∙_}
 use Prim.Native.Nat.{_-_}
 use Rattle.labelling.proofs.NumberLaws.{NumberSweep, number-none, number-asks, number-more, number-stop, number-done}

@@ -1,7 +1,7 @@
 use borrow.Author.Needs.{needs}
 use native.Mathlib.Omega.{arith}
-use Prim.Native.Nat.{_-_, _≤_, _*_, _+_}
-use mathlib.Core.Path.{_≡_, _∙_}
+use Prim.Native.Nat.{_-_}
+use mathlib.Core.Path.{_∙_}
 use Rattle.labelling.proofs.PaintLaws.{PaintSweep, paint-none, paint-asks, paint-more, paint-last, paint-done}
 use Rattle.labelling.proofs.RecordSweepLaws.{TallySweep, tally-none, tally-words, tally-asks, tally-more, tally-long, tally-done}
 use Rattle.labelling.proofs.paint.paint.Statement.{statement}

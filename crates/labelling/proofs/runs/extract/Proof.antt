@@ -1,9 +1,6 @@
 use borrow.Author.Needs.{needs}
 use native.Mathlib.Omega.{arith}
 use Prim.Native.Nat.{_-_}
-use lib.ListN.{length}
-use lib.Seq.{length-take-le}
-use mathlib.Core.Path.{_∙_}
 use Rattle.labelling.proofs.ExtractLaws.{PlaneScan, plane-none, plane-inside, plane-row, plane-more, plane-done}
 use Rattle.labelling.proofs.runs.extract.Statement.{statement}
 use Rattle.labelling.proofs.runs.extract.Tie as tie

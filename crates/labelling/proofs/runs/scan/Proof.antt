@@ -1,8 +1,6 @@
 use borrow.Author.Needs.{needs}
 use native.Mathlib.Omega.{arith}
-use mathlib.Core.Path.{_∙_}
 use Prim.Native.Nat.{_-_}
-use lib.ListN.{length-set}
 use lib.Dec.{eqb}
 use Rattle.labelling.proofs.ExtractLaws.{ScanSweep, sweep-none, sweep-room, turn-small, sweep-more, sweep-done}
 use Rattle.labelling.proofs.runs.scan.Statement.{statement}
