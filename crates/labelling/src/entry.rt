@@ -4,10 +4,10 @@ ghost use Prim.Native.Nat.{_*_, _≤_};
 ghost use lib.ListN.{length, drop};
 ghost use Rattle.memory.specs.Limits.{maxMaskDots, scratchWords};
 ghost use Rattle.labelling.specs.Answer.{sideRefusal, lentRefusal, Workable, worked, left, labelled};
-use crate::link::link;
-use crate::number::number;
-use crate::paint::paint;
-use crate::runs::extract;
+use crate::link::link_runs;
+use crate::number::number_runs;
+use crate::paint::paint_runs;
+use crate::runs::extract_runs;
 use crate::words::wide;
 use memory::refuse_if;
 
@@ -94,13 +94,13 @@ fn label_runs(
     requires { ⌜ Workable w h (now mask) capacity (now labels) (now components) (now words) ⌝ }
     ensures { λ r. ⌜ worked r (now (labels .exit)) (now (components .exit)) w h (now (mask .entry)) capacity (now (labels .entry)) (now (components .entry)) ⌝ }
 {
-    let runs = extract(mask, w, h, words);
-    link(words, runs, w, h);
+    let runs = extract_runs(mask, w, h, words);
+    link_runs(words, runs, w, h);
     let parents = 2 * runs;
-    let count = number(&mut words[parents..], runs, capacity);
+    let count = number_runs(&mut words[parents..], runs, capacity);
     if capacity < count {
         return LabelAnswer::Refused(20);
     }
-    paint(&words[..], runs, w, labels, w * h, components);
+    paint_runs(&words[..], runs, w, labels, w * h, components);
     LabelAnswer::Labelled(count as u32)
 }

@@ -112,7 +112,7 @@ fn row_end(runs: &[u32], c: usize, k: usize, limit: usize) -> usize
 }
 
 // Gives each of the c runs of a plane, w wide and h high, its parent.
-pub fn link(words: &mut [u32], c: usize, w: usize, h: usize)
+pub fn link_runs(words: &mut [u32], c: usize, w: usize, h: usize)
     requires { ⌜ RunList w c (now words) × (h ≤ 131072) × ((k : ℕ) → k < c → startOf (now words) k < h * w) ⌝ }
     ensures { λ _. ⌜ AllLinked w c (now (words .entry)) (now (words .exit)) ⌝ }
 {

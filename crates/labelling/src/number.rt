@@ -20,7 +20,7 @@ fn number_one(parents: &mut [u32], k: usize, count: usize) -> usize
 }
 
 // The numbers of c runs, and how many components there are; capacity + 1 as soon as there are more than that.
-pub fn number(parents: &mut [u32], c: usize, capacity: usize) -> usize
+pub fn number_runs(parents: &mut [u32], c: usize, capacity: usize) -> usize
     requires { ⌜ (c ≤ length (now parents)) × (capacity ≤ 65535) × ((j : ℕ) → j < c → getD (now parents) j 0 ≤ j) ⌝ }
     ensures { λ r. ⌜ Numbered c capacity (now (parents .entry)) (now (parents .exit)) r ⌝ }
 {

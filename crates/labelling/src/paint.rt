@@ -22,7 +22,14 @@ fn fill(labels: &mut [u32], from: usize, to: usize, value: u32)
 }
 
 // Writes the labels of n dots, on each of the c runs its number and elsewhere 0, and the components' records.
-pub fn paint(runs: &[u32], c: usize, w: usize, labels: &mut [u32], n: usize, components: &mut [u32])
+pub fn paint_runs(
+    runs: &[u32],
+    c: usize,
+    w: usize,
+    labels: &mut [u32],
+    n: usize,
+    components: &mut [u32],
+)
     requires { ⌜ Paintable (now runs) c (now labels) n × Tallyable w c (now runs) (now components) ⌝ }
     ensures { λ _. ⌜ Painted (now (runs .entry)) c (now (labels .entry)) (now (labels .exit)) n × (now (components .exit) ≡ over (records w c (now (runs .entry)) c) (now (components .entry))) ⌝ }
 {

@@ -94,7 +94,7 @@ fn extract_row(row: &[u8], base: usize, words: &mut [u32], at: usize) -> usize
 }
 
 // Writes the runs of a mask, w wide and h high, to the words, and answers how many there are.
-pub fn extract(mask: &[u8], w: usize, h: usize, words: &mut [u32]) -> usize
+pub fn extract_runs(mask: &[u8], w: usize, h: usize, words: &mut [u32]) -> usize
     requires { ⌜ PlaneRoom w h (now mask) (now words) ⌝ }
     ensures { λ r. ⌜ Extracted w h (now (mask .entry)) (now (words .entry)) (now (words .exit)) r ⌝ }
 {

@@ -4,8 +4,8 @@ use Prim.Native.Nat.{_-_}
 use mathlib.Core.Path.{_∙_}
 use Rattle.labelling.proofs.PaintLaws.{PaintSweep, paint-none, paint-asks, paint-more, paint-last, paint-done}
 use Rattle.labelling.proofs.RecordSweepLaws.{TallySweep, tally-none, tally-words, tally-asks, tally-more, tally-long, tally-done}
-use Rattle.labelling.proofs.paint.paint.Statement.{statement}
-use Rattle.labelling.proofs.paint.paint.Tie as tie
+use Rattle.labelling.proofs.paint.paint_runs.Statement.{statement}
+use Rattle.labelling.proofs.paint.paint_runs.Tie as tie
 
 abbrev Inv-loop : tie.InvT-loop
 Inv-loop runs c w labels₀ n components₀ done₀ count₀ k₀ labels components done count k = PaintSweep runs c labels₀ labels n k done × TallySweep w c runs components₀ components k count
@@ -94,8 +94,8 @@ same-length-2 c = tally-long ((c .before .before .before .before .before .loop) 
 returns : tie.Need-returns Inv-loop μ-loop
 returns c = (paint-done ((c .before .before .before .before .before .loop) .inv .0) ((c .before .before .before .before .loop-test) .left) ((c .before .before .fill3) .last .0) ((c .before .before .fill3) .ensures), tally-done ((c .before .before .before .before .before .loop) .inv .1) ((c .before .before .before .before .loop-test) .left))
 
-pub paint-spec : {M : Type 1} → statement M
-paint-spec =
+pub paint-runs-spec : {M : Type 1} → statement M
+paint-runs-spec =
     tie.close
     (tie.spec
     Inv-loop
