@@ -8,6 +8,9 @@ ghost use Rattle.memory.specs.Lists.{countIf};
 ghost use Rattle.labelling.specs.Labels.{isInk};
 ghost use Rattle.labelling.specs.Extraction.{ScanRoom, Scanned, RowRoom, RowExtracted, PlaneRoom, Extracted};
 
+// The dots of a block, which are counted at once.
+const BLOCK: usize = 32;
+
 // 1 where a byte is ink, any but 0; else 0.
 fn ink_of(byte: u8) -> usize
     ensures { λ r. ⌜ r ≡ cond (eqb byte 0) 0 1 ⌝ }
@@ -36,7 +39,7 @@ fn ink_count(block: &[u8]) -> u8
 {
     let mut count = 0;
     let mut i = 0;
-    while i < 32 {
+    while i < BLOCK {
         count += ink_bit(block[i]);
         i += 1;
     }
@@ -67,8 +70,8 @@ fn scan_block(row: &[u8], from: usize, base: usize, words: &mut [u32], at: usize
     requires { ⌜ ScanRoom (now row) from (from + 32) base (now words) at ⌝ }
     ensures { λ r. ⌜ Scanned (now (row .entry)) from (from + 32) base (now (words .entry)) (now (words .exit)) at r ⌝ }
 {
-    let to = from + 32;
-    if ink_count(&row[from..to]) as usize == 32 * (at % 2) {
+    let to = from + BLOCK;
+    if ink_count(&row[from..to]) as usize == BLOCK * (at % 2) {
         return at;
     }
     scan(row, from, to, base, words, at)
@@ -81,9 +84,9 @@ fn extract_row(row: &[u8], base: usize, words: &mut [u32], at: usize) -> usize
 {
     let mut k = at;
     let mut x = 0;
-    while 32 <= row.len() - x {
+    while BLOCK <= row.len() - x {
         k = scan_block(row, x, base, words, k);
-        x += 32;
+        x += BLOCK;
     }
     k = scan(row, x, row.len(), base, words, k);
     if k % 2 == 0 {
