@@ -13,8 +13,11 @@ use memory::refuse_if;
 
 // 01's limits, under the names that specs/Limits of the crate memory gives them.
 const MAX_MASK_SIDE: u32 = 131072;
+
 const MAX_MASK_DOTS: usize = 1073741824;
+
 const MAX_CAPACITY: usize = 65535;
+
 const COMPONENT_WORDS: usize = 9;
 
 // The count of components, or the number that the call is refused with.
@@ -64,8 +67,16 @@ fn judge_sides(width: u32, height: u32) -> u32
 {
     let dots = wide(width) * wide(height);
     let by_dots = refuse_if(MAX_MASK_DOTS < dots, 1, 0);
-    let by_height = refuse_if(height == 0, 1, refuse_if(MAX_MASK_SIDE < height, 1, by_dots));
-    refuse_if(width == 0, 1, refuse_if(MAX_MASK_SIDE < width, 1, by_height))
+    let by_height = refuse_if(
+        height == 0,
+        1,
+        refuse_if(MAX_MASK_SIDE < height, 1, by_dots),
+    );
+    refuse_if(
+        width == 0,
+        1,
+        refuse_if(MAX_MASK_SIDE < width, 1, by_height),
+    )
 }
 
 // 2, 7 or 9 where the mask's length, the capacity or the memory lent is not as it must be, else 0.
@@ -83,7 +94,11 @@ fn judge_lent(
     let by_scratch = refuse_if(scratch < 4 * dots + 16 * capacity + 64, 9, 0);
     let by_records = refuse_if(components < COMPONENT_WORDS * capacity, 9, by_scratch);
     let by_labels = refuse_if(labels < dots, 9, by_records);
-    let by_capacity = refuse_if(capacity == 0, 7, refuse_if(MAX_CAPACITY < capacity, 7, by_labels));
+    let by_capacity = refuse_if(
+        capacity == 0,
+        7,
+        refuse_if(MAX_CAPACITY < capacity, 7, by_labels),
+    );
     refuse_if(mask != dots, 2, by_capacity)
 }
 

@@ -12,21 +12,14 @@ ghost use Rattle.labelling.specs.Extraction.{ScanRoom, Scanned, RowRoom,
 const BLOCK: usize = 32;
 
 // 1 where a byte is ink, any but 0; else 0.
-fn ink_of(byte: u8) -> usize
-    ensures { λ r. ⌜ r ≡ cond (eqb byte 0) 0 1 ⌝ }
-{
-    if byte == 0 { 0 } else { 1 }
-}
-
-// The same in a byte.
-fn ink_bit(byte: u8) -> u8
+fn ink_of(byte: u8) -> u8
     ensures { λ r. ⌜ r ≡ cond (eqb byte 0) 0 1 ⌝ }
 {
     if byte == 0 { 0 } else { 1 }
 }
 
 // 1 where two dots differ, else 0.
-fn turn_of(before: usize, here: usize) -> usize
+fn turn_of(before: u8, here: u8) -> usize
     ensures { λ r. ⌜ r ≡ cond (eqb before here) 0 1 ⌝ }
 {
     if before == here { 0 } else { 1 }
@@ -40,7 +33,7 @@ fn ink_count(block: &[u8]) -> u8
     let mut count = 0;
     let mut i = 0;
     while i < BLOCK {
-        count += ink_bit(block[i]);
+        count += ink_of(block[i]);
         i += 1;
     }
     count
@@ -53,7 +46,7 @@ fn scan(row: &[u8], from: usize, to: usize, base: usize, words: &mut [u32], at: 
     ensures { λ r. ⌜ Scanned (now (row .entry)) from to base (now (words .entry)) (now (words .exit)) at r ⌝ }
 {
     let mut k = at;
-    let mut before = at % 2;
+    let mut before = (at % 2) as u8;
     let mut x = from;
     while x < to {
         let here = ink_of(row[x]);

@@ -12,6 +12,9 @@ Inv-loop row from to base words₀ at k₀ before₀ x₀ words k before x = Sca
 abbrev μ-loop : tie.MeasureT-loop
 μ-loop row from to base words₀ at k₀ before₀ x₀ words k before x = to - x
 
+cast-before : tie.Need-cast-before Inv-loop μ-loop
+cast-before c = search needs
+
 loop-holds : tie.Need-loop-holds Inv-loop μ-loop
 loop-holds c = sweep-none ((c .before .before) .pre)
 
@@ -60,6 +63,7 @@ scan-spec =
     (tie.spec
     Inv-loop
     μ-loop
+    cast-before
     loop-holds
     shared-slice-read-ink-of
     ink-of-requires
