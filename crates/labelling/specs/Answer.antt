@@ -1,8 +1,8 @@
 -- What labelling called by itself answers, and what it leaves in the memory lent to it (01, part 2, Limits, "Turned back").
 use mathlib.Core.Path.{_≡_}
 use mathlib.Core.Bool.{Bool, true, false, cond, not}
-use mathlib.Core.List.{List, _++_}
-use Prim.Native.Nat.{ℕ, _+_, _*_, _≤_, _<_}
+use mathlib.Core.List.{List}
+use Prim.Native.Nat.{ℕ, _*_, _≤_, _<_}
 use lib.ListN.{length, drop}
 use lib.Dec.{eqb, ltb}
 use Rattle.memory.specs.Words.{over}
@@ -24,11 +24,12 @@ abbrev pub countOf : LabelAnswer → ℕ
 countOf (Labelled k) = k
 countOf (Refused n) = 0
 
--- the answer by its number and the count of components
+-- one answer or the other
 abbrev pub pickAnswer : Bool → LabelAnswer → LabelAnswer → LabelAnswer
 pickAnswer true a b = a
 pickAnswer false a b = b
 
+-- the answer by its number and the count of components
 unfoldable pub answerOf : ℕ → ℕ → LabelAnswer
 answerOf n k = pickAnswer (eqb n 0) (Labelled k) (Refused n)
 
@@ -66,6 +67,7 @@ pub record Left : Type 0 where
   pub scratch : ℕ
   pub beyond : List ℕ
 
+-- what a call with the answer r leaves
 abbrev pub left : LabelAnswer → List ℕ → List ℕ → ℕ → List ℕ → Left
 left r labels components scratch beyond =
     record { answer = r; number = numberOf r; count = countOf r; labels = labels; components = components; scratch = scratch; beyond = beyond }
@@ -78,7 +80,7 @@ labelsLeft n L labels = cond (eqb n 0) (over (L .labels) labels) labels
 unfoldable pub componentsLeft : ℕ → Labelling → List ℕ → List ℕ
 componentsLeft n L components = cond (eqb n 0) (over (encoded recordWords (L .components)) components) components
 
--- what a call leaves
+-- what `label` leaves: the labelling, unless the call is refused
 abbrev pub labelled : ℕ → ℕ → List ℕ → ℕ → List ℕ → List ℕ → List ℕ → Left
 labelled w h m P labels components scratch =
     let n = refusal w h m P (length labels) (length components) (length scratch) in
@@ -103,6 +105,7 @@ pub record Worked (r : LabelAnswer) (labels' components' : List ℕ) (n : ℕ) (
   pub labelled : labels' ≡ labelsLeft n L labels
   pub recorded : components' ≡ componentsLeft n L components
 
+-- the same where only 20 can refuse
 abbrev pub worked : LabelAnswer → List ℕ → List ℕ → ℕ → ℕ → List ℕ → ℕ → List ℕ → List ℕ → Type 0
 worked r labels' components' w h m P labels components =
     Worked r labels' components' (manyRefusal (length (labelling w h m .components)) P) (labelling w h m) labels components

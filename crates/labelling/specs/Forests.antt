@@ -1,4 +1,4 @@
--- Union-find over the numbers below n: the parents that a list has, and what they owe to a relation r.
+-- Union-find over the numbers below n: the parents that a list has, and what they owe to a relation r (Rosenfeld and Pfaltz, 1966).
 use mathlib.Core.Path.{_≡_}
 use mathlib.Core.Bool.{Bool, true}
 use mathlib.Core.List.{List}

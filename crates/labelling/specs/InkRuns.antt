@@ -2,9 +2,9 @@
 use mathlib.Core.Path.{_≡_}
 use mathlib.Core.List.{List, [], _∷_, _++_}
 use mathlib.Core.Bool.{Bool, true, false, cond, _&&_, not}
-use Prim.Native.Nat.{ℕ, zero, suc, _+_, _-_, _*_, _/_, _%_, _≤_, _<_, min, max}
-use lib.ListN.{getD, length}
-use lib.Dec.{eqb, ltb, leb}
+use Prim.Native.Nat.{ℕ, zero, suc, _+_, _-_, _*_, _/_, _%_, _≤_, _<_}
+use lib.ListN.{getD}
+use lib.Dec.{eqb, leb}
 use Rattle.memory.specs.Lists.{countIf}
 use Rattle.labelling.specs.Labels.{isInk}
 use Rattle.labelling.specs.Components.{noDots, absorbed}
@@ -66,11 +66,11 @@ pub record Runs (w : ℕ) (m : List ℕ) (n c : ℕ) (start end runAt : ℕ → 
 unfoldable pub touchRuns : ℕ → (ℕ → ℕ) → (ℕ → ℕ) → ℕ → ℕ → Bool
 touchRuns w start end a b = eqb (start a / w + 1) (start b / w) && leb (start a + w) (end b) && leb (start b) (end a + w)
 
--- whether run k names itself: the first run of a component
+-- whether run k is the first of its component; rep has the first run of each run's component
 unfoldable pub isRoot : (ℕ → ℕ) → ℕ → Bool
 isRoot rep k = eqb (rep k) k
 
--- the number of run k's component, from 1, by first run
+-- the number of run k's component, counted from 1 by first run
 unfoldable pub componentNumber : (ℕ → ℕ) → ℕ → ℕ
 componentNumber rep k = countIf (isRoot rep) (suc (rep k))
 
@@ -78,12 +78,12 @@ componentNumber rep k = countIf (isRoot rep) (suc (rep k))
 unfoldable pub runLabel : ℕ → List ℕ → (ℕ → ℕ) → ℕ → ℕ
 runLabel w m rep i = cond (isInk m i) (componentNumber rep (runOf w m i)) 0
 
--- d dots from s on, taken in one by one
+-- d dots from s on, absorbed one by one
 unfoldable pub absorbDots : ℕ → ℕ → ℕ → Component → Component
 absorbDots w s zero p = p
 absorbDots w s (suc d) p = let q = absorbDots w s d p in absorbed q ((s + d) % w) ((s + d) / w)
 
--- of the first c runs, those of component q, taken in one by one
+-- of the first c runs, those of component q, absorbed one by one
 unfoldable pub componentRuns : ℕ → (ℕ → ℕ) → (ℕ → ℕ) → (ℕ → ℕ) → ℕ → ℕ → Component
 componentRuns w start end rep q zero = noDots
 componentRuns w start end rep q (suc k) =
