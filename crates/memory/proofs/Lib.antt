@@ -1,5 +1,9 @@
 -- a table and its entries; a loop that fills one
 pub mod TableLaws
+-- lists counted by place; counts of numbers that pair one to one
+pub mod CountLaws
+-- the number of a dot in a plane
+pub mod PlaneLaws
 -- one more word copied
 pub mod CopyLaws
 -- records: one more, and one read back

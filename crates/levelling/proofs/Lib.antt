@@ -1,0 +1,2 @@
+-- levelling and mapping back are inverse; the frame has exactly the mask's ink
+pub mod InverseTheorems
