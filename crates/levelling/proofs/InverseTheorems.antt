@@ -11,10 +11,10 @@ use mathlib.Core.List.{List, [], _∷_}
 use mathlib.Core.Bool.{Bool, true, false, cond, _&&_}
 use Prim.Native.Nat.{ℕ, zero, suc, _+_, _-_, _*_, _/_, _%_, _≤_, _<_, min, max}
 use native.Mathlib.Nat.{le-refl, mod-lt, div-add-mod', div-lt-iff-lt-mul, mul-comm}
-use native.Mathlib.Decide.{decLe, decLt}
+use native.Mathlib.Decide.{decLt}
 use native.Mathlib.Omega.{arith}
 use borrow.Author.Tests.{lt-ltb, le-ltb}
-use lib.IntN.{ℤ, pos, negsuc, subℕ, pos-ne-negsuc}
+use lib.IntN.{ℤ, pos, negsuc, subℕ}
 use lib.Ieee.{Float}
 use lib.ListN.{getD, length, List·getD-eq-default}
 use lib.Dec.{eqb, ltb, T, eqb→eq}
@@ -27,20 +27,8 @@ use Rattle.levelling.specs.Frames.{Frame, frame, rowOf, columnOf}
 use Rattle.levelling.specs.Mapping.{toPage}
 use Rattle.levelling.specs.Planes.{within, levelAt, levelled, levelInk}
 use Rattle.levelling.specs.declared.Point.{Point}
-
--- ---- differences of natural numbers
-pub sub-at-least : (a b : ℕ) → b ≤ a → subℕ a b ≡ pos (a - b)
-sub-at-least a b l = rw (le-ltb a b l)
-
-sub-added : (c s : ℕ) → subℕ (c + s) s ≡ pos c
-sub-added c s = sub-at-least (c + s) s (omega arith) ∙ ap pos (let e : c + s - s ≡ c = omega arith in e)
-
-sub-is-pos : (a b n : ℕ) → subℕ a b ≡ pos n → (b ≤ a) × (a - b ≡ n)
-sub-is-pos a b n e = go (decLe b a)
-  where
-    go : Dec (b ≤ a) → (b ≤ a) × (a - b ≡ n)
-    go (yes l) = (l, ap natural (sym (sub-at-least a b l) ∙ e))
-    go (no l) = absurd (let z : negsuc (b - suc a) ≡ pos n = sym (rw (lt-ltb a b (omega arith))) ∙ e in pos-ne-negsuc n (b - suc a) (sym z))
+use Rattle.levelling.proofs.Integers.{sub-added, sub-is-pos}
+use Rattle.levelling.proofs.ShearLaws.{greatest-bounds}
 
 -- ---- for any frame record
 pub place-maps-back : (f : Frame) (c y : ℕ) → c < f .page-w → toPage f (columnOf f c y) (rowOf f c y) ≡ record { x = pos c; y = pos y }
@@ -105,12 +93,6 @@ source f page x y e = go (toPage f x y .x) (toPage f x y .y) refl refl e
 pub record HoldsPage (f : Frame) : Type 0 where
   pub row-inside : (c y : ℕ) → y < f .page-h → rowOf f c y < f .h
   pub column-inside : (c y : ℕ) → c < f .page-w → columnOf f c y < f .w
-
-pub greatest-bounds : (l : List ℕ) (i : ℕ) → getD l i 0 ≤ greatest l
-unfolding greatest
-greatest-bounds [] i = le-refl 0
-greatest-bounds (a ∷ l) zero = let e : a ≤ max a (greatest l) = omega arith in e
-greatest-bounds (a ∷ l) (suc i) = let e = greatest-bounds l i in omega arith
 
 pub frame-holds : (w h : ℕ) (slope : Float) → HoldsPage (frame w h slope)
 unfolding frame rowOf columnOf
