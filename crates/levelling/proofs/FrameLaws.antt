@@ -11,17 +11,18 @@ use native.Mathlib.Nat.{le-trans, le-of-lt}
 use native.Mathlib.Omega.{arith}
 use lib.IntN.{ℤ, pos, negℤ, natAbs}
 use lib.Dec.{T, ltb, eqb, lit≤}
-use lib.Ieee.{Float, nan, inf, fin, le, neg, up, down}
+use lib.Ieee.{Float, nan, inf, fin, le, lt, neg}
 use lib.ListN.{getD, length}
 use Rattle.memory.specs.Limits.{maxPageSide, maxFrameWidth, maxFrameHeight}
 use Rattle.memory.specs.Lists.{table, greatest}
 use Rattle.memory.proofs.TableLaws.{table-ext}
+use Rattle.rounding.specs.Rounding.{positiveZero}
 use Rattle.rounding.specs.Drift.{drift, driftX}
 use Rattle.rounding.proofs.Signs.{negative}
 use Rattle.rounding.proofs.DriftLaws.{WithinOne, signed, drift-signed, drift-within, drift-rises, drift-step, drift-negated, driftX-is-drift}
 use Rattle.levelling.specs.Shears.{shearOf}
 use Rattle.levelling.specs.Frames.{Frame, frame}
-use Rattle.levelling.proofs.SlopeLaws.{driftSize, within-negated, size-negated, negative-negated}
+use Rattle.levelling.proofs.SlopeLaws.{driftSize, entryBy, unsigned, unsigned-size, drift-by-test, within-negated, size-negated, negative-negated}
 use Rattle.levelling.proofs.ShearLaws.{shearEntry, OneWay, shear-one-way, greatest-one-way, Steps, steps-one-way}
 
 -- ---- drifts run one way
@@ -39,6 +40,17 @@ drifts-one-way slope w s n some few E =
 
 shear-slope : (slope : Float) → WithinOne slope → (n : ℕ) → 0 < n → n ≤ 2 ^ 15 → OneWay (drift slope) (negative slope) (driftSize slope) n
 shear-slope slope w n some few = drifts-one-way slope w (negative slope) n some few (λ c l. drift-signed slope w c (le-trans (le-of-lt l) few))
+
+-- the shear as the code fills it in
+pub shear-by-test : (slope : Float) → WithinOne slope → (n : ℕ) → 0 < n → n ≤ 2 ^ 15
+    → table (entryBy (lt slope positiveZero) (unsigned slope) (driftSize (unsigned slope) (n - 1))) n ≡ shearOf (table (drift slope) n)
+shear-by-test slope w n some few =
+    let b = lt slope positiveZero in
+    table-ext _ _ n (λ c l. (λ i. cond b (same (n - 1) (omega arith) i - same c l i) (same c l i)))
+    ∙ sym (shear-one-way (drift slope) b (driftSize slope) n (drifts-one-way slope w b n some few (λ c l. drift-by-test slope w b refl c (le-trans (le-of-lt l) few))))
+  where
+    same : (c : ℕ) → c < n → driftSize (unsigned slope) c ≡ driftSize slope c
+    same c l = unsigned-size slope w c (le-trans (le-of-lt l) few)
 
 pub columns-as-rows : (slope : Float) (n : ℕ) → table (driftX slope) n ≡ table (drift (neg slope)) n
 columns-as-rows slope n = table-ext (driftX slope) (drift (neg slope)) n (λ r l. driftX-is-drift slope r)
