@@ -13,15 +13,15 @@ use lib.IntN.{ℤ, pos, negℤ, natAbs}
 use lib.Dec.{T, ltb, eqb, lit≤}
 use lib.Ieee.{Float, nan, inf, fin, le, lt, neg}
 use lib.ListN.{getD, length}
-use Rattle.memory.specs.Limits.{maxPageSide, maxFrameWidth, maxFrameHeight}
+use Rattle.memory.specs.Limits.{maxFrameWidth, maxFrameHeight}
 use Rattle.memory.specs.Lists.{table, greatest}
-use Rattle.memory.proofs.TableLaws.{table-ext}
+use Rattle.memory.proofs.TableLaws.{table-ext, length-table}
 use Rattle.rounding.specs.Rounding.{positiveZero}
 use Rattle.rounding.specs.Drift.{drift, driftX}
 use Rattle.rounding.proofs.Signs.{negative}
 use Rattle.rounding.proofs.DriftLaws.{WithinOne, signed, drift-signed, drift-within, drift-rises, drift-step, drift-negated, driftX-is-drift}
 use Rattle.levelling.specs.Shears.{shearOf}
-use Rattle.levelling.specs.Frames.{Frame, frame}
+use Rattle.levelling.specs.Frames.{PageSides, frame}
 use Rattle.levelling.proofs.SlopeLaws.{driftSize, entryBy, unsigned, unsigned-size, drift-by-test, within-negated, size-negated, negative-negated}
 use Rattle.levelling.proofs.ShearLaws.{shearEntry, OneWay, shear-one-way, greatest-one-way, Steps, steps-one-way}
 
@@ -63,13 +63,6 @@ slope-steps slope w n some few =
   where
     under : (c n : ℕ) → n ≤ 2 ^ 15 → suc c < n → c < 2 ^ 15
     under c n h l = omega arith
-
--- the sides of a page within document 01's limits
-pub record PageSides (w h : ℕ) : Type 0 where
-  pub wide : 0 < w
-  pub high : 0 < h
-  pub w-fits : w ≤ maxPageSide
-  pub h-fits : h ≤ maxPageSide
 
 module _ (w h : ℕ) (slope : Float) (sides : PageSides w h) (one : WithinOne slope) where
   few-columns : w ≤ 2 ^ 15
@@ -142,3 +135,16 @@ module _ (w h : ℕ) (slope : Float) (sides : PageSides w h) (one : WithinOne sl
   shear-x-steps =
       subst (λ s. Steps s (frame w h slope .shear-x)) (negative-negated slope one)
       (subst (Steps (negative (neg slope))) (sym shear-x-is) (slope-steps (neg slope) (within-negated slope one) (frame w h slope .h) (frame-rows .0) few-rows))
+
+  -- the sides as the code computes them, a and b the sizes of the last drifts
+  pub sides-by-size : (steep : Float) (a b : ℕ) → steep ≡ unsigned slope → a ≡ driftSize steep (w - 1) → b ≡ driftSize steep (h + a - 1)
+      → (w + b ≡ frame w h slope .w) × (h + a ≡ frame w h slope .h)
+  sides-by-size steep a b e p q =
+      let rows : h + a ≡ frame w h slope .h =
+      ap (λ k. h + k) (p ∙ (ap (λ s. driftSize s (w - 1)) e ∙ unsigned-size slope one (w - 1) (omega (arith, few-columns)))) ∙ sym frame-height in (
+        ap (λ k. w + k) (q ∙ ((λ i. driftSize (e i) (rows i - 1)) ∙ unsigned-size slope one (frame w h slope .h - 1) (omega (arith, few-rows)))) ∙ sym frame-width,
+        rows,
+      )
+
+  pub length-shears : (length (frame w h slope .shear) ≡ w) × (length (frame w h slope .shear-x) ≡ frame w h slope .h)
+  length-shears = (ap length shear-closed ∙ length-table _ w, ap length shear-x-closed ∙ length-table _ (frame w h slope .h))

@@ -1,11 +1,19 @@
 -- The levelled frame, and where each page dot goes (01, part 3).
-use Prim.Native.Nat.{ℕ, _+_}
+use Prim.Native.Nat.{ℕ, _+_, _≤_, _<_}
 use mathlib.Core.List.{List}
 use lib.Ieee.{Float}
 use lib.ListN.{getD}
+use Rattle.memory.specs.Limits.{maxPageSide}
 use Rattle.memory.specs.Lists.{table, greatest}
 use Rattle.rounding.specs.Drift.{drift, driftX}
 use Rattle.levelling.specs.Shears.{shearOf}
+
+-- the sides of a page within the limits
+pub record PageSides (w h : ℕ) : Type 0 where
+  pub wide : 0 < w
+  pub high : 0 < h
+  pub w-fits : w ≤ maxPageSide
+  pub h-fits : h ≤ maxPageSide
 
 -- the page's sides, the shear of each page column, the shear of each frame row, the frame's sides
 pub record Frame : Type 0 where

@@ -1,7 +1,11 @@
 // Levelling: the two shears that make text lines level, the frame they give, a page plane moved into it, and the way back to
 // the page (layout.rs).
+mod frame;
 mod shears;
 
+pub use frame::FrameSize;
+pub use frame::fill_shears;
+pub use frame::frame_size;
 pub use shears::applied;
 
 // A point in page coordinates. It may lie outside the page, so its coordinates are signed.

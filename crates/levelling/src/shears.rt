@@ -28,7 +28,7 @@ pub fn applied(least: f64, skew: f64, v: f64) -> f64
 }
 
 // The size of the drift of column c under a slope that is not below zero.
-fn drift_size(c: u32, steep: f64) -> u32
+pub fn drift_size(c: u32, steep: f64) -> u32
     requires { ⌜ c ≤ 2 ^ 15 ⌝ ∗ ⌜ WithinOne steep ⌝ ∗ ⌜ Ieee.lt steep positiveZero ≡ false ⌝ }
     ensures { λ r. ⌜ r ≡ natAbs (drift steep c) ⌝ }
 {
