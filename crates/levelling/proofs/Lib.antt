@@ -8,3 +8,5 @@ pub mod SlopeLaws
 pub mod FrameLaws
 -- levelling and mapping back are inverse; the frame has exactly the mask's ink
 pub mod InverseTheorems
+-- the frame row by row, as the code moves a plane into it
+pub mod RowLaws

@@ -24,6 +24,10 @@ pub record Frame : Type 0 where
   pub w : ℕ
   pub h : ℕ
 
+-- the frame record of these, as a function is handed them
+abbrev pub frameOf : ℕ → ℕ → List ℕ → List ℕ → ℕ → ℕ → Frame
+frameOf page-w page-h shear shear-x w h = record { page-w = page-w; page-h = page-h; shear = shear; shear-x = shear-x; w = w; h = h }
+
 -- the frame of a page w wide and h high under a slope: the page's sides and what the two shears add
 unfoldable pub frame : ℕ → ℕ → Float → Frame
 frame w h slope =

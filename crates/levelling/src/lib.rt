@@ -1,6 +1,7 @@
 // Levelling: the two shears that make text lines level, the frame they give, a page plane moved into it, and the way back to
 // the page (layout.rs).
 mod frame;
+mod plane;
 mod shears;
 
 pub use frame::FrameSize;

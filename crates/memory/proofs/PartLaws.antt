@@ -4,12 +4,12 @@ use mathlib.Core.List.{List, [], _∷_, _++_, append-nil, append-assoc}
 use Prim.Native.Nat.{ℕ, zero, suc, _+_, _-_, _≤_, _<_}
 use native.Mathlib.Nat.{add-zero, add-suc}
 use native.Mathlib.Omega.{arith}
-use lib.ListN.{length, take, drop, length-drop, length-append, drop-of-length-le}
-use lib.Seq.{take-all, take-at, drop-at, drop-drop}
+use lib.ListN.{length, getD, take, drop, length-take, length-drop, length-append, drop-of-length-le}
+use lib.Seq.{take-all, take-at, drop-at, drop-drop, drop-length, ext-getD, getD-take, getD-drop}
 use borrow.Rule.Slice.PartMut.{putMid}
 use Rattle.memory.specs.Lists.{table}
 use Rattle.memory.specs.Words.{over}
-use Rattle.memory.proofs.TableLaws.{length-table}
+use Rattle.memory.proofs.TableLaws.{length-table, getD-table}
 
 -- ---- `&mut s[a..]`
 pub tail-part : (a : ℕ) (s : List ℕ) → take (length s - a) (drop a s) ≡ drop a s
@@ -30,7 +30,17 @@ over-behind s t words one part a e f g =
     ∙ ((λ i. front i ++ (g ∙ ap (over t) (tail-part a one ∙ rest)) i)
     ∙ (ap (λ z. s ++ (t ++ z)) (drop-drop (length t) (length s) words ∙ ap (λ n. drop n words) (sym (length-append s t))) ∙ sym (append-assoc s t _)))
 
+-- a list of the same length over all of another
+pub over-all : (v s : List ℕ) → length v ≡ length s → over v s ≡ v
+over-all v s e = ap (λ (z : List ℕ). v ++ z) (ap (λ n. drop n s) e ∙ drop-length s) ∙ append-nil v
+
 -- ---- a table in parts
+pub part-is-table : (s : List ℕ) (a n d : ℕ) → a + n ≤ length s → take n (drop a s) ≡ table (λ i. getD s (a + i) d) n
+part-is-table s a n d h =
+    let l : length (take n (drop a s)) ≡ n = simp (length-take, length-drop) (omega arith) in
+    ext-getD d (take n (drop a s)) (table (λ i. getD s (a + i) d) n) (l ∙ sym (length-table (λ i. getD s (a + i) d) n))
+    (λ i k. (let q : i < n = omega arith in getD-take n (drop a s) i d q ∙ (getD-drop a s i d ∙ sym (getD-table (λ i. getD s (a + i) d) n i d q))))
+
 pub table-add : (f : ℕ → ℕ) (m n : ℕ) → table f (m + n) ≡ table f m ++ table (λ i. f (m + i)) n
 unfolding table
 table-add f m zero = ap (table f) (add-zero m) ∙ sym (append-nil (table f m))

@@ -1,13 +1,13 @@
 -- A table and its entries; a loop that fills one.
 use mathlib.Core.Path.{_≡_, refl, sym, ap, _∙_}
-use mathlib.Core.List.{List, [], _∷_, _++_}
+use mathlib.Core.List.{List, [], _∷_, _++_, append-nil}
 use Prim.Native.Nat.{ℕ, zero, suc, _+_, _≤_, _<_}
 use native.Mathlib.Nat.{not-suc-le-zero, le-refl}
 use native.Mathlib.Numerals.{add-one}
 use native.Mathlib.Decide.{ℕ-discrete}
 use native.Mathlib.Omega.{arith}
 use lib.ListN.{getD, length, set, drop, length-append, List·getD-append}
-use lib.Seq.{getD-at, set-at, drop-cons, append-snoc}
+use lib.Seq.{getD-at, set-at, drop-cons, append-snoc, drop-length}
 use Rattle.memory.specs.Lists.{table}
 use Rattle.memory.specs.Words.{over}
 
@@ -47,3 +47,7 @@ table-filled f s out v i n e q t = e ∙ (ap (λ k. table f k ++ drop k s) q ∙
   where
     lengths : n ≡ length v
     lengths = sym (length-table f n) ∙ ap length t
+
+-- and where there is no more than n places, the table is all
+pub table-whole : (f : ℕ → ℕ) (s out : List ℕ) (i : ℕ) → out ≡ table f i ++ drop i s → i ≡ length s → out ≡ table f (length s)
+table-whole f s out i e q = e ∙ (ap (λ k. table f k ++ drop k s) q ∙ (ap (λ (z : List ℕ). table f (length s) ++ z) (drop-length s) ∙ append-nil (table f (length s))))
