@@ -1,22 +1,28 @@
 -- A frame row by its columns: added dots at both ends, and between them the page's columns, by stretches that move by the same number of rows.
 use mathlib.Core.Path.{_≡_, refl, sym, ap, _∙_, subst}
-use mathlib.Core.List.{List}
+use mathlib.Core.List.{List, _++_}
 use mathlib.Core.Bool.{Bool, true, false, cond, _&&_}
 use Prim.Native.Nat.{ℕ, zero, suc, _+_, _-_, _*_, _/_, _%_, _≤_, _<_, min}
 use native.Mathlib.Nat.{add-assoc}
-use native.Mathlib.Decide.{decLt, decLe}
+use native.Mathlib.Decide.{decLt, decLe, ℕ-discrete}
 use native.Mathlib.Omega.{arith}
 use borrow.Author.Tests.{lt-ltb, le-ltb, lt-leb, le-leb}
 use lib.IntN.{pos, subℕ}
-use lib.ListN.{getD, length, take, drop}
+use lib.ListN.{getD, length, take, drop, set}
+use lib.Seq.{getD-set-same, getD-set-other}
+use borrow.Rule.Slice.PartMut.{putMid}
 use lib.Dec.{ltb, leb}
 use Rattle.memory.specs.Lists.{table}
 use Rattle.memory.specs.Words.{over}
-use Rattle.memory.proofs.TableLaws.{length-table, table-ext}
-use Rattle.memory.proofs.PartLaws.{over-all, part-is-table}
-use Rattle.memory.proofs.PlaneLaws.{row-end}
+use Rattle.memory.proofs.TableLaws.{length-table, table-ext, table-whole}
+use Rattle.memory.proofs.PartLaws.{over-all, part-is-table, part-filled}
+use Rattle.memory.proofs.PlaneLaws.{row-end, dot-column, dot-row}
+use Rattle.levelling.specs.Shears.{natural}
 use Rattle.levelling.specs.Frames.{Frame}
-use Rattle.levelling.specs.Planes.{columnAt}
+use Rattle.levelling.specs.declared.Point.{Point}
+use Rattle.levelling.proofs.Integers.{sub-at-least}
+use Rattle.levelling.specs.Mapping.{toPage}
+use Rattle.levelling.specs.Planes.{within, columnAt, levelAt, levelled, Stretch, Stretches}
 
 -- ---- a column of a frame row
 column-above : (page : List ℕ) (fill w h r s c : ℕ) → r < s → columnAt page fill w h r s c ≡ fill
@@ -53,3 +59,87 @@ module _ (page : List ℕ) (fill w h r s c n : ℕ) where
       ∙ (part-is-table page a n fill (stretch-inside k q e)
       ∙ table-ext _ _ n (λ i j. ap (λ z. getD page z fill) (add-assoc ((r - s) * w) c i) ∙ sym (column-on-page page fill w h r s (c + i) l k))) in
       over-all (take (a + n - a) (drop a page)) out (ap length part ∙ (length-table _ n ∙ sym o)) ∙ part
+
+-- ---- where the stretches end
+pub stretch-alone : (shear : List ℕ) (c : ℕ) → c < length shear → Stretch shear c (c + 1)
+stretch-alone shear c l = record { some = omega arith; inside = omega arith; level = λ k a b. ap (λ i. getD shear i 0) (let e : k ≡ c = omega arith in e) }
+
+pub stretch-longer : (shear : List ℕ) (c e : ℕ) → getD shear (c + 1) 0 ≡ getD shear c 0 → Stretch shear (c + 1) e → Stretch shear c e
+stretch-longer shear c e q S = record { some = (let s = S .some in omega arith); inside = S .inside; level = λ k a b. go k a b (decLt c k) }
+  where
+    go : (k : ℕ) → c ≤ k → k < e → Dec (c < k) → getD shear k 0 ≡ getD shear c 0
+    go k a b (yes l) = S .level k (omega arith) b ∙ q
+    go k a b (no l) = ap (λ i. getD shear i 0) (let e : k ≡ c = omega arith in e)
+
+pub stretches-more : (shear ends : List ℕ) (c e : ℕ) → c < length ends → Stretches shear ends (c + 1) → Stretch shear c e → Stretches shear (set ends c e) c
+stretches-more shear ends c e l S T k a b = go (ℕ-discrete k c)
+  where
+    go : Dec (k ≡ c) → Stretch shear k (getD (set ends c e) k 0)
+    go (yes q) = subst (λ i. Stretch shear i (getD (set ends c e) i 0)) (sym q) (subst (Stretch shear c) (sym (getD-set-same ends c e 0 l)) T)
+    go (no q) = subst (Stretch shear k) (sym (getD-set-other ends c k e 0 q)) (S k (omega arith) b)
+
+-- ---- the page's columns, one more stretch put in
+abbrev pub columnsAt : List ℕ → ℕ → ℕ → ℕ → List ℕ → ℕ → ℕ → ℕ
+columnsAt page fill w h shear r c = columnAt page fill w h r (getD shear c 0) c
+
+pub stretch-put : (page : List ℕ) (fill w h : ℕ) (shear : List ℕ) (r c e n : ℕ) (s out v : List ℕ) → Stretch shear c e → n ≡ e - c → out ≡ table (columnsAt page fill w h shear r) c ++ drop c s
+    → v ≡ table (λ i. columnAt page fill w h r (getD shear c 0) (c + i)) n → putMid c (e - c) out v ≡ table (columnsAt page fill w h shear r) e ++ drop e s
+stretch-put page fill w h shear r c e n s out v S m o q =
+    part-filled (columnsAt page fill w h shear r) s out v c (e - c) o
+    (q ∙ ap (table _) m ∙ table-ext _ _ (e - c) (λ i l. ap (λ z. columnAt page fill w h r z (c + i)) (sym (S .level (c + i) (omega arith) (omega arith)))))
+    ∙ ap (λ z. table (columnsAt page fill w h shear r) z ++ drop z s) (let k : c + (e - c) ≡ e = (let l = S .some in omega arith) in k)
+
+-- ---- a frame row
+module _ (f : Frame) (fill : ℕ) (page : List ℕ) (r : ℕ) where
+  abbrev left : ℕ
+  left = getD (f .shear-x) r 0
+
+  pub levelAt-left : (x : ℕ) → x < left → levelAt f fill page x r ≡ fill
+  unfolding levelAt toPage
+  levelAt-left x l = rw (lt-ltb x left l)
+
+  pub levelAt-right : (x : ℕ) → left + f .page-w ≤ x → levelAt f fill page x r ≡ fill
+  unfolding levelAt toPage
+  levelAt-right x l = rw (le-ltb x left (omega arith), le-ltb (x - left) (f .page-w) (omega arith))
+
+  mapped : (i : ℕ) → i < f .page-w → toPage f (left + i) r ≡ record { x = pos i; y = subℕ r (getD (f .shear) i 0) }
+  unfolding toPage
+  mapped i l =
+      let a : left + i - left ≡ i = omega arith in
+      let m : min (left + i - left) (f .page-w - 1) ≡ i = omega arith in
+      λ t. record { x = (sub-at-least (left + i) left (omega arith) ∙ ap pos a) t; y = subℕ r (getD (f .shear) (m t) 0) }
+
+  pub levelAt-column : (i : ℕ) → i < f .page-w → levelAt f fill page (left + i) r ≡ columnsAt page fill (f .page-w) (f .page-h) (f .shear) r i
+  unfolding levelAt columnAt
+  levelAt-column i l =
+      ap (λ (p : Point). cond (within (f .page-w) (p .x) && within (f .page-h) (p .y)) (getD page (natural (p .y) * f .page-w + natural (p .x)) fill) fill) (mapped i l)
+      ∙ go (getD (f .shear) i 0) (decLe (getD (f .shear) i 0) r)
+    where
+      go : (s : ℕ) → Dec (s ≤ r)
+          → cond (ltb i (f .page-w) && within (f .page-h) (subℕ r s)) (getD page (natural (subℕ r s) * f .page-w + i) fill) fill
+          ≡ cond (leb s r && ltb (r - s) (f .page-h)) (getD page ((r - s) * f .page-w + i) fill) fill
+      go s (yes k) = rw (lt-ltb i (f .page-w) l, le-ltb r s k, le-leb s r k)
+      go s (no k) = rw (lt-ltb i (f .page-w) l, lt-ltb r s (omega arith), lt-leb s r (omega arith))
+
+  abbrev row : ℕ → ℕ
+  row x = levelAt f fill page x r
+
+  -- the row as the code puts it together: added dots, the page's columns, added dots
+  pub row-put : (s a b c : List ℕ) → left + f .page-w ≤ length s → a ≡ table (λ _. fill) left → b ≡ table (columnsAt page fill (f .page-w) (f .page-h) (f .shear) r) (f .page-w)
+      → c ≡ table (λ _. fill) (length s - (left + f .page-w))
+      → putMid (left + f .page-w) (length s - (left + f .page-w)) (putMid left (f .page-w) (putMid 0 left s a) b) c ≡ table row (length s)
+  row-put s a b c k ea eb ec =
+      let w = f .page-w in
+      let n = length s - (left + w) in
+      let one : putMid 0 left s a ≡ table row left ++ drop left s =
+      part-filled row s s a 0 left (unfold table in refl) (ea ∙ table-ext _ _ left (λ i l. sym (levelAt-left (0 + i) (omega arith))))
+      ∙ ap (λ z. table row z ++ drop z s) (let e : 0 + left ≡ left = omega arith in e) in
+      let two : putMid left w (putMid 0 left s a) b ≡ table row (left + w) ++ drop (left + w) s =
+      part-filled row s (putMid 0 left s a) b left w one (eb ∙ table-ext _ _ w (λ i l. sym (levelAt-column i l))) in
+      let three : putMid (left + w) n (putMid left w (putMid 0 left s a) b) c ≡ table row (left + w + n) ++ drop (left + w + n) s =
+      part-filled row s (putMid left w (putMid 0 left s a) b) c (left + w) n two (ec ∙ table-ext _ _ n (λ i l. sym (levelAt-right (left + w + i) (omega arith)))) in
+      table-whole row s _ (left + w + n) three (omega arith)
+
+-- ---- row by row
+pub levelled-row : (f : Frame) (fill : ℕ) (page : List ℕ) (r : ℕ) → table (λ x. levelAt f fill page x r) (f .w) ≡ table (λ i. levelAt f fill page ((r * f .w + i) % f .w) ((r * f .w + i) / f .w)) (f .w)
+levelled-row f fill page r = table-ext _ _ (f .w) (λ i l. (λ t. levelAt f fill page (sym (dot-column (f .w) i r l) t) (sym (dot-row (f .w) i r l) t)))

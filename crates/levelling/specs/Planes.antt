@@ -49,10 +49,15 @@ pub record PlaneFits (f : Frame) (page out : List ℕ) : Type 0 where
 unfoldable pub columnAt : List ℕ → ℕ → ℕ → ℕ → ℕ → ℕ → ℕ → ℕ
 columnAt page fill page-w page-h r s c = cond (leb s r && ltb (r - s) page-h) (getD page ((r - s) * page-w + c) fill) fill
 
--- from each column c on, the shear is the same up to ends[c]
+-- the columns from c up to e move by the same number of rows
+pub record Stretch (shear : List ℕ) (c e : ℕ) : Type 0 where
+  pub some : c < e
+  pub inside : e ≤ length shear
+  pub level : (k : ℕ) → c ≤ k → k < e → getD shear k 0 ≡ getD shear c 0
+
+-- from each column c on, `from` and behind, such a stretch ends at ends[c]
 abbrev pub Stretches : List ℕ → List ℕ → ℕ → Type 0
-Stretches shear ends from = (c : ℕ) → from ≤ c → c < length shear
-    → (c < getD ends c 0) × (getD ends c 0 ≤ length shear) × ((k : ℕ) → c ≤ k → k < getD ends c 0 → getD shear k 0 ≡ getD shear c 0)
+Stretches shear ends from = (c : ℕ) → from ≤ c → c < length shear → Stretch shear c (getD ends c 0)
 
 -- what levelling gives: the applied skew and slope, the frame, the ink in it
 pub record Levelling : Type 0 where
