@@ -3,7 +3,8 @@ use mathlib.Core.Path.{_≡_, refl, sym, ap, _∙_, subst}
 use mathlib.Core.List.{List, _++_}
 use mathlib.Core.Bool.{Bool, true, false, cond, _&&_}
 use Prim.Native.Nat.{ℕ, zero, suc, _+_, _-_, _*_, _/_, _%_, _≤_, _<_, min}
-use native.Mathlib.Nat.{add-assoc}
+use native.Mathlib.Nat.{add-assoc, suc-mul, mul-comm}
+use native.Mathlib.Numerals.{add-one}
 use native.Mathlib.Decide.{decLt, decLe, ℕ-discrete}
 use native.Mathlib.Omega.{arith}
 use borrow.Author.Tests.{lt-ltb, le-ltb, lt-leb, le-leb}
@@ -14,11 +15,11 @@ use borrow.Rule.Slice.PartMut.{putMid}
 use lib.Dec.{ltb, leb}
 use Rattle.memory.specs.Lists.{table}
 use Rattle.memory.specs.Words.{over}
-use Rattle.memory.proofs.TableLaws.{length-table, table-ext, table-whole}
+use Rattle.memory.proofs.TableLaws.{length-table, table-ext, table-whole, table-filled}
 use Rattle.memory.proofs.PartLaws.{over-all, part-is-table, part-filled}
 use Rattle.memory.proofs.PlaneLaws.{row-end, dot-column, dot-row}
 use Rattle.levelling.specs.Shears.{natural}
-use Rattle.levelling.specs.Frames.{Frame}
+use Rattle.levelling.specs.Frames.{Frame, frameOf}
 use Rattle.levelling.specs.declared.Point.{Point}
 use Rattle.levelling.proofs.Integers.{sub-at-least}
 use Rattle.levelling.specs.Mapping.{toPage}
@@ -140,6 +141,38 @@ module _ (f : Frame) (fill : ℕ) (page : List ℕ) (r : ℕ) where
       part-filled row s (putMid left w (putMid 0 left s a) b) c (left + w) n two (ec ∙ table-ext _ _ n (λ i l. sym (levelAt-right (left + w + i) (omega arith)))) in
       table-whole row s _ (left + w + n) three (omega arith)
 
+  -- the same, with the parts' lengths as the code has them
+  pub row-put-by : (s a b c : List ℕ) (la lc n₁ n₂ n₃ : ℕ) → a ≡ table (λ _. fill) la → b ≡ table (columnsAt page fill (f .page-w) (f .page-h) (f .shear) r) (f .page-w) → c ≡ table (λ _. fill) lc
+      → left + f .page-w ≤ length s → la ≡ left → lc ≡ length s - (left + f .page-w)
+      → n₁ ≡ left → n₂ ≡ f .page-w → n₃ ≡ length s - (left + f .page-w)
+      → putMid (left + f .page-w) n₃ (putMid left n₂ (putMid 0 n₁ s a) b) c ≡ table row (length s)
+  row-put-by s a b c la lc n₁ n₂ n₃ ea eb ec k qa qc e₁ e₂ e₃ =
+      (λ t. putMid (left + f .page-w) (e₃ t) (putMid left (e₂ t) (putMid 0 (e₁ t) s a) b) c)
+      ∙ row-put s a b c k (ea ∙ ap (table (λ _. fill)) qa) eb (ec ∙ ap (table (λ _. fill)) qc)
+
 -- ---- row by row
-pub levelled-row : (f : Frame) (fill : ℕ) (page : List ℕ) (r : ℕ) → table (λ x. levelAt f fill page x r) (f .w) ≡ table (λ i. levelAt f fill page ((r * f .w + i) % f .w) ((r * f .w + i) / f .w)) (f .w)
-levelled-row f fill page r = table-ext _ _ (f .w) (λ i l. (λ t. levelAt f fill page (sym (dot-column (f .w) i r l) t) (sym (dot-row (f .w) i r l) t)))
+abbrev pub planeAt : Frame → ℕ → List ℕ → ℕ → ℕ
+planeAt f fill page i = levelAt f fill page (i % f .w) (i / f .w)
+
+-- what lies in the frame does not go by its sides
+levelAt-any-sides : (page-w page-h : ℕ) (shear shear-x : List ℕ) (w h w' h' fill : ℕ) (page : List ℕ) (x r : ℕ)
+    → levelAt (frameOf page-w page-h shear shear-x w' h') fill page x r ≡ levelAt (frameOf page-w page-h shear shear-x w h) fill page x r
+unfolding levelAt toPage
+levelAt-any-sides page-w page-h shear shear-x w h w' h' fill page x r = refl
+
+-- one more row put in, n dots long
+pub rows-put : (page-w page-h : ℕ) (shear shear-x : List ℕ) (w h h' fill : ℕ) (page s out v : List ℕ) (r m n : ℕ)
+    → out ≡ table (planeAt (frameOf page-w page-h shear shear-x w h) fill page) (r * w) ++ drop (r * w) s
+    → v ≡ table (λ x. levelAt (frameOf page-w page-h shear shear-x m h') fill page x r) m → m ≡ w → n ≡ w
+    → putMid (r * w) n out v ≡ table (planeAt (frameOf page-w page-h shear shear-x w h) fill page) ((r + 1) * w) ++ drop ((r + 1) * w) s
+rows-put page-w page-h shear shear-x w h h' fill page s out v r m n o q k e =
+    let f = frameOf page-w page-h shear shear-x w h in
+    (λ t. putMid (r * w) (e t) out v)
+    ∙ (part-filled (planeAt f fill page) s out v (r * w) w o
+    (q ∙ (ap (table _) k ∙ table-ext _ _ w (λ i l. levelAt-any-sides page-w page-h shear shear-x w h m h' fill page i r ∙ (λ t. levelAt f fill page (sym (dot-column w i r l) t) (sym (dot-row w i r l) t)))))
+    ∙ ap (λ z. table (planeAt f fill page) z ++ drop z s) (sym (suc-mul r w) ∙ ap (λ z. z * w) (sym (add-one r))))
+
+pub rows-all : (f : Frame) (fill : ℕ) (page s out : List ℕ) (r : ℕ) → out ≡ table (planeAt f fill page) (r * f .w) ++ drop (r * f .w) s → r ≡ f .h → out ≡ over (levelled f fill page) s
+unfolding levelled
+rows-all f fill page s out r o e =
+    table-filled (planeAt f fill page) s out (levelled f fill page) (r * f .w) (f .w * f .h) o (ap (λ z. z * f .w) e ∙ mul-comm (f .h) (f .w)) refl

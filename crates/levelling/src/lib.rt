@@ -7,6 +7,7 @@ mod shears;
 pub use frame::FrameSize;
 pub use frame::fill_shears;
 pub use frame::frame_size;
+pub use plane::level_plane;
 pub use shears::applied;
 
 // A point in page coordinates. It may lie outside the page, so its coordinates are signed.

@@ -12,7 +12,16 @@ ghost use Rattle.levelling.specs.Frames.{frameOf};
 ghost use Rattle.levelling.specs.Planes.{PlaneFits, Stretch, Stretches, columnAt, levelAt, levelled};
 
 // The columns c, c + 1, .. of frame row r, which all move by s rows.
-fn level_stretch(page: &[u8], fill: u8, page_w: usize, page_h: usize, r: usize, s: usize, c: usize, out: &mut [u8])
+fn level_stretch(
+    page: &[u8],
+    fill: u8,
+    page_w: usize,
+    page_h: usize,
+    r: usize,
+    s: usize,
+    c: usize,
+    out: &mut [u8],
+)
     requires { ⌜ length (now page) ≡ «page_w» * «page_h» ⌝ ∗ ⌜ c + length (now out) ≤ «page_w» ⌝ }
     ensures { λ _. ⌜ now (out .exit) ≡ table (λ i. columnAt (now (page .entry)) fill «page_w» «page_h» r s (c + i)) (length (now (out .entry))) ⌝ }
 {
@@ -56,7 +65,16 @@ fn stretch_ends(shear: &[u32], ends: &mut [u32])
 }
 
 // The page's columns in frame row r.
-fn level_columns(page: &[u8], fill: u8, page_w: usize, page_h: usize, shear: &[u32], ends: &[u32], r: usize, out: &mut [u8])
+fn level_columns(
+    page: &[u8],
+    fill: u8,
+    page_w: usize,
+    page_h: usize,
+    shear: &[u32],
+    ends: &[u32],
+    r: usize,
+    out: &mut [u8],
+)
     requires { ⌜ (length (now page) ≡ «page_w» * «page_h») × (length (now shear) ≡ «page_w») × (length (now out) ≡ «page_w») × («page_w» ≤ length (now ends)) ⌝ ∗ ⌜ Stretches (now shear) (now ends) 0 ⌝ }
     ensures { λ _. ⌜ now (out .exit) ≡ table (λ c. columnAt (now (page .entry)) fill «page_w» «page_h» r (getD (now (shear .entry)) c 0) c) «page_w» ⌝ }
 {
@@ -70,19 +88,49 @@ fn level_columns(page: &[u8], fill: u8, page_w: usize, page_h: usize, shear: &[u
 }
 
 // Frame row r: the page's columns between added dots.
-fn level_row(page: &[u8], fill: u8, page_w: usize, page_h: usize, shear: &[u32], shear_x: &[u32], ends: &[u32], r: usize, out: &mut [u8])
+fn level_row(
+    page: &[u8],
+    fill: u8,
+    page_w: usize,
+    page_h: usize,
+    shear: &[u32],
+    shear_x: &[u32],
+    ends: &[u32],
+    r: usize,
+    out: &mut [u8],
+)
     requires { ⌜ (length (now page) ≡ «page_w» * «page_h») × (length (now shear) ≡ «page_w») × («page_w» ≤ length (now ends)) × (r < length (now «shear_x»)) ⌝ ∗ ⌜ getD (now «shear_x») r 0 + «page_w» ≤ length (now out) ⌝ ∗ ⌜ Stretches (now shear) (now ends) 0 ⌝ }
     ensures { λ _. ⌜ now (out .exit) ≡ table (λ x. levelAt (frameOf «page_w» «page_h» (now (shear .entry)) (now («shear_x» .entry)) (length (now (out .entry))) (length (now («shear_x» .entry)))) fill (now (page .entry)) x r) (length (now (out .entry))) ⌝ }
 {
     let left = shear_x[r] as usize;
     let right = left + page_w;
     fill_bytes(&mut out[0..left], fill);
-    level_columns(page, fill, page_w, page_h, shear, ends, r, &mut out[left..right]);
+    level_columns(
+        page,
+        fill,
+        page_w,
+        page_h,
+        shear,
+        ends,
+        r,
+        &mut out[left..right],
+    );
     fill_bytes(&mut out[right..], fill);
 }
 
 // The rows of the frame, one after the other.
-fn level_rows(page: &[u8], fill: u8, page_w: usize, page_h: usize, shear: &[u32], shear_x: &[u32], ends: &[u32], w: usize, h: usize, out: &mut [u8])
+fn level_rows(
+    page: &[u8],
+    fill: u8,
+    page_w: usize,
+    page_h: usize,
+    shear: &[u32],
+    shear_x: &[u32],
+    ends: &[u32],
+    w: usize,
+    h: usize,
+    out: &mut [u8],
+)
     requires { ⌜ PlaneFits (frameOf «page_w» «page_h» (now shear) (now «shear_x») w h) (now page) (now out) ⌝ ∗ ⌜ «page_w» ≤ length (now ends) ⌝ ∗ ⌜ Stretches (now shear) (now ends) 0 ⌝ }
     ensures { λ _. ⌜ now (out .exit) ≡ over (levelled (frameOf «page_w» «page_h» (now (shear .entry)) (now («shear_x» .entry)) w h) fill (now (page .entry))) (now (out .entry)) ⌝ }
 {
@@ -90,13 +138,33 @@ fn level_rows(page: &[u8], fill: u8, page_w: usize, page_h: usize, shear: &[u32]
     while r < h {
         let a = r * w;
         let b = a + w;
-        level_row(page, fill, page_w, page_h, shear, shear_x, ends, r, &mut out[a..b]);
+        level_row(
+            page,
+            fill,
+            page_w,
+            page_h,
+            shear,
+            shear_x,
+            ends,
+            r,
+            &mut out[a..b],
+        );
         r += 1;
     }
 }
 
 // A page plane moved into the frame of these shears: the ink mask, where added dots are 0, and `level_gray`, where they are 255.
-pub fn level_plane(page: &[u8], fill: u8, page_w: usize, page_h: usize, shear: &[u32], shear_x: &[u32], w: usize, h: usize, out: &mut [u8])
+pub fn level_plane(
+    page: &[u8],
+    fill: u8,
+    page_w: usize,
+    page_h: usize,
+    shear: &[u32],
+    shear_x: &[u32],
+    w: usize,
+    h: usize,
+    out: &mut [u8],
+)
     requires { ⌜ PlaneFits (frameOf «page_w» «page_h» (now shear) (now «shear_x») w h) (now page) (now out) ⌝ ∗ ⌜ «page_w» ≤ maxPageSide ⌝ }
     ensures { λ _. ⌜ now (out .exit) ≡ over (levelled (frameOf «page_w» «page_h» (now (shear .entry)) (now («shear_x» .entry)) w h) fill (now (page .entry))) (now (out .entry)) ⌝ }
 {

@@ -89,8 +89,7 @@ loop-again c = let p = c .before .before .before .before .before .before .before
     let S : Stretch (q .args .shear .now) (p .loop .c) (getD (q .args .ends .now) (p .loop .c) 0) = q .pre .1 (p .loop .c) zero-le (omega arith) in
     let a = q .args in
     let k : length (take (getD (a .ends .now) (p .loop .c) 0 - p .loop .c) (drop (p .loop .c) (p .loop .out))) ≡ getD (a .ends .now) (p .loop .c) 0 - p .loop .c =
-    simp (length-take, length-drop) (omega (arith, S .some, S .inside)) in
-    (
+    simp (length-take, length-drop) (omega (arith, S .some, S .inside)) in (
       omega (arith, S .inside),
       stretch-put (a .page .now) (a .fill) (a .page-w) (a .page-h) (a .shear .now) (a .r) (p .loop .c) (getD (a .ends .now) (p .loop .c) 0) _ (a .out .now) (p .loop .out) _ S k (p .loop .inv .1) (c .before .before .level-stretch .ensures),
       omega arith,

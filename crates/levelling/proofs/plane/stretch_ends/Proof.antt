@@ -45,9 +45,12 @@ loop-less c = omega arith
 -- src/plane.rt:52:5
 loop-again : tie.Need-loop-again Inv-loop μ-loop
 loop-again c = let p = c .before .before .before in
-    let s = p .before .before .before .args .shear .now in
-    (omega arith, stretches-more s (p .loop .ends) (p .loop .c - 1) (c .stretch-end .result) (omega arith)
-    (subst (Stretches s (p .loop .ends)) (let e : p .loop .c ≡ p .loop .c - 1 + 1 = omega arith in e) (p .loop .inv .1)) (c .stretch-end .ensures), simp length-set (p .loop .inv .2))
+    let s = p .before .before .before .args .shear .now in (
+      omega arith,
+      stretches-more s (p .loop .ends) (p .loop .c - 1) (c .stretch-end .result) (omega arith)
+          (subst (Stretches s (p .loop .ends)) (let e : p .loop .c ≡ p .loop .c - 1 + 1 = omega arith in e) (p .loop .inv .1)) (c .stretch-end .ensures),
+      simp length-set (p .loop .inv .2),
+    )
 
 -- src/plane.rt:47:1
 same-length : tie.Need-same-length Inv-loop μ-loop
