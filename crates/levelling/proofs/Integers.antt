@@ -1,9 +1,15 @@
 -- Differences of natural numbers as integers, and the lesser of two integers.
-use mathlib.Core.Path.{_≡_, refl, sym, ap, _∙_}
+use mathlib.Core.Path.{_≡_, refl, sym, ap, _∙_, subst}
+use mathlib.Core.Bool.{Bool, true, false, cond}
 use Prim.Native.Nat.{ℕ, zero, suc, _+_, _-_, _≤_, _<_, min, max}
 use native.Mathlib.Decide.{decLe}
 use native.Mathlib.Omega.{arith}
 use borrow.Author.Tests.{lt-ltb, le-ltb}
+use lib.Dec.{ltb}
+use lib.Signed.{mag}
+use mir.Syntax.{w64}
+use mir.Val.{SFits, toZ, ofZ}
+use mir.ValLaws.{toZ-pos, toZ-ofZ}
 use lib.IntN.{ℤ, pos, negsuc, subℕ, negℤ, natAbs, _-ℤ_, pos-ne-negsuc}
 use Rattle.levelling.specs.Shears.{lesserℤ, natural}
 
@@ -64,3 +70,33 @@ negated-lesser zero zero l = ap pos (let e : min 0 0 ≡ 0 = omega arith in e)
 negated-lesser (suc a) zero l = absurd (omega arith)
 negated-lesser zero (suc b) l = refl
 negated-lesser (suc a) (suc b) l = ap negsuc (let e : max a b ≡ b = omega arith in e)
+
+-- ---- a difference of two words, as the machine has it
+pub natural-sub : (a b : ℕ) → natural (subℕ a b) ≡ a - b
+natural-sub a b = go (decLe b a)
+  where
+    go : Dec (b ≤ a) → natural (subℕ a b) ≡ a - b
+    go (yes l) = ap natural (sub-at-least a b l)
+    go (no l) = rw (lt-ltb a b (omega arith)) (let e : 0 ≡ a - b = omega arith in e)
+
+minus-is-sub : (a b : ℕ) → pos a -ℤ pos b ≡ subℕ a b
+minus-is-sub a zero = (let e : a + 0 ≡ a - 0 = omega arith in ap pos e) ∙ sym (sub-at-least a 0 (omega arith))
+minus-is-sub a (suc b) = refl
+
+module _ (a b : ℕ) (A : a < 4294967296) (B : b < 4294967296) where
+  pub words-difference : toZ w64 a -ℤ toZ w64 b ≡ subℕ a b
+  words-difference = (λ i. toZ-pos w64 a (omega arith) i -ℤ toZ-pos w64 b (omega arith) i) ∙ minus-is-sub a b
+
+  small : mag (subℕ a b) < 9223372036854775808
+  small = go (ltb a b)
+    where
+      go : (t : Bool) → mag (cond t (negsuc (b - suc a)) (pos (a - b))) < 9223372036854775808
+      go true = omega arith
+      go false = omega arith
+
+  pub words-difference-fits : SFits w64 (toZ w64 a -ℤ toZ w64 b)
+  words-difference-fits = subst (SFits w64) (sym words-difference) (record { sfits = small })
+
+  -- kept in a field, it is the same
+  pub words-difference-kept : (z : ℤ) → z ≡ subℕ a b → toZ w64 (ofZ w64 z) ≡ subℕ a b
+  words-difference-kept z e = ap (λ v. toZ w64 (ofZ w64 v)) e ∙ toZ-ofZ w64 (subℕ a b) (record { sfits = small })

@@ -10,3 +10,5 @@ pub mod FrameLaws
 pub mod InverseTheorems
 -- the frame row by row, as the code moves a plane into it
 pub mod RowLaws
+-- points and boxes back on the page, as the code maps them
+pub mod MappingLaws
