@@ -7,9 +7,6 @@ use Rattle.levelling.proofs.SlopeLaws.{unsigned, unsigned-is-magnitude}
 use borrow.Author.Needs.{needs}
 use Rattle.levelling.proofs.shears.applied.Statement.{statement}
 use Rattle.levelling.proofs.shears.applied.Tie as tie
-use Rattle.levelling.proofs.shears.applied.Reads as reads
-use Rattle.levelling.proofs.shears.applied.Lts as lts
-use Rattle.levelling.proofs.shears.unsigned.Reads as unsigned-reads
 
 unsigned-requires : tie.Need-unsigned-requires
 unsigned-requires c κs = search needs

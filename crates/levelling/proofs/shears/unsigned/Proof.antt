@@ -5,8 +5,6 @@ use Rattle.rounding.specs.Rounding.{positiveZero}
 use Rattle.levelling.proofs.SlopeLaws.{unsigned}
 use Rattle.levelling.proofs.shears.unsigned.Statement.{statement}
 use Rattle.levelling.proofs.shears.unsigned.Tie as tie
-use Rattle.levelling.proofs.shears.unsigned.Reads as reads
-use Rattle.levelling.proofs.shears.unsigned.Lts as lts
 
 by-test : (x : Float) (b : Bool) → lt x positiveZero ≡ b → cond b (neg x) x ≡ unsigned x
 by-test x b t = ap (λ s. cond s (neg x) x) (sym t)
