@@ -1,12 +1,12 @@
 -- A page plane moved into the frame (01, part 3). Each frame dot has the page dot that it maps back to; that each page dot is found
 -- where `rowOf` and `columnOf` send it is a law.
-use Prim.Native.Nat.{ℕ, _+_, _-_, _*_, _/_, _%_, _≤_, _<_}
+use Prim.Native.Nat.{ℕ, zero, suc, _+_, _-_, _*_, _/_, _%_, _≤_, _<_}
 use mathlib.Core.Path.{_≡_}
-use mathlib.Core.Bool.{Bool, false, cond, _&&_}
+use mathlib.Core.Bool.{Bool, false, cond, _&&_, _||_}
 use mathlib.Core.List.{List}
 use lib.IntN.{ℤ, pos, negsuc}
 use lib.Ieee.{Float}
-use lib.ListN.{getD, length}
+use lib.ListN.{getD, length, set}
 use lib.Dec.{leb, ltb}
 use Rattle.memory.specs.Lists.{table}
 use Rattle.params.specs.declared.LayoutParams.{LayoutParams}
@@ -43,6 +43,7 @@ pub record PlaneFits (f : Frame) (page out : List ℕ) : Type 0 where
   pub columns : length (f .shear) ≡ f .page-w
   pub rows : length (f .shear-x) ≡ f .h
   pub inside : (r : ℕ) → getD (f .shear-x) r 0 + f .page-w ≤ f .w
+  pub above : (c : ℕ) → getD (f .shear) c 0 + f .page-h ≤ f .h
   pub out-size : f .w * f .h ≤ length out
 
 -- what lies on frame row r in a page column c that moves by s: the rule by column, as the code goes
@@ -58,6 +59,28 @@ pub record Stretch (shear : List ℕ) (c e : ℕ) : Type 0 where
 -- from each column c on, `from` and behind, such a stretch ends at ends[c]
 abbrev pub Stretches : List ℕ → List ℕ → ℕ → Type 0
 Stretches shear ends from = (c : ℕ) → from ≤ c → c < length shear → Stretch shear c (getD ends c 0)
+
+-- the number in a frame w wide of page dot (c, y)
+abbrev pub placeOf : List ℕ → List ℕ → ℕ → ℕ → ℕ → ℕ
+placeOf shear shear-x w y c = (y + getD shear c 0) * w + (c + getD shear-x (y + getD shear c 0) 0)
+
+-- a frame plane with n dots stored at their places
+unfoldable pub moved : (ℕ → ℕ) → (ℕ → ℕ) → ℕ → List ℕ → List ℕ
+moved place dot zero out = out
+moved place dot (suc n) out = set (moved place dot n out) (place n) (dot n)
+
+-- the page with those dots that are done, the others as added dots are
+unfoldable pub shown : (ℕ → Bool) → ℕ → List ℕ → List ℕ
+shown done fill page = table (λ j. cond (done j) (getD page j fill) fill) (length page)
+
+-- those that are done, and those from a up to b
+abbrev pub orRange : (ℕ → Bool) → ℕ → ℕ → ℕ → Bool
+orRange done a b j = done j || (leb a j && ltb j b)
+
+-- those that are done, and the columns c up to c + n of the first rows of a page w wide
+unfoldable pub orRows : (ℕ → Bool) → ℕ → ℕ → ℕ → ℕ → ℕ → Bool
+orRows done w c n zero = done
+orRows done w c n (suc y) = orRange (orRows done w c n y) (y * w + c) (y * w + c + n)
 
 -- what levelling gives: the applied skew and slope, the frame, the ink in it
 pub record Levelling : Type 0 where
