@@ -5,6 +5,7 @@ use mathlib.Core.List.{List, _++_}
 use mathlib.Core.Bool.{Bool, true, false, cond, _&&_, _||_}
 use Prim.Native.Nat.{ℕ, zero, suc, _+_, _-_, _*_, _/_, _%_, _≤_, _<_}
 use native.Mathlib.Nat.{add-zero, add-suc, add-assoc, mod-lt, div-add-mod', div-lt-iff-lt-mul, mul-comm, not-suc-le-zero}
+use native.Mathlib.Numerals.{add-one}
 use native.Mathlib.Decide.{ℕ-discrete, decLt, decLe}
 use native.Mathlib.Omega.{arith}
 use borrow.Author.Tests.{eq-eqb, ne-eqb, lt-ltb, le-ltb, lt-leb, le-leb}
@@ -14,7 +15,7 @@ use lib.Seq.{ext-getD, getD-set-same, getD-set-other, set-append-left}
 use lib.Dec.{ltb, leb, eqb}
 use Rattle.memory.specs.Lists.{table}
 use Rattle.memory.specs.Words.{over}
-use Rattle.memory.proofs.TableLaws.{length-table, getD-table, table-ext}
+use Rattle.memory.proofs.TableLaws.{length-table, getD-table, getD-default, table-ext}
 use Rattle.memory.proofs.PlaneLaws.{dot-column, dot-row, dot-inside}
 use Rattle.levelling.specs.Frames.{Frame, frameOf, rowOf, columnOf}
 use Rattle.levelling.specs.Planes.{levelAt, levelled, PlaneFits, placeOf, moved, shown, orRange, orRows}
@@ -115,3 +116,129 @@ module _ (f : Frame) (fill : ℕ) (p : List ℕ) (c y v : ℕ) (lc : c < f .page
           ∙ (getD-table _ (f .w * f .h) i fill q
           ∙ (elsewhere (i % f .w) (i / f .w) (λ e. ne (sym (div-add-mod' i (f .w)) ∙ (λ t. sym (e .1) t * f .w + sym (e .0) t)))
           ∙ sym (getD-table _ (f .w * f .h) i fill q)))
+
+-- ---- ranges
+range-none : (b : Bool) (a i : ℕ) → (b || (leb a i && ltb i (a + 0))) ≡ b
+range-none true a i = refl
+range-none false a i = go (decLe a i)
+  where
+    go : Dec (a ≤ i) → (leb a i && ltb i (a + 0)) ≡ false
+    go (yes l) = rw (le-leb a i l, le-ltb i (a + 0) (omega arith))
+    go (no l) = rw (lt-leb a i (omega arith))
+
+range-more : (b : Bool) (a n i : ℕ) → ((b || (leb a i && ltb i (a + n))) || eqb i (a + n)) ≡ (b || (leb a i && ltb i (a + suc n)))
+range-more true a n i = refl
+range-more false a n i = go (decLe a i) (decLt i (a + n)) (ℕ-discrete i (a + n))
+  where
+    go : Dec (a ≤ i) → Dec (i < a + n) → Dec (i ≡ a + n) → ((leb a i && ltb i (a + n)) || eqb i (a + n)) ≡ (leb a i && ltb i (a + suc n))
+    go (no l) k e = rw (lt-leb a i (omega arith), ne-eqb i (a + n) (λ q. omega arith))
+    go (yes l) (yes k) e = rw (le-leb a i l, lt-ltb i (a + n) k, lt-ltb i (a + suc n) (omega arith))
+    go (yes l) (no k) (yes e) = rw (le-leb a i l, le-ltb i (a + n) (omega arith), eq-eqb i (a + n) e, lt-ltb i (a + suc n) (omega arith))
+    go (yes l) (no k) (no e) = rw (le-leb a i l, le-ltb i (a + n) (omega arith), ne-eqb i (a + n) e, le-ltb i (a + suc n) (omega arith))
+
+in-range : (b : Bool) (a n i : ℕ) → a ≤ i → i < n → (b || (leb a i && ltb i n)) ≡ true
+in-range true a n i l k = refl
+in-range false a n i l k = rw (le-leb a i l, lt-ltb i n k)
+
+kept : (b c : Bool) → b ≡ true → (b || c) ≡ true
+kept b c e = ap (λ t. t || c) e
+
+-- ---- the dots of a part of a page row moved to their places
+pub moved-count : (place dot : ℕ → ℕ) (n m : ℕ) (out : List ℕ) → n ≡ m → moved place dot n out ≡ moved place dot m out
+moved-count place dot n m out e = ap (λ k. moved place dot k out) e
+
+pub moved-more : (place dot : ℕ → ℕ) (n : ℕ) (out now : List ℕ) → now ≡ moved place dot n out → set now (place n) (dot n) ≡ moved place dot (n + 1) out
+unfolding moved
+moved-more place dot n out now e = ap (λ l. set l (place n) (dot n)) e ∙ ap (λ k. moved place dot k out) (sym (add-one n))
+
+over-set : (l s : List ℕ) (k v : ℕ) → k < length l → set (over l s) k v ≡ over (set l k v) s
+over-set l s k v h = set-append-left l (drop (length l) s) k v h ∙ ap (λ n. set l k v ++ drop n s) (sym (length-set l k v))
+
+module _ (page-w page-h : ℕ) (shear shear-x : List ℕ) (w h fill : ℕ) (page : List ℕ) (out : List ℕ) (fits : PlaneFits (frameOf page-w page-h shear shear-x w h) page out) where
+  abbrev F : Frame
+  F = frameOf page-w page-h shear shear-x w h
+
+  -- the frame with those dots that are done, over the front of s
+  abbrev pub Doing : (ℕ → Bool) → List ℕ → List ℕ
+  Doing done s = over (levelled F fill (shown done fill page)) s
+
+  dot-moved : (done : ℕ → Bool) (s : List ℕ) (y c : ℕ) → y < page-h → c < page-w
+      → set (Doing done s) (placeOf shear shear-x w y c) (getD page (y * page-w + c) fill) ≡ Doing (λ i. done i || eqb i (y * page-w + c)) s
+  unfolding rowOf columnOf
+  dot-moved done s y c ly lc =
+      let p = shown done fill page in
+      let lp : length p ≡ page-w * page-h = length-shown done fill page ∙ fits .page-size in
+      let lx : columnOf F c y < w = (let e = fits .inside (y + getD shear c 0) in omega arith) in
+      let lr : rowOf F c y < h = (let e = fits .above c in omega arith) in
+      over-set (levelled F fill p) s (placeOf shear shear-x w y c) _ (omega (arith, length-levelled F fill p, dot-inside w h (columnOf F c y) (rowOf F c y) lx lr))
+      ∙ ap (λ l. over l s)
+      (levelled-set F fill p c y (getD page (y * page-w + c) fill) lc ly lp lx lr
+      ∙ ap (levelled F fill) (shown-set done fill page (y * page-w + c) (omega (arith, fits .page-size, dot-inside page-w page-h c y lc ly))))
+
+  pub part-moved : (done : ℕ → Bool) (s : List ℕ) (y c n : ℕ) → y < page-h → c + n ≤ page-w
+      → moved (λ i. placeOf shear shear-x w y (c + i)) (λ i. getD page (y * page-w + (c + i)) 0) n (Doing done s) ≡ Doing (orRange done (y * page-w + c) (y * page-w + c + n)) s
+  unfolding moved
+  part-moved done s y c zero ly l = ap (λ p. over (levelled F fill p) s) (shown-ext _ _ fill page (λ j k. sym (range-none (done j) (y * page-w + c) j)))
+  part-moved done s y c (suc n) ly l =
+      let a = y * page-w + c in
+      let q : c + n < page-w = omega arith in
+      let e : y * page-w + (c + n) ≡ a + n = sym (add-assoc (y * page-w) c n) in
+      let k : y * page-w + (c + n) < length page = omega (arith, fits .page-size, dot-inside page-w page-h (c + n) y q ly) in
+      (λ t. set (part-moved done s y c n ly (omega arith) t) (placeOf shear shear-x w y (c + n)) (getD-default page (y * page-w + (c + n)) 0 fill k t))
+      ∙ (dot-moved (orRange done a (a + n)) s y (c + n) ly q
+      ∙ ap (λ p. over (levelled F fill p) s) (shown-ext _ _ fill page (λ j m. ap (λ z. orRange done a (a + n) j || eqb j z) e ∙ range-more (done j) a n j)))
+
+  -- a part that holds only added dots' value is done as it stands
+  pub part-skipped : (done : ℕ → Bool) (s : List ℕ) (y c n : ℕ) → y < page-h → c + n ≤ page-w → ((i : ℕ) → i < n → getD page (y * page-w + (c + i)) 0 ≡ fill)
+      → Doing done s ≡ Doing (orRange done (y * page-w + c) (y * page-w + c + n)) s
+  part-skipped done s y c n ly l h = ap (λ p. over (levelled F fill p) s) (shown-blank _ _ fill page (λ j k. at j k (decLe a j) (decLt j (a + n))))
+    where
+      a : ℕ
+      a = y * page-w + c
+
+      or-false : (b : Bool) → b ≡ (b || false)
+      or-false true = refl
+      or-false false = refl
+
+      at : (j : ℕ) → j < length page → Dec (a ≤ j) → Dec (j < a + n) → (done j ≡ orRange done a (a + n) j) ⊎ (getD page j fill ≡ fill)
+      at j k (yes u) (yes v) =
+          let e : y * page-w + (c + (j - a)) ≡ j = sym (add-assoc (y * page-w) c (j - a)) ∙ (let z : a + (j - a) ≡ j = omega arith in z) in
+          inr (getD-default page j fill 0 k ∙ (ap (λ z. getD page z 0) (sym e) ∙ h (j - a) (omega arith)))
+      at j k (no u) v = inl (or-false (done j) ∙ ap (λ b. done j || b) (sym (rw (lt-leb a j (omega arith)))))
+      at j k (yes u) (no v) = inl (or-false (done j) ∙ ap (λ b. done j || b) (sym (rw (le-leb a j u, le-ltb j (a + n) (omega arith)))))
+
+  -- at first none is done
+  pub none-done : table (λ _. fill) (w * h) ≡ levelled F fill (shown (λ _. false) fill page)
+  unfolding levelled
+  none-done = table-ext _ _ (w * h) (λ i l. sym (at (added-or-source F (i % w) (i / w))))
+    where
+      at : {x y : ℕ} → ((fill : ℕ) (page : List ℕ) → levelAt F fill page x y ≡ fill) ⊎ Source F x y → levelAt F fill (shown (λ _. false) fill page) x y ≡ fill
+      at (inl e) = e fill (shown (λ _. false) fill page)
+      at (inr S) = S .value fill (shown (λ _. false) fill page) ∙ blank (S .r * page-w + S .c) (omega (arith, fits .page-size, dot-inside page-w page-h (S .c) (S .r) (S .c-in) (S .r-in)))
+        where
+          blank : (j : ℕ) → j < length page → getD (shown (λ _. false) fill page) j fill ≡ fill
+          blank j l = unfold shown in getD-table _ (length page) j fill l
+
+  -- at last all are
+  pub all-done : (done : ℕ → Bool) (s : List ℕ) → 0 < page-w → ((y c : ℕ) → y < page-h → c < page-w → done (y * page-w + c) ≡ true) → Doing done s ≡ over (levelled F fill page) s
+  all-done done s wide d = ap (λ p. over (levelled F fill p) s) (shown-all done fill page (λ j l. subst (λ i. done i ≡ true) (div-add-mod' j page-w) (d (j / page-w) (j % page-w) (row j l) (mod-lt j wide))))
+    where
+      row : (j : ℕ) → j < length page → j / page-w < page-h
+      row j l = div-lt-iff-lt-mul wide .1 (omega (arith, fits .page-size, mul-comm page-w page-h))
+
+-- ---- a tile, row by row
+pub rows-keep : (done : ℕ → Bool) (w c n y j : ℕ) → done j ≡ true → orRows done w c n y j ≡ true
+unfolding orRows
+rows-keep done w c n zero j e = e
+rows-keep done w c n (suc y) j e = kept (orRows done w c n y j) _ (rows-keep done w c n y j e)
+
+pub rows-cover : (done : ℕ → Bool) (w c n y r k : ℕ) → r < y → c ≤ k → k < c + n → orRows done w c n y (r * w + k) ≡ true
+unfolding orRows
+rows-cover done w c n zero r k l a b = absurd (not-suc-le-zero l)
+rows-cover done w c n (suc y) r k l a b = go (ℕ-discrete r y) (λ q. rows-cover done w c n y r k q a b)
+  where
+    go : Dec (r ≡ y) → (r < y → orRows done w c n y (r * w + k) ≡ true) → orRange (orRows done w c n y) (y * w + c) (y * w + c + n) (r * w + k) ≡ true
+    go (yes e) ih =
+        let q : r * w ≡ y * w = ap (λ z. z * w) e in
+        in-range (orRows done w c n y (r * w + k)) (y * w + c) (y * w + c + n) (r * w + k) (omega arith) (omega arith)
+    go (no e) ih = kept (orRows done w c n y (r * w + k)) _ (ih (omega arith))

@@ -4,6 +4,7 @@ mod frame;
 mod mapping;
 mod plane;
 mod shears;
+mod tiles;
 
 pub use frame::FrameSize;
 pub use frame::fill_shears;
