@@ -10,15 +10,15 @@ use native.Mathlib.Decide.{ℕ-discrete, decLt, decLe}
 use native.Mathlib.Omega.{arith}
 use borrow.Author.Tests.{eq-eqb, ne-eqb, lt-ltb, le-ltb, lt-leb, le-leb}
 use borrow.Rule.Slice.PartMut.{putMid}
-use lib.ListN.{getD, length, drop, set, length-set}
-use lib.Seq.{ext-getD, getD-set-same, getD-set-other, set-append-left}
+use lib.ListN.{getD, length, take, drop, set, length-set, length-take, length-drop}
+use lib.Seq.{ext-getD, getD-set-same, getD-set-other, getD-take, getD-drop, set-append-left}
 use lib.Dec.{ltb, leb, eqb}
 use Rattle.memory.specs.Lists.{table}
 use Rattle.memory.specs.Words.{over}
 use Rattle.memory.proofs.TableLaws.{length-table, getD-table, getD-default, table-ext}
 use Rattle.memory.proofs.PlaneLaws.{dot-column, dot-row, dot-inside}
 use Rattle.levelling.specs.Frames.{Frame, frameOf, rowOf, columnOf}
-use Rattle.levelling.specs.Planes.{levelAt, levelled, PlaneFits, placeOf, moved, shown, orRange, orRows}
+use Rattle.levelling.specs.Planes.{levelAt, levelled, PlaneFits, placeOf, moved, shown, partly, orRange, orRows}
 use Rattle.levelling.proofs.InverseTheorems.{Source, added-or-source, mapped-point-is-place, levelAt-place, length-levelled}
 
 -- ---- the page with some dots done
@@ -158,12 +158,8 @@ module _ (page-w page-h : ℕ) (shear shear-x : List ℕ) (w h fill : ℕ) (page
   abbrev F : Frame
   F = frameOf page-w page-h shear shear-x w h
 
-  -- the frame with those dots that are done, over the front of s
-  abbrev pub Doing : (ℕ → Bool) → List ℕ → List ℕ
-  Doing done s = over (levelled F fill (shown done fill page)) s
-
   dot-moved : (done : ℕ → Bool) (s : List ℕ) (y c : ℕ) → y < page-h → c < page-w
-      → set (Doing done s) (placeOf shear shear-x w y c) (getD page (y * page-w + c) fill) ≡ Doing (λ i. done i || eqb i (y * page-w + c)) s
+      → set (partly F fill page done s) (placeOf shear shear-x w y c) (getD page (y * page-w + c) fill) ≡ partly F fill page (λ i. done i || eqb i (y * page-w + c)) s
   unfolding rowOf columnOf
   dot-moved done s y c ly lc =
       let p = shown done fill page in
@@ -176,7 +172,7 @@ module _ (page-w page-h : ℕ) (shear shear-x : List ℕ) (w h fill : ℕ) (page
       ∙ ap (levelled F fill) (shown-set done fill page (y * page-w + c) (omega (arith, fits .page-size, dot-inside page-w page-h c y lc ly))))
 
   pub part-moved : (done : ℕ → Bool) (s : List ℕ) (y c n : ℕ) → y < page-h → c + n ≤ page-w
-      → moved (λ i. placeOf shear shear-x w y (c + i)) (λ i. getD page (y * page-w + (c + i)) 0) n (Doing done s) ≡ Doing (orRange done (y * page-w + c) (y * page-w + c + n)) s
+      → moved (λ i. placeOf shear shear-x w y (c + i)) (λ i. getD page (y * page-w + (c + i)) 0) n (partly F fill page done s) ≡ partly F fill page (orRange done (y * page-w + c) (y * page-w + c + n)) s
   unfolding moved
   part-moved done s y c zero ly l = ap (λ p. over (levelled F fill p) s) (shown-ext _ _ fill page (λ j k. sym (range-none (done j) (y * page-w + c) j)))
   part-moved done s y c (suc n) ly l =
@@ -190,7 +186,7 @@ module _ (page-w page-h : ℕ) (shear shear-x : List ℕ) (w h fill : ℕ) (page
 
   -- a part that holds only added dots' value is done as it stands
   pub part-skipped : (done : ℕ → Bool) (s : List ℕ) (y c n : ℕ) → y < page-h → c + n ≤ page-w → ((i : ℕ) → i < n → getD page (y * page-w + (c + i)) 0 ≡ fill)
-      → Doing done s ≡ Doing (orRange done (y * page-w + c) (y * page-w + c + n)) s
+      → partly F fill page done s ≡ partly F fill page (orRange done (y * page-w + c) (y * page-w + c + n)) s
   part-skipped done s y c n ly l h = ap (λ p. over (levelled F fill p) s) (shown-blank _ _ fill page (λ j k. at j k (decLe a j) (decLt j (a + n))))
     where
       a : ℕ
@@ -207,6 +203,16 @@ module _ (page-w page-h : ℕ) (shear shear-x : List ℕ) (w h fill : ℕ) (page
       at j k (no u) v = inl (or-false (done j) ∙ ap (λ b. done j || b) (sym (rw (lt-leb a j (omega arith)))))
       at j k (yes u) (no v) = inl (or-false (done j) ∙ ap (λ b. done j || b) (sym (rw (le-leb a j u, le-ltb j (a + n) (omega arith)))))
 
+  -- one more row of a tile
+  pub row-moved : (done : ℕ → Bool) (s out now : List ℕ) (y c n : ℕ) → y < page-h → c + n ≤ page-w → out ≡ partly F fill page (orRows done page-w c n y) s
+      → (now ≡ moved (λ i. placeOf shear shear-x w y (c + i)) (λ i. getD page (y * page-w + (c + i)) 0) n out) ⊎ (((i : ℕ) → i < n → getD page (y * page-w + (c + i)) 0 ≡ fill) × (now ≡ out))
+      → now ≡ partly F fill page (orRows done page-w c n (y + 1)) s
+  unfolding orRows
+  row-moved done s out now y c n ly l o (inl e) =
+      e ∙ (ap (moved _ _ n) o ∙ (part-moved (orRows done page-w c n y) s y c n ly l ∙ ap (λ k. partly F fill page (orRows done page-w c n k) s) (sym (add-one y))))
+  row-moved done s out now y c n ly l o (inr e) =
+      e .1 ∙ (o ∙ (part-skipped (orRows done page-w c n y) s y c n ly l (e .0) ∙ ap (λ k. partly F fill page (orRows done page-w c n k) s) (sym (add-one y))))
+
   -- at first none is done
   pub none-done : table (λ _. fill) (w * h) ≡ levelled F fill (shown (λ _. false) fill page)
   unfolding levelled
@@ -220,11 +226,19 @@ module _ (page-w page-h : ℕ) (shear shear-x : List ℕ) (w h fill : ℕ) (page
           blank j l = unfold shown in getD-table _ (length page) j fill l
 
   -- at last all are
-  pub all-done : (done : ℕ → Bool) (s : List ℕ) → 0 < page-w → ((y c : ℕ) → y < page-h → c < page-w → done (y * page-w + c) ≡ true) → Doing done s ≡ over (levelled F fill page) s
+  pub all-done : (done : ℕ → Bool) (s : List ℕ) → 0 < page-w → ((y c : ℕ) → y < page-h → c < page-w → done (y * page-w + c) ≡ true) → partly F fill page done s ≡ over (levelled F fill page) s
   all-done done s wide d = ap (λ p. over (levelled F fill p) s) (shown-all done fill page (λ j l. subst (λ i. done i ≡ true) (div-add-mod' j page-w) (d (j / page-w) (j % page-w) (row j l) (mod-lt j wide))))
     where
       row : (j : ℕ) → j < length page → j / page-w < page-h
       row j l = div-lt-iff-lt-mul wide .1 (omega (arith, fits .page-size, mul-comm page-w page-h))
+
+-- ---- a part that holds one value
+pub part-all : (page : List ℕ) (v b c n : ℕ) → b + c + n ≤ length page → ((i : ℕ) → i < length (take (b + c + n - (b + c)) (drop (b + c) page)) → getD (take (b + c + n - (b + c)) (drop (b + c) page)) i 0 ≡ v)
+    → (i : ℕ) → i < n → getD page (b + (c + i)) 0 ≡ v
+part-all page v b c n l h i k =
+    ap (λ z. getD page z 0) (sym (add-assoc b c i))
+    ∙ (sym (getD-take (b + c + n - (b + c)) (drop (b + c) page) i 0 (omega arith) ∙ getD-drop (b + c) page i 0)
+    ∙ h i (simp (length-take, length-drop) (omega arith)))
 
 -- ---- a tile, row by row
 pub rows-keep : (done : ℕ → Bool) (w c n y j : ℕ) → done j ≡ true → orRows done w c n y j ≡ true

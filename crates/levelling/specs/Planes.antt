@@ -9,6 +9,7 @@ use lib.Ieee.{Float}
 use lib.ListN.{getD, length, set}
 use lib.Dec.{leb, ltb}
 use Rattle.memory.specs.Lists.{table}
+use Rattle.memory.specs.Words.{over}
 use Rattle.params.specs.declared.LayoutParams.{LayoutParams}
 use Rattle.levelling.specs.Shears.{applied, natural}
 use Rattle.levelling.specs.Frames.{Frame, frame}
@@ -72,6 +73,10 @@ moved place dot (suc n) out = set (moved place dot n out) (place n) (dot n)
 -- the page with those dots that are done, the others as added dots are
 unfoldable pub shown : (ℕ → Bool) → ℕ → List ℕ → List ℕ
 shown done fill page = table (λ j. cond (done j) (getD page j fill) fill) (length page)
+
+-- the frame of those dots, over the front of s
+abbrev pub partly : Frame → ℕ → List ℕ → (ℕ → Bool) → List ℕ → List ℕ
+partly f fill page done s = over (levelled f fill (shown done fill page)) s
 
 -- those that are done, and those from a up to b
 abbrev pub orRange : (ℕ → Bool) → ℕ → ℕ → ℕ → Bool
