@@ -4,7 +4,7 @@ use mathlib.Core.Logic.{_⊎_, inl, inr}
 use mathlib.Core.List.{List, _++_}
 use mathlib.Core.Bool.{Bool, true, false, cond, _&&_, _||_}
 use Prim.Native.Nat.{ℕ, zero, suc, _+_, _-_, _*_, _/_, _%_, _≤_, _<_}
-use native.Mathlib.Nat.{add-zero, add-suc, add-assoc, mod-lt, div-add-mod', div-lt-iff-lt-mul, mul-comm, not-suc-le-zero}
+use native.Mathlib.Nat.{add-zero, add-suc, add-assoc, mod-lt, div-add-mod', div-lt-iff-lt-mul, mul-comm, zero-mul, not-suc-le-zero}
 use native.Mathlib.Numerals.{add-one}
 use native.Mathlib.Decide.{ℕ-discrete, decLt, decLe}
 use native.Mathlib.Omega.{arith}
@@ -226,11 +226,17 @@ module _ (page-w page-h : ℕ) (shear shear-x : List ℕ) (w h fill : ℕ) (page
           blank j l = unfold shown in getD-table _ (length page) j fill l
 
   -- at last all are
-  pub all-done : (done : ℕ → Bool) (s : List ℕ) → 0 < page-w → ((y c : ℕ) → y < page-h → c < page-w → done (y * page-w + c) ≡ true) → partly F fill page done s ≡ over (levelled F fill page) s
-  all-done done s wide d = ap (λ p. over (levelled F fill p) s) (shown-all done fill page (λ j l. subst (λ i. done i ≡ true) (div-add-mod' j page-w) (d (j / page-w) (j % page-w) (row j l) (mod-lt j wide))))
+  pub all-done : (done : ℕ → Bool) (s : List ℕ) → ((y c : ℕ) → y < page-h → c < page-w → done (y * page-w + c) ≡ true) → partly F fill page done s ≡ over (levelled F fill page) s
+  all-done done s d =
+      ap (λ p. over (levelled F fill p) s)
+      (shown-all done fill page (λ j l. subst (λ i. done i ≡ true) (div-add-mod' j page-w) (d (j / page-w) (j % page-w) (row j l) (mod-lt j (wide page-w j (omega (arith, fits .page-size)))))))
     where
+      wide : (w j : ℕ) → j < w * page-h → 0 < w
+      wide zero j l = absurd (omega (arith, zero-mul page-h))
+      wide (suc w) j l = omega arith
+
       row : (j : ℕ) → j < length page → j / page-w < page-h
-      row j l = div-lt-iff-lt-mul wide .1 (omega (arith, fits .page-size, mul-comm page-w page-h))
+      row j l = div-lt-iff-lt-mul (wide page-w j (omega (arith, fits .page-size))) .1 (omega (arith, fits .page-size, mul-comm page-w page-h))
 
 -- ---- a part that holds one value
 pub part-all : (page : List ℕ) (v b c n : ℕ) → b + c + n ≤ length page → ((i : ℕ) → i < length (take (b + c + n - (b + c)) (drop (b + c) page)) → getD (take (b + c + n - (b + c)) (drop (b + c) page)) i 0 ≡ v)
@@ -256,3 +262,48 @@ rows-cover done w c n (suc y) r k l a b = go (ℕ-discrete r y) (λ q. rows-cove
         let q : r * w ≡ y * w = ap (λ z. z * w) e in
         in-range (orRows done w c n y (r * w + k)) (y * w + c) (y * w + c + n) (r * w + k) (omega arith) (omega arith)
     go (no e) ih = kept (orRows done w c n y (r * w + k)) _ (ih (omega arith))
+
+-- the lengths fit for the frame's height by its table too, and for another plane as long
+pub fits-again : (page-w page-h : ℕ) (shear shear-x : List ℕ) (w h : ℕ) (page s out : List ℕ) → PlaneFits (frameOf page-w page-h shear shear-x w h) page s → length out ≡ length s
+    → PlaneFits (frameOf page-w page-h shear shear-x w (length shear-x)) page out
+fits-again page-w page-h shear shear-x w h page s out F e =
+    record {
+      page-size = F .page-size;
+      columns = F .columns;
+      rows = refl;
+      inside = F .inside;
+      above = λ c. (let a = F .above c in let r = F .rows in omega arith);
+      out-size = (let o = F .out-size in let k : w * length shear-x ≡ w * h = ap (λ z. w * z) (F .rows) in omega arith);
+    }
+
+-- ---- tile by tile: what the columns before c hold
+pub record Tiled (f : Frame) (fill : ℕ) (page before out : List ℕ) (c : ℕ) : Type 0 where
+  pub done : ℕ → Bool
+  pub covered : (y k : ℕ) → y < f .page-h → k < c → done (y * f .page-w + k) ≡ true
+  pub holds : (s : List ℕ) → before ≡ partly f fill page (λ _. false) s → out ≡ partly f fill page done s
+
+pub tiled-none : (f : Frame) (fill : ℕ) (page out : List ℕ) → Tiled f fill page out out 0
+tiled-none f fill page out = record { done = λ _. false; covered = λ y k l m. absurd (not-suc-le-zero m); holds = λ s e. e }
+
+pub tiled-more : (f : Frame) (fill : ℕ) (page before out now : List ℕ) (c n : ℕ) → Tiled f fill page before out c
+    → ((done : ℕ → Bool) (s : List ℕ) → out ≡ partly f fill page done s → now ≡ partly f fill page (orRows done (f .page-w) c n (f .page-h)) s) → Tiled f fill page before now (c + n)
+tiled-more f fill page before out now c n T h =
+    record {
+      done = orRows (T .done) (f .page-w) c n (f .page-h);
+      covered = λ y k l m. at y k l m (decLt k c);
+      holds = λ s e. h (T .done) s (T .holds s e);
+    }
+  where
+    at : (y k : ℕ) → y < f .page-h → k < c + n → Dec (k < c) → orRows (T .done) (f .page-w) c n (f .page-h) (y * f .page-w + k) ≡ true
+    at y k l m (yes q) = rows-keep (T .done) (f .page-w) c n (f .page-h) (y * f .page-w + k) (T .covered y k l q)
+    at y k l m (no q) = rows-cover (T .done) (f .page-w) c n (f .page-h) y k l (omega arith) m
+
+-- a frame plane filled first, then moved tile by tile, is the levelled page
+pub tiled-all : (page-w page-h : ℕ) (shear shear-x : List ℕ) (w h fill : ℕ) (page s v before out : List ℕ) (c m n : ℕ) → PlaneFits (frameOf page-w page-h shear shear-x w h) page s
+    → before ≡ putMid 0 n s v → v ≡ table (λ _. fill) m → m ≡ w * h → n ≡ w * h → Tiled (frameOf page-w page-h shear shear-x w h) fill page before out c → c ≡ page-w
+    → out ≡ over (levelled (frameOf page-w page-h shear shear-x w h) fill page) s
+tiled-all page-w page-h shear shear-x w h fill page s v before out c m n fits b q k e T g =
+    let F = frameOf page-w page-h shear shear-x w h in
+    let filled : v ≡ levelled F fill (shown (λ _. false) fill page) = q ∙ (ap (table (λ _. fill)) k ∙ none-done page-w page-h shear shear-x w h fill page s fits) in
+    T .holds s (b ∙ (λ t. putMid 0 (e t) s (filled t)) ∙ ap (λ z. levelled F fill (shown (λ _. false) fill page) ++ drop z s) (sym (length-levelled F fill (shown (λ _. false) fill page))))
+    ∙ all-done page-w page-h shear shear-x w h fill page s fits (T .done) s (λ y k l m. T .covered y k l (omega arith))
