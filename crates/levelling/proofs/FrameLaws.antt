@@ -3,6 +3,7 @@
 --   shear-steps, shear-x-steps      each shear runs one way, by at most one from entry to entry
 --   frame-height, frame-width       the frame is the page and the last drift's size
 --   frame-fits                      so it is never larger than document 01's limits
+--   frame-plane-fits                a page plane can be moved into it
 use mathlib.Core.Path.{_≡_, refl, sym, ap, _∙_, subst}
 use mathlib.Core.List.{List}
 use mathlib.Core.Bool.{Bool, true, false, not, cond, _&&_, _||_}
@@ -21,9 +22,10 @@ use Rattle.rounding.specs.Drift.{drift, driftX}
 use Rattle.rounding.proofs.Signs.{negative}
 use Rattle.rounding.proofs.DriftLaws.{WithinOne, signed, drift-signed, drift-within, drift-rises, drift-step, drift-negated, driftX-is-drift}
 use Rattle.levelling.specs.Shears.{shearOf}
-use Rattle.levelling.specs.Frames.{PageSides, frame}
+use Rattle.levelling.specs.Frames.{PageSides, frame, frameOf}
+use Rattle.levelling.specs.Planes.{PlaneFits}
 use Rattle.levelling.proofs.SlopeLaws.{driftSize, entryBy, unsigned, unsigned-size, drift-by-test, within-negated, size-negated, negative-negated}
-use Rattle.levelling.proofs.ShearLaws.{shearEntry, OneWay, shear-one-way, greatest-one-way, Steps, steps-one-way}
+use Rattle.levelling.proofs.ShearLaws.{shearEntry, OneWay, shear-one-way, greatest-one-way, greatest-bounds, Steps, steps-one-way}
 
 -- ---- drifts run one way
 pub drifts-one-way : (slope : Float) → WithinOne slope → (s : Bool) (n : ℕ) → 0 < n → n ≤ 2 ^ 15 → ((c : ℕ) → c < n → drift slope c ≡ signed s (driftSize slope c)) → OneWay (drift slope) s (driftSize slope) n
@@ -148,3 +150,19 @@ module _ (w h : ℕ) (slope : Float) (sides : PageSides w h) (one : WithinOne sl
 
   pub length-shears : (length (frame w h slope .shear) ≡ w) × (length (frame w h slope .shear-x) ≡ frame w h slope .h)
   length-shears = (ap length shear-closed ∙ length-table _ w, ap length shear-x-closed ∙ length-table _ (frame w h slope .h))
+
+  -- what `level_plane` is handed, for a page and a frame plane of these sides
+  pub frame-plane-fits : (page out : List ℕ) → length page ≡ w * h → frame w h slope .w * frame w h slope .h ≤ length out → PlaneFits (frame w h slope) page out
+  frame-plane-fits page out e o =
+      record {
+        page-size = unfold frame in e;
+        columns = length-shears .0 ∙ (unfold frame in refl);
+        rows = length-shears .1;
+        inside = λ r. (let b = greatest-bounds (frame w h slope .shear-x) r in unfold frame in omega arith);
+        above = λ c. (let b = greatest-bounds (frame w h slope .shear) c in unfold frame in omega arith);
+        out-size = o;
+      }
+
+  pub frame-is-frameOf : frame w h slope ≡ frameOf w h (frame w h slope .shear) (frame w h slope .shear-x) (frame w h slope .w) (frame w h slope .h)
+  unfolding frame
+  frame-is-frameOf = refl

@@ -4,6 +4,7 @@ mod frame;
 mod mapping;
 mod plane;
 mod shears;
+mod stretches;
 mod tiles;
 
 pub use frame::FrameSize;

@@ -28,7 +28,17 @@ fn all_equal(part: &[u8], v: u8) -> bool
 }
 
 // n dots of page row y, from column c on, to their places.
-fn move_dots(page: &[u8], page_w: usize, shear: &[u32], shear_x: &[u32], w: usize, y: usize, c: usize, n: usize, out: &mut [u8])
+fn move_dots(
+    page: &[u8],
+    page_w: usize,
+    shear: &[u32],
+    shear_x: &[u32],
+    w: usize,
+    y: usize,
+    c: usize,
+    n: usize,
+    out: &mut [u8],
+)
     requires { ⌜ (c + n ≤ length (now shear)) × (y * «page_w» + (c + n) ≤ length (now page)) × (w * length (now «shear_x») ≤ length (now out)) ⌝ ∗ ⌜ ((k : ℕ) → y + getD (now shear) k 0 < length (now «shear_x»)) ⌝ ∗ ⌜ ((r : ℕ) → getD (now «shear_x») r 0 + length (now shear) ≤ w) ⌝ }
     ensures { λ _. ⌜ now (out .exit) ≡ moved (λ i. placeOf (now (shear .entry)) (now («shear_x» .entry)) w y (c + i)) (λ i. getD (now (page .entry)) (y * «page_w» + (c + i)) 0) n (now (out .entry)) ⌝ }
 {
@@ -44,7 +54,18 @@ fn move_dots(page: &[u8], page_w: usize, shear: &[u32], shear_x: &[u32], w: usiz
 }
 
 // The same, but dots that are all as added dots are lie at their places already.
-fn move_part(page: &[u8], fill: u8, page_w: usize, shear: &[u32], shear_x: &[u32], w: usize, y: usize, c: usize, n: usize, out: &mut [u8])
+fn move_part(
+    page: &[u8],
+    fill: u8,
+    page_w: usize,
+    shear: &[u32],
+    shear_x: &[u32],
+    w: usize,
+    y: usize,
+    c: usize,
+    n: usize,
+    out: &mut [u8],
+)
     requires { ⌜ (c + n ≤ length (now shear)) × (y * «page_w» + (c + n) ≤ length (now page)) × (w * length (now «shear_x») ≤ length (now out)) ⌝ ∗ ⌜ ((k : ℕ) → y + getD (now shear) k 0 < length (now «shear_x»)) ⌝ ∗ ⌜ ((r : ℕ) → getD (now «shear_x») r 0 + length (now shear) ≤ w) ⌝ }
     ensures { λ _. ⌜ (now (out .exit) ≡ moved (λ i. placeOf (now (shear .entry)) (now («shear_x» .entry)) w y (c + i)) (λ i. getD (now (page .entry)) (y * «page_w» + (c + i)) 0) n (now (out .entry))) ⊎ (((i : ℕ) → i < n → getD (now (page .entry)) (y * «page_w» + (c + i)) 0 ≡ fill) × (now (out .exit) ≡ now (out .entry))) ⌝ }
 {
@@ -57,7 +78,18 @@ fn move_part(page: &[u8], fill: u8, page_w: usize, shear: &[u32], shear_x: &[u32
 }
 
 // The tile of n columns from c on.
-fn move_tile(page: &[u8], fill: u8, page_w: usize, page_h: usize, shear: &[u32], shear_x: &[u32], w: usize, c: usize, n: usize, out: &mut [u8])
+fn move_tile(
+    page: &[u8],
+    fill: u8,
+    page_w: usize,
+    page_h: usize,
+    shear: &[u32],
+    shear_x: &[u32],
+    w: usize,
+    c: usize,
+    n: usize,
+    out: &mut [u8],
+)
     requires { ⌜ PlaneFits (frameOf «page_w» «page_h» (now shear) (now «shear_x») w (length (now «shear_x»))) (now page) (now out) ⌝ ∗ ⌜ c + n ≤ «page_w» ⌝ }
     ensures { λ _. ⌜ ((done : ℕ → Bool) (s : List ℕ) → now (out .entry) ≡ partly (frameOf «page_w» «page_h» (now (shear .entry)) (now («shear_x» .entry)) w (length (now («shear_x» .entry)))) fill (now (page .entry)) done s → now (out .exit) ≡ partly (frameOf «page_w» «page_h» (now (shear .entry)) (now («shear_x» .entry)) w (length (now («shear_x» .entry)))) fill (now (page .entry)) (orRows done «page_w» c n «page_h») s) ⌝ }
 {
@@ -76,7 +108,17 @@ fn tile_columns(left: usize) -> usize
 }
 
 // A page plane moved into the frame, tile by tile.
-pub fn level_by_tiles(page: &[u8], fill: u8, page_w: usize, page_h: usize, shear: &[u32], shear_x: &[u32], w: usize, h: usize, out: &mut [u8])
+pub fn level_by_tiles(
+    page: &[u8],
+    fill: u8,
+    page_w: usize,
+    page_h: usize,
+    shear: &[u32],
+    shear_x: &[u32],
+    w: usize,
+    h: usize,
+    out: &mut [u8],
+)
     requires { ⌜ PlaneFits (frameOf «page_w» «page_h» (now shear) (now «shear_x») w h) (now page) (now out) ⌝ }
     ensures { λ _. ⌜ now (out .exit) ≡ over (levelled (frameOf «page_w» «page_h» (now (shear .entry)) (now («shear_x» .entry)) w h) fill (now (page .entry))) (now (out .entry)) ⌝ }
 {

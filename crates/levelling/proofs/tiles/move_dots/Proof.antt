@@ -148,8 +148,7 @@ loop-less c = omega arith
 -- src/tiles.rt:37:5
 loop-again : tie.Need-loop-again Inv-loop μ-loop
 loop-again c = let p = c .before .before .before .before in
-    let a = p .before .args in
-    (
+    let a = p .before .args in (
       omega arith,
       moved-more (λ k. placeOf (a .shear .now) (a .shear-x .now) (a .w) (a .y) (a .c + k)) (λ k. getD (a .page .now) (a .y * a .page-w + (a .c + k)) 0) (p .loop .i) (a .out .now) (p .loop .out) (p .loop .inv .1),
       simp length-set (p .loop .inv .2),

@@ -33,10 +33,9 @@ move-part-requires c κs = let p = c .before .before in
     let q = p .before .before .before .before .before in
     let a = q .args in
     let F = q .pre .0 in
-    let e = row-end (a .page-w) (a .page-h) (p .loop .y) (c .before .loop-test .taken) in
-    (
+    let e = row-end (a .page-w) (a .page-h) (p .loop .y) (c .before .loop-test .taken) in (
       (omega (arith, F .columns, q .pre .1), omega (arith, e, F .page-size, q .pre .1), omega (arith, F .out-size)),
-      ((λ k. omega (arith, F .above k)), (λ r. omega (arith, F .inside r, F .columns)))
+      ((λ k. omega (arith, F .above k)), (λ r. omega (arith, F .inside r, F .columns))),
     )
 
 -- src/tiles.rt:67:9
@@ -52,8 +51,7 @@ loop-again : tie.Need-loop-again Inv-loop μ-loop
 loop-again c = let g = c .before .before in
     let p = g .before .before .before in
     let q = p .before .before .before .before .before in
-    let a = q .args in
-    (
+    let a = q .args in (
       omega arith,
       (λ done s e. row-moved (a .page-w) (a .page-h) (a .shear .now) (a .shear-x .now) (a .w) (length (a .shear-x .now)) (a .fill) (a .page .now) (a .out .now) (q .pre .0) done s (p .loop .out) _ (p .loop .y) (a .c) (a .n) (g .before .before .loop-test .taken) (q .pre .1) (p .loop .inv .1 done s e) (g .move-part .ensures)),
       omega arith,

@@ -6,8 +6,8 @@ use borrow.Rule.Slice.PartMut.{putMid}
 use Rattle.levelling.specs.Frames.{frameOf}
 use Rattle.levelling.proofs.RowLaws.{row-put-by}
 use borrow.Author.Needs.{needs}
-use Rattle.levelling.proofs.plane.level_row.Statement.{statement}
-use Rattle.levelling.proofs.plane.level_row.Tie as tie
+use Rattle.levelling.proofs.stretches.level_row.Statement.{statement}
+use Rattle.levelling.proofs.stretches.level_row.Tie as tie
 
 mul-left : tie.Need-mul-left
 mul-left c = search needs

@@ -3,8 +3,8 @@ use native.Mathlib.Omega.{arith}
 use lib.ListN.{length}
 use Rattle.levelling.proofs.RowLaws.{stretch-above, stretch-below, stretch-inside, stretch-copied}
 use borrow.Author.Needs.{needs}
-use Rattle.levelling.proofs.plane.level_stretch.Statement.{statement}
-use Rattle.levelling.proofs.plane.level_stretch.Tie as tie
+use Rattle.levelling.proofs.stretches.level_stretch.Statement.{statement}
+use Rattle.levelling.proofs.stretches.level_stretch.Tie as tie
 
 fill-bytes-requires : tie.Need-fill-bytes-requires
 fill-bytes-requires c κs = search needs

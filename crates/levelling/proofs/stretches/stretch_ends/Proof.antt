@@ -5,8 +5,8 @@ use native.Mathlib.Omega.{arith}
 use lib.ListN.{length, length-set}
 use Rattle.levelling.specs.Planes.{Stretches}
 use Rattle.levelling.proofs.RowLaws.{stretches-more}
-use Rattle.levelling.proofs.plane.stretch_ends.Statement.{statement}
-use Rattle.levelling.proofs.plane.stretch_ends.Tie as tie
+use Rattle.levelling.proofs.stretches.stretch_ends.Statement.{statement}
+use Rattle.levelling.proofs.stretches.stretch_ends.Tie as tie
 
 abbrev Inv-loop : tie.InvT-loop
 Inv-loop shear ends₀ c₀ ends c = (c ≤ length shear) × Stretches shear ends c × (length ends ≡ length ends₀)

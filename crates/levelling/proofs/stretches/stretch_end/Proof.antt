@@ -2,8 +2,8 @@ use Prim.Native.Nat.{_+_}
 use native.Mathlib.Omega.{arith}
 use Rattle.levelling.proofs.RowLaws.{stretch-alone, stretch-longer}
 use borrow.Author.Needs.{needs}
-use Rattle.levelling.proofs.plane.stretch_end.Statement.{statement}
-use Rattle.levelling.proofs.plane.stretch_end.Tie as tie
+use Rattle.levelling.proofs.stretches.stretch_end.Statement.{statement}
+use Rattle.levelling.proofs.stretches.stretch_end.Tie as tie
 
 add-next : tie.Need-add-next
 add-next c = search needs

@@ -1,7 +1,7 @@
 use native.Mathlib.Omega.{arith}
 use borrow.Author.Needs.{needs}
-use Rattle.levelling.proofs.plane.level_plane.Statement.{statement}
-use Rattle.levelling.proofs.plane.level_plane.Tie as tie
+use Rattle.levelling.proofs.stretches.level_by_stretches.Statement.{statement}
+use Rattle.levelling.proofs.stretches.level_by_stretches.Tie as tie
 
 slice-aggregate-stretch-ends : tie.Need-slice-aggregate-stretch-ends
 slice-aggregate-stretch-ends c = search needs
@@ -23,8 +23,8 @@ same-length c = search needs
 returns : tie.Need-returns
 returns c = search needs
 
-pub level-plane-spec : {M : Type 1} → statement M
-level-plane-spec =
+pub level-by-stretches-spec : {M : Type 1} → statement M
+level-by-stretches-spec =
     tie.close
     (tie.spec
     slice-aggregate-stretch-ends

@@ -7,8 +7,8 @@ use Rattle.memory.specs.Lists.{table}
 use Rattle.memory.proofs.TableLaws.{table-whole}
 use Rattle.levelling.specs.Planes.{Stretch}
 use Rattle.levelling.proofs.RowLaws.{columnsAt, stretch-put}
-use Rattle.levelling.proofs.plane.level_columns.Statement.{statement}
-use Rattle.levelling.proofs.plane.level_columns.Tie as tie
+use Rattle.levelling.proofs.stretches.level_columns.Statement.{statement}
+use Rattle.levelling.proofs.stretches.level_columns.Tie as tie
 
 abbrev Inv-loop : tie.InvT-loop
 Inv-loop page fill page-w page-h shear ends r out₀ c₀ out c = (c ≤ page-w) × (out ≡ table (columnsAt page fill page-w page-h shear r) c ++ drop c out₀) × (length out ≡ length out₀)

@@ -8,8 +8,8 @@ use Rattle.memory.specs.Lists.{table}
 use Rattle.memory.proofs.PlaneLaws.{row-end}
 use Rattle.levelling.specs.Frames.{frameOf}
 use Rattle.levelling.proofs.RowLaws.{planeAt, rows-put, rows-all}
-use Rattle.levelling.proofs.plane.level_rows.Statement.{statement}
-use Rattle.levelling.proofs.plane.level_rows.Tie as tie
+use Rattle.levelling.proofs.stretches.level_rows.Statement.{statement}
+use Rattle.levelling.proofs.stretches.level_rows.Tie as tie
 
 abbrev Inv-loop : tie.InvT-loop
 Inv-loop page fill page-w page-h shear shear-x ends w h out₀ r₀ out r = (r ≤ h) × (out ≡ table (planeAt (frameOf page-w page-h shear shear-x w h) fill page) (r * w) ++ drop (r * w) out₀) × (length out ≡ length out₀)
