@@ -1,6 +1,4 @@
-use Prim.Native.Nat.{_-_}
-use native.Mathlib.Omega.{arith}
-use lib.ListN.{length}
+use mir.Facts.{fits-32-64}
 use borrow.Author.Needs.{needs}
 use Rattle.levelling.proofs.plane.is_steep.Statement.{statement}
 use Rattle.levelling.proofs.plane.is_steep.Tie as tie
@@ -17,7 +15,7 @@ shared-slice-read-first c = search needs
 
 -- src/plane.rt:32:17
 cast-first : tie.Need-cast-first
-cast-first c = omega (arith, c .shared-slice-known .given 0)
+cast-first c = fits-32-64 (c .shared-slice-known .given _)
 
 -- src/plane.rt:33:22
 sub-last : tie.Need-sub-last
@@ -33,7 +31,7 @@ shared-slice-read-last c = search needs
 
 -- src/plane.rt:33:16
 cast-last : tie.Need-cast-last
-cast-last c = omega (arith, c .shared-slice-known2 .given (length (c .before .before .before .args .shear .now) - 1))
+cast-last c = fits-32-64 (c .shared-slice-known2 .given _)
 
 -- src/plane.rt:35:28
 sub-result : tie.Need-sub-result

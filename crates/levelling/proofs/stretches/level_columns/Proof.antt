@@ -2,6 +2,7 @@ use mathlib.Core.Path.{_≡_, refl, sym, ap, _∙_}
 use mathlib.Core.List.{_++_}
 use Prim.Native.Nat.{ℕ, _+_, _-_, _≤_, _<_, zero-le}
 use native.Mathlib.Omega.{arith}
+use mir.Facts.{fits-32-64}
 use lib.ListN.{length, take, drop, getD, length-take, length-drop}
 use Rattle.memory.specs.Lists.{table}
 use Rattle.memory.proofs.TableLaws.{table-whole}
@@ -26,7 +27,7 @@ shared-slice-read-e : tie.Need-shared-slice-read-e Inv-loop μ-loop
 shared-slice-read-e c = omega arith
 
 cast-e : tie.Need-cast-e Inv-loop μ-loop
-cast-e c = omega (arith, c .shared-slice-known4 .given (c .before .before .loop .c))
+cast-e c = fits-32-64 (c .shared-slice-known4 .given _)
 
 mul-s : tie.Need-mul-s Inv-loop μ-loop
 mul-s c = omega arith
@@ -35,7 +36,7 @@ shared-slice-read-s : tie.Need-shared-slice-read-s Inv-loop μ-loop
 shared-slice-read-s c = omega arith
 
 cast-s : tie.Need-cast-s Inv-loop μ-loop
-cast-s c = omega (arith, c .shared-slice-known5 .given (c .before .before .before .loop .c))
+cast-s c = fits-32-64 (c .shared-slice-known5 .given _)
 
 sub-level-stretch : tie.Need-sub-level-stretch Inv-loop μ-loop
 sub-level-stretch c = let p = c .before .before .before in

@@ -2,6 +2,7 @@ use mathlib.Core.Path.{_≡_, refl, sym, ap, _∙_}
 use Prim.Native.Nat.{ℕ, suc, _+_, _-_, _*_, _≤_, _<_, zero-le}
 use native.Mathlib.Numerals.{add-one}
 use native.Mathlib.Omega.{arith}
+use mir.Facts.{fits-32-64}
 use lib.ListN.{length, getD, length-set}
 use Rattle.memory.proofs.PlaneLaws.{dot-inside}
 use Rattle.levelling.specs.Planes.{placeOf, moved}
@@ -39,7 +40,7 @@ shared-slice-read-r c = omega arith
 
 -- src/tiles.rt:39:21
 cast-r : tie.Need-cast-r Inv-loop μ-loop
-cast-r c = omega (arith, c .shared-slice-known .given (c .before .before .before .args .c + c .before .before .loop .i))
+cast-r c = fits-32-64 (c .shared-slice-known .given _)
 
 -- src/tiles.rt:39:17
 add-r : tie.Need-add-r Inv-loop μ-loop
@@ -75,15 +76,9 @@ shared-slice-read-x c = let p = c .before .before .before in
     R
 
 -- src/tiles.rt:40:26
+
 cast-x : tie.Need-cast-x Inv-loop μ-loop
-cast-x c = let p = c .before .before .before in
-    let q = p .before in
-    let a = q .args in
-    let column = a .c + p .loop .i in
-    let r = a .y + getD (a .shear .now) column 0 in
-    let R : r < length (a .shear-x .now) = q .pre .1 .0 column in
-    let X : getD (a .shear-x .now) r 0 + length (a .shear .now) ≤ a .w = q .pre .1 .1 r in
-    omega (arith, c .shared-slice-known2 .given r)
+cast-x c = fits-32-64 (c .shared-slice-known2 .given _)
 
 -- src/tiles.rt:40:17
 add-x : tie.Need-add-x Inv-loop μ-loop
