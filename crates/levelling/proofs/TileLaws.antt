@@ -263,6 +263,14 @@ rows-cover done w c n (suc y) r k l a b = go (ℕ-discrete r y) (λ q. rows-cove
         in-range (orRows done w c n y (r * w + k)) (y * w + c) (y * w + c + n) (r * w + k) (omega arith) (omega arith)
     go (no e) ih = kept (orRows done w c n y (r * w + k)) _ (ih (omega arith))
 
+-- where a dot of page row y is stored lies in the plane, whichever frame row's shear is taken
+pub place-inside : (shear shear-x : List ℕ) (w y column m : ℕ) → column < length shear → ((k : ℕ) → y + getD shear k 0 < length shear-x) → ((r : ℕ) → getD shear-x r 0 + length shear ≤ w) → w * length shear-x ≤ m
+    → (r : ℕ) → (y + getD shear column 0) * w + (column + getD shear-x r 0) < m
+place-inside shear shear-x w y column m l rows inside room r =
+    let x : column + getD shear-x r 0 < w = (let e = inside r in omega arith) in
+    let d = dot-inside w (length shear-x) (column + getD shear-x r 0) (y + getD shear column 0) x (rows column) in
+    omega arith
+
 -- the lengths fit for the frame's height by its table too, and for another plane as long
 pub fits-again : (page-w page-h : ℕ) (shear shear-x : List ℕ) (w h : ℕ) (page s out : List ℕ) → PlaneFits (frameOf page-w page-h shear shear-x w h) page s → length out ≡ length s
     → PlaneFits (frameOf page-w page-h shear shear-x w (length shear-x)) page out

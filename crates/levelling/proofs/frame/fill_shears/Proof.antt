@@ -40,7 +40,9 @@ fill-shear-requires-2 c κs = let f = c .before .before .before in
     let w = p .args .page-w in
     let rows = frame-rows w (p .args .page-h) (p .args .slope) (p .pre .0) (p .pre .1 .0) in
     let e = z .frame-size .ensures .0 .1 in
-    ((omega (arith, rows, e), omega (arith, rows, e), simp (length-take, length-drop) (omega (arith, e, p .pre .1 .1, f .fill-shear .kept))), within-negated (p .args .slope) (p .pre .1 .0))
+    let one = p .pre .1 .0 in
+    let turned = within-negated (p .args .slope) one in
+    ((omega (arith, rows, e), omega (arith, rows, e), simp (length-take, length-drop) (omega (arith, e, p .pre .1 .1, f .fill-shear .kept))), search needs)
 
 same-length : tie.Need-same-length
 same-length c = search needs
