@@ -6,21 +6,20 @@
 --   frame-plane-fits                a page plane can be moved into it
 use mathlib.Core.Path.{_≡_, refl, sym, ap, _∙_, subst}
 use mathlib.Core.List.{List}
-use mathlib.Core.Bool.{Bool, true, false, not, cond, _&&_, _||_}
-use Prim.Native.Nat.{ℕ, zero, suc, _+_, _-_, _*_, _^_, _≤_, _<_}
+use mathlib.Core.Bool.{Bool, not, cond}
+use Prim.Native.Nat.{ℕ, suc, _+_, _-_, _*_, _^_, _≤_, _<_}
 use native.Mathlib.Nat.{le-trans, le-of-lt}
 use native.Mathlib.Omega.{arith}
-use lib.IntN.{ℤ, pos, negℤ, natAbs}
-use lib.Dec.{T, ltb, eqb, lit≤}
-use lib.Ieee.{Float, nan, inf, fin, le, lt, neg}
-use lib.ListN.{getD, length}
+use lib.Dec.{lit≤}
+use lib.Ieee.{Float, lt, neg}
+use lib.ListN.{length}
 use Rattle.memory.specs.Limits.{maxFrameWidth, maxFrameHeight}
 use Rattle.memory.specs.Lists.{table, greatest}
 use Rattle.memory.proofs.TableLaws.{table-ext, length-table}
 use Rattle.rounding.specs.Rounding.{positiveZero}
 use Rattle.rounding.specs.Drift.{drift, driftX}
 use Rattle.rounding.proofs.Signs.{negative}
-use Rattle.rounding.proofs.DriftLaws.{WithinOne, signed, drift-signed, drift-within, drift-rises, drift-step, drift-negated, driftX-is-drift}
+use Rattle.rounding.proofs.DriftLaws.{WithinOne, signed, drift-signed, drift-within, drift-rises, drift-step, driftX-is-drift}
 use Rattle.levelling.specs.Shears.{shearOf}
 use Rattle.levelling.specs.Frames.{PageSides, frame, frameOf}
 use Rattle.levelling.specs.Planes.{PlaneFits}

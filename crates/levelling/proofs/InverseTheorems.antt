@@ -7,11 +7,11 @@
 --   levelled-ink-count     the frame's ink dots and the mask's pair one to one, so their counts are equal
 --   levelled-bits          a levelled mask holds only 0 and 1
 use mathlib.Core.Path.{_≡_, refl, sym, ap, _∙_, subst}
-use mathlib.Core.List.{List, [], _∷_}
+use mathlib.Core.List.{List}
 use mathlib.Core.Bool.{Bool, true, false, cond, _&&_}
 use mathlib.Core.Logic.{_⊎_, inl, inr}
-use Prim.Native.Nat.{ℕ, zero, suc, _+_, _-_, _*_, _/_, _%_, _≤_, _<_, min, max}
-use native.Mathlib.Nat.{le-refl, mod-lt, div-add-mod', div-lt-iff-lt-mul, mul-comm}
+use Prim.Native.Nat.{ℕ, _+_, _-_, _*_, _/_, _%_, _≤_, _<_, min}
+use native.Mathlib.Nat.{mod-lt, div-add-mod', div-lt-iff-lt-mul, mul-comm}
 use native.Mathlib.Decide.{decLt}
 use native.Mathlib.Omega.{arith}
 use borrow.Author.Tests.{lt-ltb, le-ltb}
@@ -19,7 +19,7 @@ use lib.IntN.{ℤ, pos, negsuc, subℕ}
 use lib.Ieee.{Float}
 use lib.ListN.{getD, length, List·getD-eq-default}
 use lib.Dec.{eqb, ltb, T, eqb→eq}
-use Rattle.memory.specs.Lists.{table, countIf, occurs, greatest}
+use Rattle.memory.specs.Lists.{countIf, occurs}
 use Rattle.memory.proofs.TableLaws.{length-table, getD-table}
 use Rattle.memory.proofs.CountLaws.{Paired, paired-counts, occurs-table, occurs-by-place}
 use Rattle.memory.proofs.PlaneLaws.{dot-column, dot-row, dot-inside}

@@ -7,13 +7,12 @@ use native.Mathlib.Nat.{le-trans, le-of-lt, mul-zero, zero-mul, suc-mul}
 use native.Mathlib.Decide.{decLt}
 use native.Mathlib.Omega.{arith}
 use borrow.Author.Tests.{lt-ltb, le-ltb, eq-eqb, ne-eqb}
-use lib.IntN.{ℤ, pos, negℤ, natAbs, negℤ-negℤ, pos-ne-negsuc}
-use lib.Dec.{T, ltb, eqb, lit≤, ltb→lt, eqb→eq, lt→ltb}
+use lib.IntN.{ℤ, pos, negℤ, natAbs, pos-ne-negsuc}
+use lib.Dec.{T, ltb, eqb, ltb→lt, eqb→eq, lt→ltb}
 use lib.Ieee.{Float, nan, inf, fin, binary64, le, lt, neg, mul, ofInt, ofBits, up, down, below, level, toSigned, toUnsigned}
 use lib.Ieee.Fits.{down-pos}
-use lib.Ieee.Positive.{num, den, den-pos}
-use Rattle.rounding.specs.Rounding.{roundHalfAway, roundToSigned, roundToUnsigned, positiveZero}
-use Rattle.rounding.specs.Drift.{drift, driftX}
+use Rattle.rounding.specs.Rounding.{roundToUnsigned, positiveZero}
+use Rattle.rounding.specs.Drift.{drift}
 use Rattle.rounding.proofs.Signs.{negative}
 use Rattle.rounding.proofs.DriftLaws.{WithinOne, signed, drift-signed, drift-within, drift-near, drift-negated}
 use Rattle.levelling.specs.Shears.{magnitude}

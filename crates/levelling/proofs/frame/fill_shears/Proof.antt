@@ -1,6 +1,7 @@
 use mathlib.Core.Path.{_≡_, sym, ap, _∙_}
-use native.Mathlib.Omega.{arith}
 use Prim.Native.Nat.{_-_}
+use native.Mathlib.Omega.{arith}
+use borrow.Author.Needs.{needs}
 use lib.ListN.{length, take, drop, length-take, length-drop}
 use lib.Ieee.{neg}
 use Rattle.memory.specs.Lists.{table}
@@ -11,7 +12,6 @@ use Rattle.levelling.specs.Shears.{shearOf}
 use Rattle.levelling.specs.Frames.{frame}
 use Rattle.levelling.proofs.SlopeLaws.{within-negated}
 use Rattle.levelling.proofs.FrameLaws.{frame-rows, shear-is, shear-x-is, length-shears}
-use borrow.Author.Needs.{needs}
 use Rattle.levelling.proofs.frame.fill_shears.Statement.{statement}
 use Rattle.levelling.proofs.frame.fill_shears.Tie as tie
 

@@ -1,11 +1,11 @@
 use mathlib.Core.Path.{sym, subst}
 use Prim.Native.Nat.{_-_, _≤_}
 use native.Mathlib.Omega.{arith}
+use borrow.Author.Needs.{needs}
 use Rattle.memory.specs.Limits.{maxFrameWidth, maxFrameHeight}
 use Rattle.rounding.proofs.DriftLaws.{drift-within}
 use Rattle.levelling.proofs.SlopeLaws.{steep-within, steep-not-below}
 use Rattle.levelling.proofs.FrameLaws.{frame-fits, sides-by-size}
-use borrow.Author.Needs.{needs}
 use Rattle.levelling.proofs.frame.frame_size.Statement.{statement}
 use Rattle.levelling.proofs.frame.frame_size.Tie as tie
 

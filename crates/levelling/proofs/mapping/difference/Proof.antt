@@ -1,8 +1,8 @@
 use mathlib.Core.Path.{_∙_}
 use mir.Syntax.{w64}
 use mir.ValLaws.{toZ-ofZ}
-use Rattle.levelling.proofs.Integers.{words-difference, words-difference-fits}
 use borrow.Author.Needs.{needs}
+use Rattle.levelling.proofs.Integers.{words-difference, words-difference-fits}
 use Rattle.levelling.proofs.mapping.difference.Statement.{statement}
 use Rattle.levelling.proofs.mapping.difference.Tie as tie
 

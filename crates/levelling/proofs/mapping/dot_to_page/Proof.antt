@@ -1,5 +1,5 @@
-use Rattle.levelling.proofs.MappingLaws.{dot-by}
 use borrow.Author.Needs.{needs}
+use Rattle.levelling.proofs.MappingLaws.{dot-by}
 use Rattle.levelling.proofs.mapping.dot_to_page.Statement.{statement}
 use Rattle.levelling.proofs.mapping.dot_to_page.Tie as tie
 

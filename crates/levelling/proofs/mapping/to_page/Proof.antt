@@ -1,7 +1,7 @@
+use borrow.Author.Needs.{needs}
 use lib.ListN.{getD}
 use Rattle.levelling.proofs.Integers.{words-difference-kept}
 use Rattle.levelling.proofs.MappingLaws.{point-by}
-use borrow.Author.Needs.{needs}
 use Rattle.levelling.proofs.mapping.to_page.Statement.{statement}
 use Rattle.levelling.proofs.mapping.to_page.Tie as tie
 

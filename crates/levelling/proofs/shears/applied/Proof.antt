@@ -1,10 +1,10 @@
 use mathlib.Core.Path.{_≡_, sym, ap, _∙_}
 use mathlib.Core.Bool.{Bool, true, false, cond}
+use borrow.Author.Needs.{needs}
 use lib.Ieee.{Float, le}
 use Rattle.rounding.specs.Rounding.{positiveZero}
 use Rattle.levelling.specs.Shears.{applied}
 use Rattle.levelling.proofs.SlopeLaws.{unsigned, unsigned-is-magnitude}
-use borrow.Author.Needs.{needs}
 use Rattle.levelling.proofs.shears.applied.Statement.{statement}
 use Rattle.levelling.proofs.shears.applied.Tie as tie
 

@@ -1,6 +1,6 @@
 use mathlib.Core.Path.{_∙_}
-use Rattle.levelling.proofs.SlopeLaws.{size-by-cast}
 use borrow.Author.Needs.{needs}
+use Rattle.levelling.proofs.SlopeLaws.{size-by-cast}
 use Rattle.levelling.proofs.shears.drift_size.Statement.{statement}
 use Rattle.levelling.proofs.shears.drift_size.Tie as tie
 

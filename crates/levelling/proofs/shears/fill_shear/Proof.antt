@@ -1,20 +1,18 @@
 use mathlib.Core.Path.{_≡_, refl, sym, ap, _∙_, subst}
-use mathlib.Core.Bool.{Bool, true, false, cond}
-use mathlib.Core.List.{List, _++_}
-use Prim.Native.Nat.{ℕ, _+_, _-_, _^_, _≤_, _<_, zero-le}
+use mathlib.Core.List.{_++_}
+use Prim.Native.Nat.{ℕ, _-_, _^_, _≤_, _<_, zero-le}
 use native.Mathlib.Omega.{arith}
+use borrow.Author.Needs.{needs}
 use lib.ListN.{length, drop, length-set}
 use lib.Ieee.{Float, lt}
-use lib.IntN.{natAbs}
-use Rattle.rounding.specs.Rounding.{positiveZero}
 use Rattle.memory.specs.Lists.{table}
 use Rattle.memory.proofs.TableLaws.{table-more, table-filled}
-use Rattle.levelling.proofs.SlopeLaws.{driftSize, entryBy, unsigned, steep-within, steep-not-below}
-use Rattle.levelling.proofs.FrameLaws.{shear-by-test}
+use Rattle.rounding.specs.Rounding.{positiveZero}
 use Rattle.rounding.proofs.DriftLaws.{WithinOne, drift-rises}
 use Rattle.rounding.specs.Drift.{drift}
 use Rattle.levelling.specs.Shears.{shearOf}
-use borrow.Author.Needs.{needs}
+use Rattle.levelling.proofs.SlopeLaws.{driftSize, entryBy, unsigned, steep-within, steep-not-below}
+use Rattle.levelling.proofs.FrameLaws.{shear-by-test}
 use Rattle.levelling.proofs.shears.fill_shear.Statement.{statement}
 use Rattle.levelling.proofs.shears.fill_shear.Tie as tie
 

@@ -1,11 +1,11 @@
-use native.Mathlib.Omega.{arith}
 use mathlib.Core.Path.{_≡_}
 use Prim.Native.Nat.{_+_, _-_}
-use lib.ListN.{length, getD, take, drop, length-take, length-drop}
+use native.Mathlib.Omega.{arith}
 use borrow.Rule.Slice.PartMut.{putMid}
+use borrow.Author.Needs.{needs}
+use lib.ListN.{length, getD, take, drop, length-take, length-drop}
 use Rattle.levelling.specs.Frames.{frameOf}
 use Rattle.levelling.proofs.RowLaws.{row-put-by}
-use borrow.Author.Needs.{needs}
 use Rattle.levelling.proofs.stretches.level_row.Statement.{statement}
 use Rattle.levelling.proofs.stretches.level_row.Tie as tie
 

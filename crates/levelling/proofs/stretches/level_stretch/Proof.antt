@@ -1,8 +1,8 @@
 use mathlib.Core.Path.{refl, _∙_}
 use native.Mathlib.Omega.{arith}
+use borrow.Author.Needs.{needs}
 use lib.ListN.{length}
 use Rattle.levelling.proofs.RowLaws.{stretch-above, stretch-below, stretch-inside, stretch-copied}
-use borrow.Author.Needs.{needs}
 use Rattle.levelling.proofs.stretches.level_stretch.Statement.{statement}
 use Rattle.levelling.proofs.stretches.level_stretch.Tie as tie
 

@@ -1,7 +1,7 @@
 use Prim.Native.Nat.{_+_}
 use native.Mathlib.Omega.{arith}
-use Rattle.levelling.proofs.RowLaws.{stretch-alone, stretch-longer}
 use borrow.Author.Needs.{needs}
+use Rattle.levelling.proofs.RowLaws.{stretch-alone, stretch-longer}
 use Rattle.levelling.proofs.stretches.stretch_end.Statement.{statement}
 use Rattle.levelling.proofs.stretches.stretch_end.Tie as tie
 

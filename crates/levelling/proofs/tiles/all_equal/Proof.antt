@@ -8,8 +8,6 @@ use lib.Dec.{T, eqb, eqb→eq}
 use lib.ListN.{length, getD}
 use Rattle.levelling.proofs.tiles.all_equal.Statement.{statement}
 use Rattle.levelling.proofs.tiles.all_equal.Tie as tie
-use Rattle.levelling.proofs.tiles.all_equal.Reads as reads
-use Rattle.levelling.proofs.tiles.all_equal.Lts as lts
 
 abbrev Inv-loop : tie.InvT-loop
 Inv-loop part v equal₀ i₀ equal i = (i ≤ length part) × (equal ≡ true → (k : ℕ) → k < i → getD part k 0 ≡ v)
@@ -17,23 +15,18 @@ Inv-loop part v equal₀ i₀ equal i = (i ≤ length part) × (equal ≡ true �
 abbrev μ-loop : tie.MeasureT-loop
 μ-loop part v equal₀ i₀ equal i = length part - i
 
--- src/tiles.rt:23:5
 loop-holds : tie.Need-loop-holds Inv-loop μ-loop
 loop-holds c = (zero-le, λ e k l. absurd (omega arith))
 
--- src/tiles.rt:24:26
 shared-slice-read-equal : tie.Need-shared-slice-read-equal Inv-loop μ-loop
 shared-slice-read-equal c = omega arith
 
--- src/tiles.rt:25:9
 add-i : tie.Need-add-i Inv-loop μ-loop
 add-i c = omega arith
 
--- src/tiles.rt:23:5
 loop-less : tie.Need-loop-less Inv-loop μ-loop
 loop-less c = omega arith
 
--- src/tiles.rt:23:5
 more : (part : List ℕ) (v i : ℕ) (b : Bool) → (b ≡ true → (k : ℕ) → k < i → getD part k 0 ≡ v) → (b && eqb (getD part i 0) v) ≡ true → (k : ℕ) → k < i + 1 → getD part k 0 ≡ v
 more part v i true h e k l = go (ℕ-discrete k i)
   where
@@ -47,7 +40,6 @@ loop-again c = let p = c .before .before in
     let a = p .before .args in
     (omega arith, more (a .part .now) (a .v) (p .loop .i) (p .loop .equal) (p .loop .inv .1))
 
--- src/tiles.rt:18:1
 returns : tie.Need-returns Inv-loop μ-loop
 returns c = λ e k l. c .before .loop .inv .1 e k (omega arith)
 

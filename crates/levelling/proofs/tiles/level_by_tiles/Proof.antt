@@ -1,19 +1,14 @@
-use mathlib.Core.Path.{_≡_, refl, sym, ap, _∙_, subst}
-use Prim.Native.Nat.{ℕ, _+_, _-_, _*_, _≤_, _<_, zero-le}
+use mathlib.Core.Path.{_≡_, refl, ap, _∙_}
+use Prim.Native.Nat.{_-_, _*_, _≤_, zero-le}
 use native.Mathlib.Omega.{arith}
 use borrow.Author.Needs.{needs}
 use lib.ListN.{length, take, drop, length-take, length-drop}
+use Rattle.memory.specs.Words.{over}
 use Rattle.levelling.specs.Frames.{frameOf}
 use Rattle.levelling.specs.Planes.{levelled}
-use Rattle.memory.specs.Words.{over}
 use Rattle.levelling.proofs.TileLaws.{Tiled, tiled-none, tiled-more, tiled-all, fits-again}
 use Rattle.levelling.proofs.tiles.level_by_tiles.Statement.{statement}
 use Rattle.levelling.proofs.tiles.level_by_tiles.Tie as tie
-use Rattle.levelling.proofs.tiles.level_by_tiles.Reads as reads
-use Rattle.levelling.proofs.tiles.level_by_tiles.Lts as lts
-use Rattle.levelling.proofs.tiles.move_tile.Reads as move-tile-reads
-use Rattle.levelling.proofs.tiles.tile_columns.Reads as tile-columns-reads
-use Rattle.memory.proofs.fill_bytes.Reads as fill-bytes-reads
 
 abbrev Inv-loop : tie.InvT-loop
 Inv-loop page fill page-w page-h shear shear-x w h out₀ dots c₀ out c = (c ≤ page-w) × Tiled (frameOf page-w page-h shear shear-x w (length shear-x)) fill page out₀ out c × (length out ≡ length out₀)
@@ -21,39 +16,30 @@ Inv-loop page fill page-w page-h shear shear-x w h out₀ dots c₀ out c = (c �
 abbrev μ-loop : tie.MeasureT-loop
 μ-loop page fill page-w page-h shear shear-x w h out₀ dots c₀ out c = page-w - c
 
--- src/tiles.rt:83:16
 mul-dots : tie.Need-mul-dots Inv-loop μ-loop
 mul-dots c = omega arith
 
--- src/tiles.rt:84:16
 sub-fill-bytes : tie.Need-sub-fill-bytes Inv-loop μ-loop
 sub-fill-bytes c = omega arith
 
--- src/tiles.rt:84:16
 part-fill-bytes-start : tie.Need-part-fill-bytes-start Inv-loop μ-loop
 part-fill-bytes-start c = omega arith
 
--- src/tiles.rt:84:16
 part-fill-bytes-end : tie.Need-part-fill-bytes-end Inv-loop μ-loop
 part-fill-bytes-end c = omega arith
 
--- src/tiles.rt:84:5
 fill-bytes-requires : tie.Need-fill-bytes-requires Inv-loop μ-loop
 fill-bytes-requires c κs = search needs
 
--- src/tiles.rt:86:5
 loop-holds : tie.Need-loop-holds Inv-loop μ-loop
 loop-holds c = (zero-le, tiled-none _ _ _ _, refl)
 
--- src/tiles.rt:87:30
 sub-tile-columns : tie.Need-sub-tile-columns Inv-loop μ-loop
 sub-tile-columns c = omega arith
 
--- src/tiles.rt:87:13
 tile-columns-requires : tie.Need-tile-columns-requires Inv-loop μ-loop
 tile-columns-requires c κs = search needs
 
--- src/tiles.rt:88:9
 move-tile-requires : tie.Need-move-tile-requires Inv-loop μ-loop
 move-tile-requires c κs = let t = c .before in
     let p = t .before .before in
@@ -61,28 +47,23 @@ move-tile-requires c κs = let t = c .before in
     let a = q .args in
     (fits-again (a .page-w) (a .page-h) (a .shear .now) (a .shear-x .now) (a .w) (a .h) (a .page .now) (a .out .now) (p .loop .out) (q .pre) (omega arith), omega (arith, t .tile-columns .ensures .0))
 
--- src/tiles.rt:89:9
 add-c : tie.Need-add-c Inv-loop μ-loop
 add-c c = omega arith
 
--- src/tiles.rt:86:5
 loop-less : tie.Need-loop-less Inv-loop μ-loop
 loop-less c = let t = c .before .before .before .before in
     let k = t .tile-columns .ensures .1 (omega arith) in
     omega (arith, k, t .tile-columns .ensures .0)
 
--- src/tiles.rt:86:5
 loop-again : tie.Need-loop-again Inv-loop μ-loop
 loop-again c = let g = c .before .before in
     let t = g .before .before in
     let p = t .before .before in
     (omega (arith, t .tile-columns .ensures .0), tiled-more _ _ _ _ (p .loop .out) _ (p .loop .c) (t .tile-columns .result) (p .loop .inv .1) (g .move-tile .ensures), omega arith)
 
--- src/tiles.rt:79:1
 same-length : tie.Need-same-length Inv-loop μ-loop
 same-length c = omega arith
 
--- src/tiles.rt:79:1
 returns : tie.Need-returns Inv-loop μ-loop
 returns c = let p = c .before in
     let b = p .before .before .before in

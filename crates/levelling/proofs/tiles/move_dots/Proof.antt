@@ -1,6 +1,5 @@
-use mathlib.Core.Path.{_≡_, refl, sym, ap, _∙_}
-use Prim.Native.Nat.{ℕ, suc, _+_, _-_, _*_, _^_, _≤_, _<_, zero-le}
-use native.Mathlib.Numerals.{add-one}
+use mathlib.Core.Path.{_≡_, refl, _∙_}
+use Prim.Native.Nat.{ℕ, _+_, _-_, _*_, _^_, _≤_, _<_, zero-le}
 use native.Mathlib.Omega.{arith}
 use mir.Syntax.{w32, w64}
 use mir.Val.{Fits}
@@ -10,8 +9,6 @@ use Rattle.levelling.specs.Planes.{placeOf, moved}
 use Rattle.levelling.proofs.TileLaws.{moved-more, moved-count, place-inside}
 use Rattle.levelling.proofs.tiles.move_dots.Statement.{statement}
 use Rattle.levelling.proofs.tiles.move_dots.Tie as tie
-use Rattle.levelling.proofs.tiles.move_dots.Reads as reads
-use Rattle.levelling.proofs.tiles.move_dots.Lts as lts
 
 abbrev Inv-loop : tie.InvT-loop
 Inv-loop page page-w shear shear-x w y c n out₀ from i₀ out i = (i ≤ n) × (out ≡ moved (λ k. placeOf shear shear-x w y (c + k)) (λ k. getD page (y * page-w + (c + k)) 0) i out₀) × (length out ≡ length out₀)
@@ -48,7 +45,6 @@ mul-x c = let p = c .before .before in
 shared-slice-read-x : tie.Need-shared-slice-read-x Inv-loop μ-loop
 shared-slice-read-x c = let p = c .before .before .before in
     omega (arith, p .before .pre .1 .0 (p .before .args .c + p .loop .i))
-
 
 cast-x : tie.Need-cast-x Inv-loop μ-loop
 cast-x c = fits-32-64 (c .shared-slice-known2 .given _)

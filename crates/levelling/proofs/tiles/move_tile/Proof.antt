@@ -1,7 +1,7 @@
-use mathlib.Core.Path.{_≡_, refl, sym, ap, _∙_}
+use mathlib.Core.Path.{_≡_, refl, ap, _∙_}
 use mathlib.Core.Bool.{Bool}
 use mathlib.Core.List.{List}
-use Prim.Native.Nat.{ℕ, _+_, _-_, _*_, _≤_, _<_, zero-le}
+use Prim.Native.Nat.{ℕ, _-_, _≤_, zero-le}
 use native.Mathlib.Omega.{arith}
 use lib.ListN.{length}
 use Rattle.memory.proofs.PlaneLaws.{row-end}
@@ -10,9 +10,6 @@ use Rattle.levelling.specs.Planes.{partly, orRows}
 use Rattle.levelling.proofs.TileLaws.{row-moved}
 use Rattle.levelling.proofs.tiles.move_tile.Statement.{statement}
 use Rattle.levelling.proofs.tiles.move_tile.Tie as tie
-use Rattle.levelling.proofs.tiles.move_tile.Reads as reads
-use Rattle.levelling.proofs.tiles.move_tile.Lts as lts
-use Rattle.levelling.proofs.tiles.move_part.Reads as move-part-reads
 
 abbrev Inv-loop : tie.InvT-loop
 Inv-loop page fill page-w page-h shear shear-x w c n out₀ y₀ out y =
@@ -23,11 +20,9 @@ Inv-loop page fill page-w page-h shear shear-x w c n out₀ y₀ out y =
 abbrev μ-loop : tie.MeasureT-loop
 μ-loop page fill page-w page-h shear shear-x w c n out₀ y₀ out y = page-h - y
 
--- src/tiles.rt:65:5
 loop-holds : tie.Need-loop-holds Inv-loop μ-loop
 loop-holds c = (zero-le, (λ done s e. unfold orRows in e), refl)
 
--- src/tiles.rt:66:9
 move-part-requires : tie.Need-move-part-requires Inv-loop μ-loop
 move-part-requires c κs = let p = c .before .before in
     let q = p .before .before .before .before .before in
@@ -38,15 +33,12 @@ move-part-requires c κs = let p = c .before .before in
       ((λ k. omega (arith, F .above k)), (λ r. omega (arith, F .inside r, F .columns))),
     )
 
--- src/tiles.rt:67:9
 add-y : tie.Need-add-y Inv-loop μ-loop
 add-y c = omega arith
 
--- src/tiles.rt:65:5
 loop-less : tie.Need-loop-less Inv-loop μ-loop
 loop-less c = omega arith
 
--- src/tiles.rt:65:5
 loop-again : tie.Need-loop-again Inv-loop μ-loop
 loop-again c = let g = c .before .before in
     let p = g .before .before .before in
@@ -57,11 +49,9 @@ loop-again c = let g = c .before .before in
       omega arith,
     )
 
--- src/tiles.rt:60:1
 same-length : tie.Need-same-length Inv-loop μ-loop
 same-length c = omega arith
 
--- src/tiles.rt:60:1
 returns : tie.Need-returns Inv-loop μ-loop
 returns c = let p = c .before in
     let a = p .before .before .before .before .before .args in
