@@ -23,7 +23,8 @@ use Rattle.levelling.specs.Frames.{Frame, frameOf}
 use Rattle.levelling.specs.declared.Point.{Point}
 use Rattle.levelling.proofs.Integers.{sub-at-least}
 use Rattle.levelling.specs.Mapping.{toPage}
-use Rattle.levelling.specs.Planes.{within, columnAt, levelAt, levelled, Stretch, Stretches}
+use Rattle.levelling.specs.Planes.{within, levelAt, levelled}
+use Rattle.levelling.specs.Moves.{columnAt, Stretch, Stretches}
 
 -- ---- a column of a frame row
 column-above : (page : List ℕ) (fill w h r s c : ℕ) → r < s → columnAt page fill w h r s c ≡ fill

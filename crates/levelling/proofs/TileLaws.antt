@@ -18,7 +18,8 @@ use Rattle.memory.specs.Words.{over}
 use Rattle.memory.proofs.TableLaws.{length-table, getD-table, getD-default, table-ext}
 use Rattle.memory.proofs.PlaneLaws.{dot-column, dot-row, dot-inside}
 use Rattle.levelling.specs.Frames.{Frame, frameOf, rowOf, columnOf}
-use Rattle.levelling.specs.Planes.{levelAt, levelled, PlaneFits, placeOf, moved, shown, partly, orRange, orRows}
+use Rattle.levelling.specs.Planes.{levelAt, levelled, PlaneFits}
+use Rattle.levelling.specs.Moves.{placeOf, moved, shown, partly, orRange, orRows}
 use Rattle.levelling.proofs.InverseTheorems.{Source, added-or-source, mapped-point-is-place, levelAt-place, length-levelled}
 
 -- ---- the page with some dots done

@@ -1,7 +1,7 @@
 // Which skew is applied, and the shear of a table of drifts.
 ghost use mathlib.Core.Path.{_≡_};
-ghost use Prim.Native.Nat.{ℕ, _^_, _-_, _≤_, _<_};
-ghost use mathlib.Core.Bool.{Bool, cond, false};
+ghost use Prim.Native.Nat.{_^_, _-_, _≤_, _<_};
+ghost use mathlib.Core.Bool.{cond, false};
 ghost use lib.ListN.{length};
 ghost use lib.Ieee as Ieee;
 ghost use lib.IntN.{natAbs};

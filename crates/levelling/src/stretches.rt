@@ -3,13 +3,14 @@
 use memory::copy_bytes;
 use memory::fill_bytes;
 ghost use mathlib.Core.Path.{_≡_};
-ghost use Prim.Native.Nat.{ℕ, _+_, _*_, _≤_, _<_};
+ghost use Prim.Native.Nat.{_+_, _*_, _≤_, _<_};
 ghost use lib.ListN.{length, getD};
 ghost use Rattle.memory.specs.Limits.{maxPageSide};
 ghost use Rattle.memory.specs.Lists.{table};
 ghost use Rattle.memory.specs.Words.{over};
 ghost use Rattle.levelling.specs.Frames.{frameOf};
-ghost use Rattle.levelling.specs.Planes.{PlaneFits, Stretch, Stretches, columnAt, levelAt, levelled};
+ghost use Rattle.levelling.specs.Planes.{PlaneFits, levelAt, levelled};
+ghost use Rattle.levelling.specs.Moves.{Stretch, Stretches, columnAt};
 
 // The columns c, c + 1, .. of frame row r, which all move by s rows.
 fn level_stretch(

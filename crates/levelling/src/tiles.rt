@@ -9,7 +9,8 @@ ghost use Prim.Native.Nat.{ℕ, _+_, _*_, _≤_, _<_};
 ghost use lib.ListN.{length, getD};
 ghost use Rattle.memory.specs.Words.{over};
 ghost use Rattle.levelling.specs.Frames.{frameOf};
-ghost use Rattle.levelling.specs.Planes.{PlaneFits, levelled, placeOf, moved, partly, orRows};
+ghost use Rattle.levelling.specs.Planes.{PlaneFits, levelled};
+ghost use Rattle.levelling.specs.Moves.{placeOf, moved, partly, orRows};
 
 // The columns of a tile.
 const TILE: usize = 256;

@@ -6,7 +6,7 @@ use mir.Facts.{fits-32-64}
 use lib.ListN.{length, take, drop, getD, length-take, length-drop}
 use Rattle.memory.specs.Lists.{table}
 use Rattle.memory.proofs.TableLaws.{table-whole}
-use Rattle.levelling.specs.Planes.{Stretch}
+use Rattle.levelling.specs.Moves.{Stretch}
 use Rattle.levelling.proofs.RowLaws.{columnsAt, stretch-put}
 use Rattle.levelling.proofs.stretches.level_columns.Statement.{statement}
 use Rattle.levelling.proofs.stretches.level_columns.Tie as tie

@@ -5,7 +5,7 @@ use mir.Syntax.{w32, w64}
 use mir.Val.{Fits}
 use mir.Facts.{fits-32-64, fits-lt}
 use lib.ListN.{length, getD, length-set}
-use Rattle.levelling.specs.Planes.{placeOf, moved}
+use Rattle.levelling.specs.Moves.{placeOf, moved}
 use Rattle.levelling.proofs.TileLaws.{moved-more, moved-count, place-inside}
 use Rattle.levelling.proofs.tiles.move_dots.Statement.{statement}
 use Rattle.levelling.proofs.tiles.move_dots.Tie as tie

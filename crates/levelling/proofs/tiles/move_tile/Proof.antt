@@ -6,7 +6,7 @@ use native.Mathlib.Omega.{arith}
 use lib.ListN.{length}
 use Rattle.memory.proofs.PlaneLaws.{row-end}
 use Rattle.levelling.specs.Frames.{frameOf}
-use Rattle.levelling.specs.Planes.{partly, orRows}
+use Rattle.levelling.specs.Moves.{partly, orRows}
 use Rattle.levelling.proofs.TileLaws.{row-moved}
 use Rattle.levelling.proofs.tiles.move_tile.Statement.{statement}
 use Rattle.levelling.proofs.tiles.move_tile.Tie as tie
