@@ -14,7 +14,7 @@ ghost use Rattle.levelling.specs.Shears as Shears;
 ghost use Rattle.levelling.specs.Shears.{shearOf};
 
 // x without its sign; a zero keeps it, which no comparison or product rounded to a whole number shows.
-pub fn unsigned(x: f64) -> f64
+pub fn abs(x: f64) -> f64
     ensures { λ r. ⌜ r ≡ cond (Ieee.lt x positiveZero) (Ieee.neg x) x ⌝ }
 {
     if x < 0.0 { -x } else { x }
@@ -24,7 +24,7 @@ pub fn unsigned(x: f64) -> f64
 pub fn applied(least: f64, skew: f64, v: f64) -> f64
     ensures { λ r. ⌜ r ≡ Shears.applied least skew v ⌝ }
 {
-    if least <= unsigned(skew) { v } else { 0.0 }
+    if least <= abs(skew) { v } else { 0.0 }
 }
 
 // The size of the drift of column c under a slope that is not below zero.
@@ -50,7 +50,7 @@ pub fn fill_shear(out: &mut [u32], n: u32, slope: f64)
     ensures { λ _. ⌜ now (out .exit) ≡ over (shearOf (table (drift slope) n)) (now (out .entry)) ⌝ }
 {
     let falls = slope < 0.0;
-    let steep = unsigned(slope);
+    let steep = abs(slope);
     let last = drift_size(n - 1, steep);
     let mut c: u32 = 0;
     while c < n {
