@@ -1,11 +1,12 @@
 -- A page plane moved into the frame (01, part 3). Each frame dot has the page dot that it maps back to; that each page dot is found
 -- where `rowOf` and `columnOf` send it is a law.
-use Prim.Native.Nat.{ℕ, _+_, _*_, _/_, _%_}
+use Prim.Native.Nat.{ℕ, _+_, _*_, _/_, _%_, _≤_}
+use mathlib.Core.Path.{_≡_}
 use mathlib.Core.Bool.{Bool, false, cond, _&&_}
 use mathlib.Core.List.{List}
 use lib.IntN.{ℤ, pos, negsuc}
 use lib.Ieee.{Float}
-use lib.ListN.{getD}
+use lib.ListN.{getD, length}
 use lib.Dec.{ltb}
 use Rattle.memory.specs.Lists.{table}
 use Rattle.params.specs.declared.LayoutParams.{LayoutParams}
@@ -35,6 +36,15 @@ levelInk f mask = levelled f 0 mask
 -- `level_gray`: added dots are 255
 abbrev pub levelGray : Frame → List ℕ → List ℕ
 levelGray f gray = levelled f 255 gray
+
+-- the lengths of what a page plane is moved from and to
+pub record PlaneFits (f : Frame) (page out : List ℕ) : Type 0 where
+  pub page-size : length page ≡ f .page-w * f .page-h
+  pub columns : length (f .shear) ≡ f .page-w
+  pub rows : length (f .shear-x) ≡ f .h
+  pub inside : (r : ℕ) → getD (f .shear-x) r 0 + f .page-w ≤ f .w
+  pub above : (c : ℕ) → getD (f .shear) c 0 + f .page-h ≤ f .h
+  pub out-size : f .w * f .h ≤ length out
 
 -- what levelling gives: the applied skew and slope, the frame, the ink in it
 pub record Levelling : Type 0 where

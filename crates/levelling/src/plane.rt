@@ -1,0 +1,48 @@
+// A page plane moved into the frame.
+use crate::stretches::level_by_stretches;
+use crate::tiles::level_by_tiles;
+ghost use mathlib.Core.Path.{_≡_};
+ghost use Prim.Native.Nat.{_≤_};
+ghost use Rattle.memory.specs.Limits.{maxPageSide};
+ghost use Rattle.memory.specs.Words.{over};
+ghost use Rattle.levelling.specs.Frames.{frameOf};
+ghost use Rattle.levelling.specs.Planes.{PlaneFits, levelled};
+
+// Stretches shorter than this on the average are slower than tiles: measured, no promise goes by it.
+const SHORT: usize = 16;
+
+// A page plane moved into the frame of these shears: the ink mask, where added dots are 0, and `level_gray`, where they are 255.
+pub fn level_plane(
+    page: &[u8],
+    fill: u8,
+    page_w: usize,
+    page_h: usize,
+    shear: &[u32],
+    shear_x: &[u32],
+    w: usize,
+    h: usize,
+    out: &mut [u8],
+)
+    requires { ⌜ PlaneFits (frameOf «page_w» «page_h» (now shear) (now «shear_x») w h) (now page) (now out) ⌝ ∗ ⌜ «page_w» ≤ maxPageSide ⌝ }
+    ensures { λ _. ⌜ now (out .exit) ≡ over (levelled (frameOf «page_w» «page_h» (now (shear .entry)) (now («shear_x» .entry)) w h) fill (now (page .entry))) (now (out .entry)) ⌝ }
+{
+    if is_steep(shear) {
+        level_by_tiles(page, fill, page_w, page_h, shear, shear_x, w, h, out);
+        return;
+    }
+    level_by_stretches(page, fill, page_w, page_h, shear, shear_x, w, h, out);
+}
+
+// Whether a shear's stretches are short: it runs one way, so it has one more than its ends differ.
+fn is_steep(shear: &[u32]) -> bool {
+    let n = shear.len();
+    if n == 0 {
+        return false;
+    }
+    let first = shear[0] as usize;
+    let last = shear[n - 1] as usize;
+    if first < last {
+        return n / SHORT < last - first;
+    }
+    n / SHORT < first - last
+}
