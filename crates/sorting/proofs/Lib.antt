@@ -12,5 +12,7 @@ pub mod RunLaws
 pub mod ExtentLaws
 -- run extents called by themselves: refused, or done
 pub mod AnswerLaws
+-- the median by counts
+pub mod Medians
 -- each dot has one kind, and the five counts add up
 pub mod KindLaws

@@ -2,8 +2,11 @@
 use mathlib.Core.Path.{_≡_}
 use mathlib.Core.Bool.{Bool, not}
 use mathlib.Core.List.{List}
-use Prim.Native.Nat.{ℕ, suc, _*_, _/_, _%_, _≤_, _<_}
+use lib.ListN.{getD, length}
+use Prim.Native.Nat.{ℕ, suc, _+_, _*_, _/_, _%_, _≤_, _<_}
+use Rattle.memory.specs.Lists.{occurs}
 use Rattle.memory.specs.Limits.{maxMaskSide, maxMaskDots}
+use Rattle.labelling.specs.declared.component.Component.{Component}
 use Rattle.sorting.specs.Extents.{inkAt, behind, extent}
 
 -- r is the first place from x on, of n, where the test gives other than b
@@ -34,3 +37,15 @@ pub record PlaneFits (w h mask-length words : ℕ) : Type 0 where
   pub few : w * h ≤ maxMaskDots
   pub dots : mask-length ≡ w * h
   pub room : w * h ≤ words
+
+-- counts by value of the n entries of a list
+pub record CountsOf (counts : List ℕ) (n : ℕ) (l : List ℕ) : Type 0 where
+  pub size : length l ≡ n
+  pub each : (v : ℕ) → getD counts v 0 ≡ occurs v l
+
+-- a component with a dot, whose sides fit a word
+pub record BoxFits (c : Component) : Type 0 where
+  pub columns : c .x0 ≤ c .x1
+  pub wide : c .x1 + 1 ≤ 4294967295
+  pub rows : c .y0 ≤ c .y1
+  pub high : c .y1 + 1 ≤ 4294967295
