@@ -16,10 +16,10 @@ use Rattle.memory.proofs.TableLaws.{length-table, getD-table}
 use Rattle.memory.specs.Limits.{maxExtent}
 use Rattle.labelling.specs.Labels.{isInk}
 use Rattle.sorting.specs.Extents.{inkAt, behind, ahead, runThrough, extent}
-use Rattle.sorting.specs.Scans.{ScannedTo, countDown, columnExtent, rowExtent}
+use Rattle.sorting.specs.Scans.{ScannedTo, Starts, clear, blank, countDown, columnExtent, rowExtent}
 use Rattle.sorting.proofs.MaskLaws.{inkAt-dot, dot-column, dot-row}
 use Rattle.sorting.proofs.OverLaws.{until, until-below, until-from, getD-part, length-part, length-over, over-at, over-unique, over-up, over-down, over-part}
-use Rattle.sorting.proofs.RunLaws.{Starts, clear, blank, behind-off, behind-le, ahead-off, runThrough-ends, runThrough-off, runThrough-next, runThrough-counted, starts-run}
+use Rattle.sorting.proofs.RunLaws.{behind-off, behind-le, ahead-off, runThrough-ends, runThrough-off, runThrough-next, runThrough-counted, starts-run}
 
 pub product-fits : (a b : ℕ) → a < 2 ^ 32 → b < 2 ^ 32 → a * b < 2 ^ 64
 product-fits a b ha hb = lt-of-le-of-lt (mul-le-mul (le-pred-of-lt ha) (le-pred-of-lt hb)) (lit< tt)

@@ -7,7 +7,7 @@ use native.Mathlib.Decide.{ℕ-discrete, decLt}
 use native.Mathlib.Omega.{arith}
 use borrow.Author.Tests.{lt-ltb, le-ltb}
 use borrow.Rule.Slice.PartMut.{putMid}
-use lib.ListN.{length, getD, take, drop, set, length-set, length-append, length-drop, List·getD-append}
+use lib.ListN.{length, getD, take, drop, set, replicate, length-replicate, getD-replicate, length-set, length-append, length-drop, List·getD-append}
 use lib.Seq.{getD-set-same, getD-set-other, getD-append-add, getD-take, getD-drop, ext-getD, length-take-le, drop-length}
 use lib.Dec.{ltb}
 use Rattle.memory.specs.Lists.{table}
@@ -175,3 +175,15 @@ over-over f g n s t l e =
 -- a table over all of a list
 pub over-whole : (f : ℕ → ℕ) (n : ℕ) (s : List ℕ) → n ≡ length s → over (table f n) s ≡ table f n
 over-whole f n s e = ap (λ k. table f n ++ drop k s) (length-table f n ∙ e) ∙ (ap (λ r. table f n ++ r) (drop-length s) ∙ append-nil (table f n))
+
+-- the first n entries are one value
+pub front-filled : (n v : ℕ) (s t : List ℕ) → n ≤ length s → t ≡ replicate (length (take (n - 0) (drop 0 s))) v
+    → (length (putMid 0 (n - 0) s t) ≡ length s) × ((k : ℕ) → k < n → getD (putMid 0 (n - 0) s t) k 0 ≡ v) × ((k : ℕ) → n ≤ k → getD (putMid 0 (n - 0) s t) k 0 ≡ getD s k 0)
+front-filled n v s t h e =
+    let z : length (take (n - 0) (drop 0 s)) ≡ n - 0 = length-part 0 n s (omega arith) h in
+    let q : t ≡ replicate (n - 0) v = e ∙ ap (λ k. replicate k v) z in
+    let l : length t ≡ n - 0 = ap length q ∙ length-replicate (n - 0) v in (
+      length-put 0 n s t (omega arith) h l,
+      λ k b. getD-put 0 n s t (omega arith) h l k .1 (omega arith) b ∙ (ap (λ o. getD o (k - 0) 0) q ∙ getD-replicate (n - 0) (k - 0) v 0 (omega arith)),
+      λ k b. getD-put 0 n s t (omega arith) h l k .2 b,
+    )

@@ -1,6 +1,6 @@
 -- What the functions hand on to each other: a scan along a row, counts down the columns, sides and lengths that fit.
 use mathlib.Core.Path.{_≡_}
-use mathlib.Core.Bool.{Bool, not}
+use mathlib.Core.Bool.{Bool, false, not}
 use mathlib.Core.List.{List}
 use lib.ListN.{getD, length}
 use Prim.Native.Nat.{ℕ, suc, _+_, _*_, _/_, _%_, _≤_, _<_}
@@ -15,6 +15,11 @@ pub record ScannedTo (p : ℕ → Bool) (b : Bool) (x n r : ℕ) : Type 0 where
   pub high : r ≤ n
   pub all : (k : ℕ) → x ≤ k → k < r → p k ≡ b
   pub stop : r < n → p r ≡ not b
+
+-- a place is a start: none passes just before it, or it does not pass itself
+pub data Starts (p : ℕ → Bool) (x : ℕ) : Type 0 where
+  clear : behind p x ≡ 0 → Starts p x
+  blank : p x ≡ false → Starts p x
 
 -- how many ink dots in a row, down its column, end at dot i
 abbrev pub countDown : ℕ → List ℕ → ℕ → ℕ

@@ -76,7 +76,7 @@ fn is_mask_side(n: u32) -> bool
 }
 
 // The product of two numbers of 32 bits, which 64 bits hold.
-fn area(width: u32, height: u32) -> usize
+pub fn area(width: u32, height: u32) -> usize
     ensures { λ r. ⌜ r ≡ width * height ⌝ }
 {
     (width as usize) * (height as usize)
@@ -144,7 +144,7 @@ fn ink_end(row: &[u8], x: usize) -> usize
 }
 
 // A length as an extent.
-fn capped(length: usize) -> u32
+pub fn capped(length: usize) -> u32
     ensures { λ r. ⌜ r ≡ min length maxExtent ⌝ }
 {
     if length <= 65534 {
@@ -155,7 +155,7 @@ fn capped(length: usize) -> u32
 }
 
 // v in every word.
-fn fill(words: &mut [u32], v: u32)
+pub fn fill(words: &mut [u32], v: u32)
     ensures { λ _. ⌜ now (words .exit) ≡ replicate (length (now (words .entry))) v ⌝ }
 {
     let mut i: usize = 0;

@@ -7,6 +7,7 @@ ghost use Rattle.sorting.specs.Units.{unitValue};
 mod extents;
 mod kinds;
 mod median;
+mod rulings;
 
 pub use extents::Along;
 pub use extents::ExtentsAnswer;
@@ -17,6 +18,7 @@ pub use kinds::kind_of;
 pub use kinds::run_min;
 pub use kinds::thick_max;
 pub use median::median_of_counts;
+pub use rulings::thin_rulings;
 
 // The x-height of the page, 01's unit: the length that every threshold is a multiple of, and whether it was measured.
 pub enum Unit {

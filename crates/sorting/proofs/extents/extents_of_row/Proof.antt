@@ -8,7 +8,8 @@ use Rattle.memory.specs.Lists.{table}
 use Rattle.memory.specs.Words.{over}
 use Rattle.labelling.specs.Labels.{isInk}
 use Rattle.sorting.specs.Extents.{extent}
-use Rattle.sorting.proofs.RunLaws.{Starts, starts-zero}
+use Rattle.sorting.proofs.RunLaws.{starts-zero}
+use Rattle.sorting.specs.Scans.{Starts}
 use Rattle.sorting.proofs.extents.extents_of_row.Statement.{statement}
 use Rattle.sorting.proofs.extents.extents_of_row.Tie as tie
 
