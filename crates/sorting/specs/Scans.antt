@@ -1,8 +1,9 @@
 -- What the functions hand on to each other: a scan along a row, counts down the columns, sides and lengths that fit.
 use mathlib.Core.Path.{_≡_}
-use mathlib.Core.Bool.{Bool, false, not}
+use mathlib.Core.Bool.{Bool, false, cond, not}
 use mathlib.Core.List.{List}
 use lib.ListN.{getD, length}
+use lib.Dec.{ltb}
 use Prim.Native.Nat.{ℕ, suc, _+_, _*_, _/_, _%_, _≤_, _<_}
 use Rattle.memory.specs.Lists.{occurs}
 use Rattle.memory.specs.Limits.{maxMaskSide, maxMaskDots}
@@ -20,6 +21,10 @@ pub record ScannedTo (p : ℕ → Bool) (b : Bool) (x n r : ℕ) : Type 0 where
 pub data Starts (p : ℕ → Bool) (x : ℕ) : Type 0 where
   clear : behind p x ≡ 0 → Starts p x
   blank : p x ≡ false → Starts p x
+
+-- f below i, g from i on
+unfoldable pub until : ℕ → (ℕ → ℕ) → (ℕ → ℕ) → ℕ → ℕ
+until i f g k = cond (ltb k i) (f k) (g k)
 
 -- how many ink dots in a row, down its column, end at dot i
 abbrev pub countDown : ℕ → List ℕ → ℕ → ℕ
