@@ -1,4 +1,7 @@
 use borrow.Author.Needs.{needs}
+use mathlib.Core.Path.{_∙_, ap}
+use mathlib.Core.Bool.{cond, _||_}
+use Rattle.sorting.specs.Kinds.{ruleKind, graphicKind, isRule, kindBySize}
 use Rattle.sorting.proofs.kinds.kind_by_size.Statement.{statement}
 use Rattle.sorting.proofs.kinds.kind_by_size.Tie as tie
 
@@ -24,7 +27,13 @@ choose-requires-3 : tie.Need-choose-requires-3
 choose-requires-3 c κs = search needs
 
 returns : tie.Need-returns
-returns c = rw (c .choose3 .ensures, c .before .is-rule2 .ensures, c .before .before .is-rule .ensures, c .before .before .before .choose2 .ensures, c .before .before .before .before .is-graphic .ensures, c .before .before .before .before .before .choose .ensures, c .before .before .before .before .before .before .before .value .ensures)
+returns c =
+    let a = c .before .before .before .before .before .before .before .before .args in
+    let u = c .before .before .before .before .before .before .before .value .result in
+    c .choose3 .ensures
+    ∙ ((λ k. cond (c .before .before .is-rule .ensures k || c .before .is-rule2 .ensures k) ruleKind (c .before .before .before .choose2 .ensures k))
+    ∙ ((λ k. cond (isRule (a .p) u (a .width) (a .height) || isRule (a .p) u (a .height) (a .width)) ruleKind (cond (c .before .before .before .before .is-graphic .ensures k) graphicKind (c .before .before .before .before .before .choose .ensures k)))
+    ∙ ap (λ v. kindBySize (a .p) v (a .w) (a .h) (a .area) (a .width) (a .height)) (c .before .before .before .before .before .before .before .value .ensures)))
 
 pub kind-by-size-spec : {M : Type 1} → statement M
 kind-by-size-spec =
