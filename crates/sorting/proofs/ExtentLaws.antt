@@ -19,7 +19,7 @@ use Rattle.labelling.specs.Labels.{isInk}
 use Rattle.sorting.specs.Extents.{inkAt, behind, ahead, runThrough, extent}
 use Rattle.sorting.specs.Scans.{ScannedTo, Starts, clear, blank, countDown, columnExtent, rowExtent}
 use Rattle.sorting.proofs.MaskLaws.{inkAt-dot, dot-column, dot-row}
-use Rattle.sorting.proofs.OverLaws.{until-below, until-from, getD-part, length-part, length-over, over-at, over-unique, over-up, over-down, over-part}
+use Rattle.sorting.proofs.OverLaws.{until-below, until-from, getD-part, length-part, length-over, over-at, over-unique, over-up, over-down, over-part, over-ended}
 use Rattle.sorting.specs.Scans.{until}
 use Rattle.sorting.proofs.RunLaws.{behind-off, behind-le, ahead-off, runThrough-ends, runThrough-off, runThrough-next, runThrough-counted, starts-run}
 
@@ -340,3 +340,22 @@ capped-last w h m s e wide high q room counts held =
         held-from (λ k. getD s k 0) (λ k. min (getD s k 0) maxExtent) (length m) ((h - 1) * w) s e held k (omega arith) (omega arith)
         ∙ (ap (λ t. min t maxExtent) (counts k l)
         ∙ (last-row w h m wide q k l (omega (arith, bottom)) ∙ sym (until-from ((h - 1) * w) (countDown w m) (columnExtent w h m) k (omega arith))))
+
+-- a row without ink is as it is to be
+pub blank-row : (w h at : ℕ) (m s : List ℕ) → 0 < w → length m ≡ w * h → at + w + w ≤ w * h → w * h ≤ length s
+    → ((k : ℕ) → at ≤ k → k < at + w → getD s k 0 ≡ countDown w m k) → ((k : ℕ) → at + w ≤ k → k < w * h → getD s k 0 ≡ columnExtent w h m k)
+    → (r : ℕ) → ScannedTo (isInk (take (at + w - at) (drop at m))) false 0 (length (take (at + w - at) (drop at m))) r → w ≤ r
+    → s ≡ over (table (until at (λ k. getD s k 0) (columnExtent w h m)) (w * h)) s
+unfolding isInk
+blank-row w h at m s wide q low room counts rest r B l = over-ended (columnExtent w h m) (w * h) at s room (λ k a b. go k a b (decLt k (at + w)))
+  where
+    none : (k : ℕ) → at ≤ k → k < at + w → isInk m k ≡ false
+    none k a b =
+        let z : at + (k - at) ≡ k = omega arith in
+        sym (ap (ltb 0) (getD-part at (at + w - at) m (k - at) (omega arith) ∙ ap (λ t. getD m t 0) z)) ∙ B .all (k - at) (omega arith) (omega arith)
+
+    go : (k : ℕ) → at ≤ k → k < w * h → Dec (k < at + w) → getD s k 0 ≡ columnExtent w h m k
+    go k a b (yes c) =
+        let f = none k a c in
+        counts k a c ∙ (count-step w m wide k ∙ (ap (λ t. cond t (cond (ltb k w) 0 (countDown w m (k - w)) + 1) 0) f ∙ sym (extent-step w m wide h q k b ∙ ap (λ t. cond t (cond (isInk m (k + w)) (columnExtent w h m (k + w)) (min (countDown w m k) maxExtent)) 0) f)))
+    go k a b (no c) = rest k (omega arith) b

@@ -230,7 +230,7 @@ fn take_up(mask: &[u8], w: usize, h: usize, extents: &mut [u32])
     cap_row(y * w, extents, mask.len());
     while 0 < y {
         y -= 1;
-        take_row(mask, w, h, y * w, extents);
+        take_inky_row(mask, w, h, y * w, extents);
     }
 }
 
@@ -246,7 +246,18 @@ fn cap_row(at: usize, extents: &mut [u32], end: usize)
     }
 }
 
-// The row at `at`, from the row below.
+// The row at `at`, from the row below; a row without ink is as it is to be.
+fn take_inky_row(mask: &[u8], w: usize, h: usize, at: usize, extents: &mut [u32])
+    requires { ⌜ (0 < w) × (length (now mask) ≡ w * h) × (at + w + w ≤ w * h) × (w * h ≤ length (now extents)) × ((k : ℕ) → at ≤ k → k < at + w → getD (now extents) k 0 ≡ countDown w (now mask) k) × ((k : ℕ) → at + w ≤ k → k < w * h → getD (now extents) k 0 ≡ columnExtent w h (now mask) k) ⌝ }
+    ensures { λ _. ⌜ now (extents .exit) ≡ over (table (until at (λ k. getD (now (extents .entry)) k 0) (columnExtent w h (now (mask .entry)))) (w * h)) (now (extents .entry)) ⌝ }
+{
+    let end = at + w;
+    let first = blank_end(&mask[at..end], 0);
+    if first < w {
+        take_row(mask, w, h, at, extents);
+    }
+}
+
 fn take_row(mask: &[u8], w: usize, h: usize, at: usize, extents: &mut [u32])
     requires { ⌜ (0 < w) × (length (now mask) ≡ w * h) × (at + w + w ≤ w * h) × (w * h ≤ length (now extents)) × ((k : ℕ) → at ≤ k → k < at + w → getD (now extents) k 0 ≡ countDown w (now mask) k) × ((k : ℕ) → at + w ≤ k → k < w * h → getD (now extents) k 0 ≡ columnExtent w h (now mask) k) ⌝ }
     ensures { λ _. ⌜ now (extents .exit) ≡ over (table (until at (λ k. getD (now (extents .entry)) k 0) (columnExtent w h (now (mask .entry)))) (w * h)) (now (extents .entry)) ⌝ }

@@ -38,11 +38,11 @@ loop-holds c =
 sub-y-2 : tie.Need-sub-y-2 Inv-loop μ-loop
 sub-y-2 c = omega arith
 
-mul-take-row : tie.Need-mul-take-row Inv-loop μ-loop
-mul-take-row c = let a = c .before .before .before .before .before .before .before .before .args in let p = c .before .before .before .before .before .before .before .before .pre .0 in let z = row-inside (a .w) (a .h) (c .before .loop .y - 1) (omega arith) in omega (arith, p .few)
+mul-take-inky-row : tie.Need-mul-take-inky-row Inv-loop μ-loop
+mul-take-inky-row c = let a = c .before .before .before .before .before .before .before .before .args in let p = c .before .before .before .before .before .before .before .before .pre .0 in let z = row-inside (a .w) (a .h) (c .before .loop .y - 1) (omega arith) in omega (arith, p .few)
 
-take-row-requires : tie.Need-take-row-requires Inv-loop μ-loop
-take-row-requires c κs =
+take-inky-row-requires : tie.Need-take-inky-row-requires Inv-loop μ-loop
+take-inky-row-requires c κs =
     let a = c .before .before .before .before .before .before .before .before .before .args in
     let p = c .before .before .before .before .before .before .before .before .before .pre .0 in
     let l = c .before .before .loop in
@@ -67,7 +67,7 @@ loop-again c =
     let l = c .before .before .before .before .before .loop in
     let size = ap length (c .before .before .before .before .before .before .before .before .cap-row .ensures) ∙ length-over _ (length (a .mask .now)) (a .extents .now) (omega (arith, p .dots, p .room)) in
     let b = row-before (a .w) (l .y) (omega arith) in
-    let e = c .before .before .take-row .ensures ∙ over-chain-down (countDown (a .w) (a .mask .now)) (columnExtent (a .w) (a .h) (a .mask .now)) (a .w * a .h) ((l .y - 1) * a .w) (l .y * a .w) (c .before .before .before .before .before .before .before .before .cap-row .last .1 .0) (l .extents) (omega (arith, size, p .room)) (omega arith) (l .inv .1) in
+    let e = c .before .before .take-inky-row .ensures ∙ over-chain-down (countDown (a .w) (a .mask .now)) (columnExtent (a .w) (a .h) (a .mask .now)) (a .w * a .h) ((l .y - 1) * a .w) (l .y * a .w) (c .before .before .before .before .before .before .before .before .cap-row .last .1 .0) (l .extents) (omega (arith, size, p .room)) (omega arith) (l .inv .1) in
     (omega arith, e, ap length e ∙ length-over _ (a .w * a .h) (c .before .before .before .before .before .before .before .before .cap-row .last .1 .0) (omega (arith, size, p .room)))
 
 same-length : tie.Need-same-length Inv-loop μ-loop
@@ -99,8 +99,8 @@ take-up-spec =
     cap-row-requires
     loop-holds
     sub-y-2
-    mul-take-row
-    take-row-requires
+    mul-take-inky-row
+    take-inky-row-requires
     loop-less
     loop-again
     same-length
