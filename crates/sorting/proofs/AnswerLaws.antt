@@ -1,14 +1,12 @@
 -- Run extents called by themselves: refused, or done.
-use mathlib.Core.Path.{_≡_, refl, sym, ap, _∙_}
-use mathlib.Core.Bool.{Bool, true, false, cond, not, _&&_}
+use mathlib.Core.Path.{_≡_, sym, _∙_}
+use mathlib.Core.Bool.{not, _&&_}
 use mathlib.Core.List.{List}
-use Prim.Native.Nat.{ℕ, zero, suc, _*_}
-use native.Mathlib.Omega.{arith}
-use borrow.Author.Tests.{ltb-true, ltb-false, leb-true, eqb-true, not-false, ne-eqb, eq-eqb}
+use Prim.Native.Nat.{ℕ, _*_}
+use borrow.Author.Tests.{ltb-true, ltb-false, leb-true, eqb-true, not-false, ne-eqb}
 use lib.ListN.{length}
 use lib.Dec.{eqb, ltb, leb}
 use Rattle.memory.specs.Words.{over}
-use Rattle.memory.specs.Refusals.{refuseIf}
 use Rattle.memory.specs.Limits.{maxMaskSide, maxMaskDots}
 use Rattle.memory.proofs.RefusalLaws.{Passed, refusal-passed}
 use Rattle.sorting.specs.Answers.{isMaskSide, extentsRefusal, extentsAlong, extentsOutcome, runExtents}

@@ -3,10 +3,10 @@ use mathlib.Core.Path.{_≡_, refl, sym, ap, _∙_}
 use mathlib.Core.Bool.{Bool, true, false, cond, _&&_, true≢false}
 use mathlib.Core.List.{List}
 use Prim.Native.Nat.{ℕ, zero, suc, _+_, _-_, _*_, _/_, _%_, _^_, _≤_, _<_, min}
-use native.Mathlib.Nat.{mod-lt, mod-eq-sub-mod, div-eq-of-lt, div-eq-sub-div, add-mod-right, add-div-right, div-lt-iff-lt-mul, div-le-self, mul-comm, mul-suc, suc-mul, mul-le-mul-right, lt-of-le-of-lt, mul-le-mul, le-pred-of-lt}
+use native.Mathlib.Nat.{mod-eq-sub-mod, div-eq-of-lt, div-eq-sub-div, add-mod-right, add-div-right, div-lt-iff-lt-mul, div-le-self, mul-comm, mul-suc, suc-mul, mul-le-mul-right, lt-of-le-of-lt, mul-le-mul, le-pred-of-lt}
 use native.Mathlib.Decide.{decLt}
 use native.Mathlib.Omega.{arith}
-use borrow.Author.Tests.{lt-ltb, le-ltb, ltb-true}
+use borrow.Author.Tests.{lt-ltb, le-ltb}
 use lib.ListN.{length, getD, take, drop, set, replicate, length-replicate, getD-replicate, List·getD-eq-default}
 use lib.Dec.{ltb, lit<}
 use borrow.Rule.Slice.PartMut.{putMid}
@@ -16,8 +16,8 @@ use Rattle.memory.specs.Words.{over}
 use Rattle.memory.proofs.TableLaws.{length-table, getD-table}
 use Rattle.memory.specs.Limits.{maxExtent}
 use Rattle.labelling.specs.Labels.{isInk}
-use Rattle.sorting.specs.Extents.{inkAt, behind, ahead, runThrough, extent}
-use Rattle.sorting.specs.Scans.{ScannedTo, Starts, clear, blank, countDown, columnExtent, rowExtent}
+use Rattle.sorting.specs.Extents.{inkAt, behind, runThrough, extent}
+use Rattle.sorting.specs.Scans.{ScannedTo, Starts, blank, countDown, columnExtent, rowExtent}
 use Rattle.sorting.proofs.MaskLaws.{inkAt-dot, dot-column, dot-row}
 use Rattle.sorting.proofs.OverLaws.{until-below, until-from, getD-part, length-part, length-over, over-at, over-unique, over-up, over-down, over-part, over-ended}
 use Rattle.sorting.specs.Scans.{until}

@@ -1,5 +1,5 @@
 -- The median by counts: the element at a place of the sorted list is found by counting the entries below each value.
-use mathlib.Core.Path.{_≡_, refl, sym, ap, _∙_, subst}
+use mathlib.Core.Path.{_≡_, refl, sym, ap, _∙_}
 use mathlib.Core.List.{List, [], _∷_, _++_}
 use mathlib.Core.Bool.{Bool, true, false, cond}
 use Prim.Native.Nat.{ℕ, zero, suc, _+_, _/_, _≤_, _<_}
@@ -9,7 +9,7 @@ use native.Mathlib.Omega.{arith}
 use borrow.Author.Tests.{lt-ltb, le-ltb, le-leb, lt-leb, eq-eqb, ne-eqb}
 use lib.ListN.{getD, length, take, List·getD-eq-default}
 use lib.Dec.{eqb, ltb, leb}
-use lib.Seq.{take-suc, take-all}
+use lib.Seq.{take-suc}
 use Rattle.memory.specs.Lists.{insertBy, sortBy, occurs, total}
 use Rattle.sorting.specs.Units.{median}
 use Rattle.sorting.specs.Scans.{CountsOf}

@@ -1,6 +1,6 @@
 -- Thin rulings (01, part 4).
 use Prim.Native.Nat.{ℕ, _+_, _-_, max}
-use mathlib.Core.Bool.{Bool, cond, _&&_, _||_, not}
+use mathlib.Core.Bool.{cond, _&&_, _||_, not}
 use mathlib.Core.List.{List}
 use lib.Ieee.{Float}
 use lib.Dec.{leb}
