@@ -1,0 +1,292 @@
+// Run extents: for each ink dot the length of the run through it, along its row or its column (layout.rs, extent_through).
+ghost use mathlib.Core.Path.{_≡_};
+ghost use mathlib.Core.Bool.{cond, true, false};
+ghost use Prim.Native.Nat.{ℕ, _+_, _-_, _*_, _≤_, _<_, min};
+ghost use lib.ListN.{length, getD, replicate};
+ghost use lib.Dec.{ltb};
+ghost use Rattle.memory.specs.Lists.{table};
+ghost use Rattle.memory.specs.Words.{over};
+ghost use Rattle.memory.specs.Limits.{maxExtent};
+ghost use Rattle.labelling.specs.Labels.{isInk};
+ghost use Rattle.sorting.specs.Extents.{extent, rowExtents, columnExtents};
+ghost use Rattle.sorting.specs.Answers.{extentsRefusal, isMaskSide, extentsOutcome, runExtents};
+ghost use Rattle.sorting.specs.Scans.{ScannedTo, PlaneFits, countDown, columnExtent, until};
+use memory::refuse_if;
+
+// The longest side of a mask, the most dots, and the greatest extent told.
+const MAX_MASK_SIDE: u32 = 131072;
+
+const MAX_MASK_DOTS: usize = 1073741824;
+
+const MAX_EXTENT: u32 = 65534;
+
+// Which runs are asked for.
+pub enum Along {
+    Rows,
+    Columns,
+}
+
+// Whether the extents are there, or the number that the call is refused with.
+pub enum ExtentsAnswer {
+    Done,
+    Refused(u32),
+}
+
+// The run extents of a mask along its rows or its columns, a word a dot; any non-zero byte is ink.
+pub fn run_extents(
+    mask: &[u8],
+    width: u32,
+    height: u32,
+    along: Along,
+    extents: &mut [u32],
+) -> ExtentsAnswer
+    ensures { λ r. ⌜ extentsOutcome r (now (extents .exit)) ≡ runExtents (now (mask .entry)) width height along (now (extents .entry)) ⌝ }
+{
+    let number = judge_extents(mask.len(), width, height, extents.len());
+    if number != 0 {
+        return ExtentsAnswer::Refused(number);
+    }
+    match along {
+        Along::Rows => {
+            row_extents(mask, width, height, extents);
+            ExtentsAnswer::Done
+        }
+        Along::Columns => {
+            column_extents(mask, width, height, extents);
+            ExtentsAnswer::Done
+        }
+    }
+}
+
+// The number that a call of run_extents is refused with, 0 where it is accepted.
+fn judge_extents(mask_len: usize, width: u32, height: u32, extents_len: usize) -> u32
+    ensures { λ r. ⌜ r ≡ extentsRefusal «mask_len» width height «extents_len» ⌝ }
+{
+    let dots = area(width, height);
+    let short = refuse_if(extents_len < dots, 9, 0);
+    let length = refuse_if(mask_len != dots, 2, short);
+    let many = refuse_if(MAX_MASK_DOTS < dots, 1, length);
+    refuse_if(!(is_mask_side(width) & is_mask_side(height)), 1, many)
+}
+
+fn is_mask_side(n: u32) -> bool
+    ensures { λ r. ⌜ r ≡ isMaskSide n ⌝ }
+{
+    (0 < n) & (n <= MAX_MASK_SIDE)
+}
+
+// The product of two numbers of 32 bits, which 64 bits hold.
+pub fn area(width: u32, height: u32) -> usize
+    ensures { λ r. ⌜ r ≡ width * height ⌝ }
+{
+    (width as usize) * (height as usize)
+}
+
+// Along the rows: each row is a part of the mask and of the extents.
+fn row_extents(mask: &[u8], width: u32, height: u32, extents: &mut [u32])
+    requires { ⌜ PlaneFits width height (length (now mask)) (length (now extents)) ⌝ }
+    ensures { λ _. ⌜ now (extents .exit) ≡ over (rowExtents width height (now (mask .entry))) (now (extents .entry)) ⌝ }
+{
+    let w = width as usize;
+    let h = height as usize;
+    let mut y: usize = 0;
+    while y < h {
+        let from = y * w;
+        let to = from + w;
+        extents_of_row(&mask[from..to], &mut extents[from..to]);
+        y += 1;
+    }
+}
+
+// One row, run by run.
+fn extents_of_row(row: &[u8], extents: &mut [u32])
+    requires { ⌜ (length (now row) ≡ length (now extents)) × (length (now row) ≤ 131072) ⌝ }
+    ensures { λ _. ⌜ now (extents .exit) ≡ table (extent (isInk (now (row .entry))) (length (now (row .entry)))) (length (now (row .entry))) ⌝ }
+{
+    let mut x: usize = 0;
+    while x < row.len() {
+        let blank = blank_end(row, x);
+        fill(&mut extents[x..blank], 0);
+        let ink = ink_end(row, blank);
+        fill(&mut extents[blank..ink], capped(ink - blank));
+        x = ink;
+    }
+}
+
+// The first place from x on that is ink, or the end.
+fn blank_end(row: &[u8], x: usize) -> usize
+    requires { ⌜ x ≤ length (now row) ⌝ }
+    ensures { λ r. ⌜ ScannedTo (isInk (now (row .entry))) false x (length (now (row .entry))) r ⌝ }
+{
+    let mut e = x;
+    while e < row.len() {
+        if row[e] != 0 {
+            return e;
+        }
+        e += 1;
+    }
+    e
+}
+
+// The first place from x on that is blank, or the end.
+fn ink_end(row: &[u8], x: usize) -> usize
+    requires { ⌜ x ≤ length (now row) ⌝ }
+    ensures { λ r. ⌜ ScannedTo (isInk (now (row .entry))) true x (length (now (row .entry))) r ⌝ }
+{
+    let mut e = x;
+    while e < row.len() {
+        if row[e] == 0 {
+            return e;
+        }
+        e += 1;
+    }
+    e
+}
+
+// A length as an extent.
+pub fn capped(length: usize) -> u32
+    ensures { λ r. ⌜ r ≡ min length maxExtent ⌝ }
+{
+    if length <= 65534 {
+        length as u32
+    } else {
+        MAX_EXTENT
+    }
+}
+
+// v in every word.
+pub fn fill(words: &mut [u32], v: u32)
+    ensures { λ _. ⌜ now (words .exit) ≡ replicate (length (now (words .entry))) v ⌝ }
+{
+    let mut i: usize = 0;
+    while i < words.len() {
+        words[i] = v;
+        i += 1;
+    }
+}
+
+// Along the columns: down, each dot counts the ink that ends at it; up again, each dot takes what the dot below has. Row by row,
+// so that a row's dots are independent.
+fn column_extents(mask: &[u8], width: u32, height: u32, extents: &mut [u32])
+    requires { ⌜ PlaneFits width height (length (now mask)) (length (now extents)) ⌝ }
+    ensures { λ _. ⌜ now (extents .exit) ≡ over (columnExtents width height (now (mask .entry))) (now (extents .entry)) ⌝ }
+{
+    let w = width as usize;
+    let h = height as usize;
+    count_down(mask, w, h, extents);
+    take_up(mask, w, h, extents);
+}
+
+fn count_down(mask: &[u8], w: usize, h: usize, extents: &mut [u32])
+    requires { ⌜ PlaneFits w h (length (now mask)) (length (now extents)) ⌝ }
+    ensures { λ _. ⌜ now (extents .exit) ≡ over (table (countDown w (now (mask .entry))) (w * h)) (now (extents .entry)) ⌝ }
+{
+    count_first_row(mask, w, extents);
+    let mut y: usize = 1;
+    while y < h {
+        count_row(mask, w, y * w, extents);
+        y += 1;
+    }
+}
+
+fn count_first_row(mask: &[u8], w: usize, extents: &mut [u32])
+    requires { ⌜ (0 < w) × (w ≤ length (now mask)) × (length (now mask) ≤ length (now extents)) ⌝ }
+    ensures { λ _. ⌜ now (extents .exit) ≡ over (table (until w (countDown w (now (mask .entry))) (λ k. getD (now (extents .entry)) k 0)) (length (now (mask .entry)))) (now (extents .entry)) ⌝ }
+{
+    let mut i: usize = 0;
+    while i < w {
+        extents[i] = count_on(mask[i], 0);
+        i += 1;
+    }
+}
+
+// The row at `at`, from the row above.
+fn count_row(mask: &[u8], w: usize, at: usize, extents: &mut [u32])
+    requires { ⌜ (0 < w) × (w ≤ at) × (at + w ≤ length (now mask)) × (length (now mask) ≤ length (now extents)) × (length (now mask) ≤ 1073741824) × ((k : ℕ) → k < at → getD (now extents) k 0 ≡ countDown w (now mask) k) ⌝ }
+    ensures { λ _. ⌜ now (extents .exit) ≡ over (table (until (at + w) (countDown w (now (mask .entry))) (λ k. getD (now (extents .entry)) k 0)) (length (now (mask .entry)))) (now (extents .entry)) ⌝ }
+{
+    let end = at + w;
+    let mut i = at;
+    while i < end {
+        extents[i] = count_on(mask[i], extents[i - w]);
+        i += 1;
+    }
+}
+
+// One more where there is ink, else none; without a branch, so that a row goes many dots at a time.
+fn count_on(b: u8, above: u32) -> u32
+    requires { ⌜ above ≤ 1073741824 ⌝ }
+    ensures { λ r. ⌜ r ≡ cond (ltb 0 b) (above + 1) 0 ⌝ }
+{
+    let ink = (0 < b) as u32;
+    ink * (above + 1)
+}
+
+fn take_up(mask: &[u8], w: usize, h: usize, extents: &mut [u32])
+    requires { ⌜ (PlaneFits w h (length (now mask)) (length (now extents))) × ((k : ℕ) → k < w * h → getD (now extents) k 0 ≡ countDown w (now mask) k) ⌝ }
+    ensures { λ _. ⌜ now (extents .exit) ≡ over (table (columnExtent w h (now (mask .entry))) (w * h)) (now (extents .entry)) ⌝ }
+{
+    let mut y = h - 1;
+    cap_row(y * w, extents, mask.len());
+    while 0 < y {
+        y -= 1;
+        take_inky_row(mask, w, h, y * w, extents);
+    }
+}
+
+// The last row: nothing lies below it.
+fn cap_row(at: usize, extents: &mut [u32], end: usize)
+    requires { ⌜ (at ≤ end) × (end ≤ length (now extents)) ⌝ }
+    ensures { λ _. ⌜ now (extents .exit) ≡ over (table (until at (λ k. getD (now (extents .entry)) k 0) (λ k. min (getD (now (extents .entry)) k 0) maxExtent)) end) (now (extents .entry)) ⌝ }
+{
+    let mut i = end;
+    while at < i {
+        i -= 1;
+        extents[i] = least(extents[i]);
+    }
+}
+
+// The row at `at`, from the row below; a row without ink is as it is to be.
+fn take_inky_row(mask: &[u8], w: usize, h: usize, at: usize, extents: &mut [u32])
+    requires { ⌜ (0 < w) × (length (now mask) ≡ w * h) × (at + w + w ≤ w * h) × (w * h ≤ length (now extents)) × ((k : ℕ) → at ≤ k → k < at + w → getD (now extents) k 0 ≡ countDown w (now mask) k) × ((k : ℕ) → at + w ≤ k → k < w * h → getD (now extents) k 0 ≡ columnExtent w h (now mask) k) ⌝ }
+    ensures { λ _. ⌜ now (extents .exit) ≡ over (table (until at (λ k. getD (now (extents .entry)) k 0) (columnExtent w h (now (mask .entry)))) (w * h)) (now (extents .entry)) ⌝ }
+{
+    let end = at + w;
+    let first = blank_end(&mask[at..end], 0);
+    if first < w {
+        take_row(mask, w, h, at, extents);
+    }
+}
+
+fn take_row(mask: &[u8], w: usize, h: usize, at: usize, extents: &mut [u32])
+    requires { ⌜ (0 < w) × (length (now mask) ≡ w * h) × (at + w + w ≤ w * h) × (w * h ≤ length (now extents)) × ((k : ℕ) → at ≤ k → k < at + w → getD (now extents) k 0 ≡ countDown w (now mask) k) × ((k : ℕ) → at + w ≤ k → k < w * h → getD (now extents) k 0 ≡ columnExtent w h (now mask) k) ⌝ }
+    ensures { λ _. ⌜ now (extents .exit) ≡ over (table (until at (λ k. getD (now (extents .entry)) k 0) (columnExtent w h (now (mask .entry)))) (w * h)) (now (extents .entry)) ⌝ }
+{
+    let mut i = at + w;
+    while at < i {
+        i -= 1;
+        extents[i] = take_on(mask[i], mask[i + w], extents[i], extents[i + w]);
+    }
+}
+
+// The extent of a dot, from its count and the extent of the dot below; without a branch.
+fn take_on(b: u8, below: u8, own: u32, lower: u32) -> u32
+    requires { ⌜ lower ≤ 65534 ⌝ }
+    ensures { λ r. ⌜ r ≡ cond (ltb 0 b) (cond (ltb 0 below) lower (min own maxExtent)) 0 ⌝ }
+{
+    let ink = (0 < b) as u32;
+    let more = (0 < below) as u32;
+    let e = least(own);
+    ink * (more * lower + (1 - more) * e)
+}
+
+// A count as an extent.
+fn least(count: u32) -> u32
+    ensures { λ r. ⌜ r ≡ min count maxExtent ⌝ }
+{
+    if count < MAX_EXTENT {
+        count
+    } else {
+        MAX_EXTENT
+    }
+}
