@@ -1,7 +1,5 @@
--- what the labelling gives, to move down to labelling
+-- what the labelling gives
 pub mod LabelFacts
--- counting by places
-pub mod CountLaws
 -- dots of a plane and masks of tests
 pub mod MaskLaws
 -- a table over the front of a list, while a loop fills it
