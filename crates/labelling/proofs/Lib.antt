@@ -1,5 +1,3 @@
--- a part of a slice that is lent and put back
-pub mod PartLaws
 -- counting the numbers that pass a test
 pub mod CountLaws
 -- the least or the greatest of some numbers

@@ -28,7 +28,7 @@ use Rattle.labelling.proofs.TransferLaws.{firsts-named}
 use Rattle.labelling.proofs.RunLabelLaws.{turns-even, turns-runs, paint-run, paint-gap}
 use Rattle.labelling.proofs.RunComponentLaws.{labelling-by-runs}
 use Rattle.labelling.proofs.ScanLaws.{turns-fit}
-use Rattle.labelling.proofs.PartLaws.{tail-part, tail-put}
+use Rattle.memory.proofs.PartLaws.{tail-part, tail-put}
 use Rattle.labelling.proofs.RecordSweepLaws.{first-low}
 
 -- the labelling by the words that hold its runs

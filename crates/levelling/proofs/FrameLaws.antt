@@ -17,9 +17,9 @@ use Rattle.memory.specs.Limits.{maxFrameWidth, maxFrameHeight}
 use Rattle.memory.specs.Lists.{table, greatest}
 use Rattle.memory.proofs.TableLaws.{table-ext, length-table}
 use Rattle.rounding.specs.Rounding.{positiveZero}
-use Rattle.rounding.specs.Drift.{drift, driftX}
+use Rattle.rounding.specs.Drift.{WithinOne, drift, driftX}
 use Rattle.rounding.proofs.Signs.{negative}
-use Rattle.rounding.proofs.DriftLaws.{WithinOne, signed, drift-signed, drift-within, drift-rises, drift-step, driftX-is-drift}
+use Rattle.rounding.proofs.DriftLaws.{signed, drift-signed, drift-within, drift-rises, drift-step, driftX-is-drift}
 use Rattle.levelling.specs.Shears.{shearOf}
 use Rattle.levelling.specs.Frames.{PageSides, frame, frameOf}
 use Rattle.levelling.specs.Planes.{PlaneFits}

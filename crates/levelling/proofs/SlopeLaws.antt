@@ -12,9 +12,9 @@ use lib.Dec.{T, ltb, eqb, ltb→lt, eqb→eq, lt→ltb}
 use lib.Ieee.{Float, nan, inf, fin, binary64, le, lt, neg, mul, ofInt, ofBits, up, down, below, level, toSigned, toUnsigned}
 use lib.Ieee.Fits.{down-pos}
 use Rattle.rounding.specs.Rounding.{roundToUnsigned, positiveZero}
-use Rattle.rounding.specs.Drift.{drift}
+use Rattle.rounding.specs.Drift.{WithinOne, drift}
 use Rattle.rounding.proofs.Signs.{negative}
-use Rattle.rounding.proofs.DriftLaws.{WithinOne, signed, drift-signed, drift-within, drift-near, drift-negated}
+use Rattle.rounding.proofs.DriftLaws.{signed, drift-signed, drift-within, drift-near, drift-negated}
 use Rattle.levelling.specs.Shears.{magnitude}
 use Rattle.levelling.proofs.Integers.{natAbs-negated}
 

@@ -8,7 +8,7 @@ ghost use Prim.Native.Nat.{_+_, _≤_};
 ghost use lib.ListN.{length};
 ghost use Rattle.memory.specs.Limits.{maxFrameWidth, maxFrameHeight};
 ghost use Rattle.memory.specs.Words.{over};
-ghost use Rattle.rounding.proofs.DriftLaws.{WithinOne};
+ghost use Rattle.rounding.specs.Drift.{WithinOne};
 ghost use Rattle.levelling.specs.Frames.{PageSides, frame};
 
 // The sides of the frame.

@@ -8,8 +8,7 @@ ghost use lib.IntN.{natAbs};
 ghost use Rattle.memory.specs.Lists.{table};
 ghost use Rattle.memory.specs.Words.{over};
 ghost use Rattle.rounding.specs.Rounding.{positiveZero};
-ghost use Rattle.rounding.specs.Drift.{drift};
-ghost use Rattle.rounding.proofs.DriftLaws.{WithinOne};
+ghost use Rattle.rounding.specs.Drift.{drift, WithinOne};
 ghost use Rattle.levelling.specs.Shears as Shears;
 ghost use Rattle.levelling.specs.Shears.{shearOf};
 

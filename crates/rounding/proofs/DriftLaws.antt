@@ -22,16 +22,12 @@ use lib.Ieee.Back.{round-whole}
 use lib.Ieee.Scale.{round-same}
 use lib.Ieee.Positive.{num, den, den-pos}
 use Rattle.rounding.specs.Rounding.{nearestWhole, roundHalfAway, roundToSigned}
-use Rattle.rounding.specs.Drift.{drift, driftX}
+use Rattle.rounding.specs.Drift.{drift, driftX, WithinOne}
 use Rattle.rounding.proofs.Tests.{at-most}
 use Rattle.rounding.proofs.Signs.{negative, neg-round, mul-neg}
 use Rattle.rounding.proofs.RoundedCasts.{roundToSigned-is}
 use Rattle.rounding.proofs.RoundBounds.{finite-nonneg}
 use Rattle.rounding.proofs.DriftSize.{size, bound, size-le, size-mono, size-step, size-near}
-
--- from -1 to 1
-abbrev pub WithinOne : Float → Type 0
-WithinOne slope = T (le (fin true 1 (pos 0)) slope) × T (le slope (fin false 1 (pos 0)))
 
 abbrev pub signed : Bool → ℕ → ℤ
 signed s n = cond s (negℤ (pos n)) (pos n)

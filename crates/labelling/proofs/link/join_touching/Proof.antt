@@ -6,7 +6,7 @@ use lib.ListN.{length, getD}
 use lib.Seq.{getD-take}
 use Prim.Native.Nat.{ℕ, _+_, _-_, _*_, _≤_, _<_}
 use native.Mathlib.Nat.{le-refl}
-use Rattle.labelling.proofs.PartLaws.{tail-part, tail-put}
+use Rattle.memory.proofs.PartLaws.{tail-part, tail-put}
 use Rattle.labelling.specs.Forests.{United}
 use Rattle.labelling.proofs.RunLinkLaws.{Sweep, kept-none, kept-word, sweep-asks, sweep-more, sweep-stop, sweep-end}
 use Rattle.labelling.proofs.link.join_touching.Statement.{statement}

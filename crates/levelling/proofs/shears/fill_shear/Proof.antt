@@ -8,8 +8,8 @@ use lib.Ieee.{Float, lt}
 use Rattle.memory.specs.Lists.{table}
 use Rattle.memory.proofs.TableLaws.{table-more, table-filled}
 use Rattle.rounding.specs.Rounding.{positiveZero}
-use Rattle.rounding.proofs.DriftLaws.{WithinOne, drift-rises}
-use Rattle.rounding.specs.Drift.{drift}
+use Rattle.rounding.proofs.DriftLaws.{drift-rises}
+use Rattle.rounding.specs.Drift.{WithinOne, drift}
 use Rattle.levelling.specs.Shears.{shearOf}
 use Rattle.levelling.proofs.SlopeLaws.{driftSize, entryBy, abs, steep-within, steep-not-below}
 use Rattle.levelling.proofs.FrameLaws.{shear-by-test}
