@@ -1,6 +1,22 @@
+-- what holds of every page: smoothing, lines, blocks, columns
+pub mod Theorems
 -- one name that opens every definition, for what is computed
 pub mod Computed
 -- document 01's starred cases, as one table
 pub mod StarredCases
 -- document 01's printed leaf
 pub mod SampleLeaf
+-- those that pass a test; lists whose entries all have a property
+pub mod ListLaws
+-- the run through a place, from where it starts and ends
+pub mod RunLaws
+-- a place of a plane, and its dot
+pub mod PlaneLaws
+-- smoothing, as a walk along the row sees it
+pub mod JoinLaws
+-- runs of frame columns: one more, and where they lie
+pub mod ColumnLaws
+-- the numbers that pass a test: their count and their places
+pub mod CountLaws
+-- blocks part the lines, and are numbered by first line
+pub mod BlockLaws

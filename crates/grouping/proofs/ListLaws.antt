@@ -1,0 +1,72 @@
+-- Lists of those that pass a test, and lists whose entries all have a property.
+use mathlib.Core.Path.{_≡_, refl, sym, ap, _∙_}
+use mathlib.Core.Bool.{Bool, true, false, cond, true≢false}
+use mathlib.Core.List.{List, [], _∷_, _++_}
+use Prim.Native.Nat.{ℕ, zero, suc, _+_, _≤_, _<_}
+use native.Mathlib.Nat.{not-suc-le-zero, le-of-suc-le-suc, le-refl}
+use native.Mathlib.Omega.{arith}
+use lib.ListN.{getD, length, length-append}
+use Rattle.memory.specs.Lists.{table, upto, keep, insertBy, sortBy}
+
+pub keep-yes : {A : Type 0} (p : A → Bool) (a : A) (l : List A) → p a ≡ true → keep p (a ∷ l) ≡ a ∷ keep p l
+unfolding keep
+keep-yes p a l e = rw e
+
+pub keep-no : {A : Type 0} (p : A → Bool) (a : A) (l : List A) → p a ≡ false → keep p (a ∷ l) ≡ keep p l
+unfolding keep
+keep-no p a l e = rw e
+
+pub keep-append : {A : Type 0} (p : A → Bool) (l m : List A) → keep p (l ++ m) ≡ keep p l ++ keep p m
+unfolding keep
+keep-append p [] m = refl
+keep-append {A} p (a ∷ l) m = go (p a) (keep-append p l m)
+  where
+    go : (t : Bool) → keep p (l ++ m) ≡ keep p l ++ keep p m → cond t (a ∷ keep p (l ++ m)) (keep p (l ++ m)) ≡ cond t (a ∷ keep p l) (keep p l) ++ keep p m
+    go true e = ap (λ (r : List A). a ∷ r) e
+    go false e = e
+
+-- one more entry at the end
+pub keep-snoc-yes : {A : Type 0} (p : A → Bool) (l : List A) (a : A) → p a ≡ true → keep p (l ++ (a ∷ [])) ≡ keep p l ++ (a ∷ [])
+unfolding keep
+keep-snoc-yes {A} p l a e = keep-append p l (a ∷ []) ∙ ap (λ (r : List A). keep p l ++ r) (keep-yes p a [] e)
+
+pub keep-snoc-no : {A : Type 0} (p : A → Bool) (l : List A) (a : A) → p a ≡ false → keep p (l ++ (a ∷ [])) ≡ keep p l
+unfolding keep
+keep-snoc-no {A} p l a e = keep-append p l (a ∷ []) ∙ (ap (λ (r : List A). keep p l ++ r) (keep-no p a [] e) ∙ mathlib.Core.List.append-nil (keep p l))
+
+pub upto-suc : (n : ℕ) → upto (suc n) ≡ upto n ++ (n ∷ [])
+unfolding upto table
+upto-suc n = refl
+
+-- each entry has the property
+abbrev pub Each : {A : Type 0} → (A → Type 0) → List A → Type 0
+Each P [] = Unit
+Each P (a ∷ l) = P a × Each P l
+
+pub each-at : {A : Type 0} (P : A → Type 0) (l : List A) → Each P l → (i : ℕ) (d : A) → i < length l → P (getD l i d)
+each-at P [] h i d k = absurd (not-suc-le-zero k)
+each-at P (a ∷ l) h zero d k = h .0
+each-at P (a ∷ l) h (suc i) d k = each-at P l (h .1) i d (le-of-suc-le-suc k)
+
+pub each-keep : {A : Type 0} (P : A → Type 0) (p : A → Bool) → ((a : A) → p a ≡ true → P a) → (l : List A) → Each P (keep p l)
+unfolding keep
+each-keep P p f [] = tt
+each-keep {A} P p f (a ∷ l) = go (p a) refl (each-keep P p f l)
+  where
+    go : (t : Bool) → p a ≡ t → Each P (keep p l) → Each P (cond t (a ∷ keep p l) (keep p l))
+    go true e h = (f a e, h)
+    go false e h = h
+
+each-insert : {A : Type 0} (P : A → Type 0) (precedes : A → A → Bool) (a : A) (l : List A) → P a → Each P l → Each P (insertBy precedes a l)
+unfolding insertBy
+each-insert P precedes a [] h k = (h, tt)
+each-insert {A} P precedes a (b ∷ l) h k = go (precedes a b) (each-insert P precedes a l h (k .1))
+  where
+    go : (t : Bool) → Each P (insertBy precedes a l) → Each P (cond t (a ∷ b ∷ l) (b ∷ insertBy precedes a l))
+    go true ih = (h, k)
+    go false ih = (k .0, ih)
+
+pub each-sort : {A : Type 0} (P : A → Type 0) (precedes : A → A → Bool) (l : List A) → Each P l → Each P (sortBy precedes l)
+unfolding sortBy
+each-sort P precedes [] h = tt
+each-sort P precedes (a ∷ l) h = each-insert P precedes a (sortBy precedes l) (h .0) (each-sort P precedes l (h .1))
