@@ -8,15 +8,9 @@ use native.Mathlib.Omega.{arith}
 use lib.ListN.{getD, length}
 use lib.Dec.{ltb}
 use Rattle.memory.specs.Lists.{table, upto, keep}
-use Rattle.grouping.specs.Columns.{column, columnsFrom, columnRuns, columnsOf}
-use Rattle.grouping.specs.declared.Column.{Column}
+use Rattle.grouping.specs.Columns.{column, columnsFrom, columnRuns, columnsOf, extended}
+use Rattle.grouping.specs.declared.column.Column.{Column}
 use Rattle.grouping.proofs.ListLaws.{keep-snoc-yes, keep-snoc-no, upto-suc}
-
--- the runs cs with the frame column x more
-unfoldable pub extended : ℕ → ℕ → List Column → List Column
-extended gap x [] = column x x ∷ []
-extended gap x (c ∷ []) = cond (ltb (x - (c .x1 + 1)) gap) (column (c .x0) x ∷ []) (c ∷ column x x ∷ [])
-extended gap x (c ∷ (d ∷ l)) = c ∷ extended gap x (d ∷ l)
 
 some-run : (gap a b : ℕ) (xs : List ℕ) → (c : Column) × (l : List Column) × (columnsFrom gap a b xs ≡ c ∷ l)
 unfolding columnsFrom

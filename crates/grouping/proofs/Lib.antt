@@ -20,3 +20,13 @@ pub mod ColumnLaws
 pub mod CountLaws
 -- blocks part the lines, and are numbered by first line
 pub mod BlockLaws
+-- tables over the front of lent words
+pub mod TableWords
+-- lines over a frame column, from those that start and end there
+pub mod CoverLaws
+-- columns in lent words, with one frame column more
+pub mod ColumnWords
+-- the walk that sums starts and ends
+pub mod CoverSums
+-- counts of starts and ends in lent words
+pub mod CoverWords

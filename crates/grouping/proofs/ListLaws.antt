@@ -1,7 +1,7 @@
 -- Lists of those that pass a test, and lists whose entries all have a property.
 use mathlib.Core.Path.{_≡_, refl, sym, ap, _∙_}
 use mathlib.Core.Bool.{Bool, true, false, cond, true≢false}
-use mathlib.Core.List.{List, [], _∷_, _++_}
+use mathlib.Core.List.{List, [], _∷_, _++_, map}
 use Prim.Native.Nat.{ℕ, zero, suc, _+_, _≤_, _<_}
 use native.Mathlib.Nat.{not-suc-le-zero, le-of-suc-le-suc, le-refl}
 use native.Mathlib.Omega.{arith}
@@ -70,3 +70,21 @@ pub each-sort : {A : Type 0} (P : A → Type 0) (precedes : A → A → Bool) (l
 unfolding sortBy
 each-sort P precedes [] h = tt
 each-sort P precedes (a ∷ l) h = each-insert P precedes a (sortBy precedes l) (h .0) (each-sort P precedes l (h .1))
+
+pub each-snoc : {A : Type 0} (P : A → Type 0) (l : List A) (a : A) → Each P l → P a → Each P (l ++ (a ∷ []))
+each-snoc P [] a h k = (k, tt)
+each-snoc P (b ∷ l) a (h, hs) k = (h, each-snoc P l a hs k)
+
+pub each-table : {A : Type 0} (P : A → Type 0) (f : ℕ → A) (n : ℕ) → ((i : ℕ) → i < n → P (f i)) → Each P (table f n)
+unfolding table
+each-table P f zero h = tt
+each-table P f (suc n) h = each-snoc P (table f n) (f n) (each-table P f n (λ i l. h i (omega arith))) (h n (le-refl (suc n)))
+
+map-append : {A B : Type 0} (f : A → B) (l m : List A) → map f (l ++ m) ≡ map f l ++ map f m
+map-append f [] m = refl
+map-append {A} {B} f (a ∷ l) m = ap (λ (t : List B). f a ∷ t) (map-append f l m)
+
+pub map-table : {A B : Type 0} (f : A → B) (g : ℕ → A) (n : ℕ) → map f (table g n) ≡ table (λ i. f (g i)) n
+unfolding table
+map-table f g zero = refl
+map-table {A} {B} f g (suc n) = map-append f (table g n) (g n ∷ []) ∙ ap (λ (t : List B). t ++ (f (g n) ∷ [])) (map-table f g n)

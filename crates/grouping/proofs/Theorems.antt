@@ -17,7 +17,7 @@ use Rattle.sorting.specs.Lengths.{float, _·_, dots}
 use Rattle.grouping.specs.Smoothing.{glyphAt, joined, smoothed}
 use Rattle.grouping.specs.Lines.{LabelledGlyph, SmoothedLine, smoothedLine, isLine, keysAtMost, lineKeys, keptLines}
 use Rattle.grouping.specs.Columns.{columnsOf, columnRuns}
-use Rattle.grouping.specs.declared.Column.{Column}
+use Rattle.grouping.specs.declared.column.Column.{Column}
 use Rattle.grouping.proofs.ListLaws.{Each, each-at, each-keep, each-sort}
 use Rattle.grouping.proofs.PlaneLaws.{mask-at}
 use Rattle.grouping.proofs.JoinLaws.{joined-on, joined-before, joined-after}

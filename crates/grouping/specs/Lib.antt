@@ -8,6 +8,10 @@ pub mod Blocks
 pub mod Columns
 -- one record of all results of a page, and the refusals that it can give
 pub mod Layouts
+-- tables of counts
+pub mod Counts
+-- lines, blocks, columns and glyphs as words
+pub mod Words
 -- what is read from the results: `summarize`, the twenty-line measure, the dots of one kind in a box
 pub mod Readings
 -- the figures of the printed sheet

@@ -1,8 +1,7 @@
-// Grouping: text lines, blocks, columns and the figures that clubs print (layout.rs). The functions come with their proofs; what
-// they must do is in specs/.
+// Grouping: text lines, blocks, columns and the figures that clubs print (layout.rs). Lines, blocks and columns lie in lent words,
+// as many for each record; what the functions must do is in specs/.
+mod column;
+mod counts;
 
-// A column of the page: its first and its last frame column.
-pub struct Column {
-    pub x0: u32,
-    pub x1: u32,
-}
+pub use column::Column;
+pub use column::columns;

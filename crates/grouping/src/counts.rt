@@ -1,0 +1,44 @@
+// Tables of counts in lent words: how often each value occurs.
+ghost use mathlib.Core.Path.{_≡_};
+ghost use Prim.Native.Nat.{ℕ, _+_, _*_, _≤_, _<_};
+ghost use lib.ListN.{length, getD};
+ghost use Rattle.memory.specs.Lists.{table};
+ghost use Rattle.memory.specs.Words.{over};
+ghost use Rattle.grouping.specs.Words.{lineWords, fields};
+ghost use Rattle.grouping.specs.Counts.{counts};
+
+// The words of a line.
+pub const LINE_WORDS: usize = 8;
+
+// The same number, wider.
+pub fn wide(x: u32) -> usize
+    ensures { λ r. ⌜ r ≡ x ⌝ }
+{
+    x as usize
+}
+
+// The first m words become 0.
+pub fn clear(words: &mut [u32], m: usize)
+    requires { ⌜ m ≤ length (now words) ⌝ }
+    ensures { λ _. ⌜ now (words .exit) ≡ over (table (λ (v : ℕ). 0) m) (now (words .entry)) ⌝ }
+{
+    let mut i = 0;
+    while i < m {
+        words[i] = 0;
+        i += 1;
+    }
+}
+
+// Counts the values, all below m, of word `field` of the n lines.
+pub fn count_field(lines: &[u32], n: usize, field: usize, table: &mut [u32], m: usize)
+    requires { ⌜ (n * lineWords ≤ length (now lines)) × (field < lineWords) × (n ≤ 4294967295) × (m ≤ length (now table)) × ((i : ℕ) → i < n → getD (now lines) (i * lineWords + field) 0 < m) ⌝ }
+    ensures { λ _. ⌜ now (table .exit) ≡ over (counts (fields lineWords field (now (lines .entry)) n) m) (now (table .entry)) ⌝ }
+{
+    clear(table, m);
+    let mut i = 0;
+    while i < n {
+        let v = wide(lines[i * LINE_WORDS + field]);
+        table[v] = table[v] + 1;
+        i += 1;
+    }
+}
