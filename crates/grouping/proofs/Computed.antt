@@ -17,7 +17,7 @@ use Rattle.sorting.specs.Kinds.{kindAt}
 use Rattle.sorting.specs.Sorted.{sorted, boxesOf, rulesOf, graphicsOf, kindCounts}
 use Rattle.grouping.specs.Smoothing.{smoothingGap, glyphAt, joined, smoothed}
 use Rattle.grouping.specs.Lines.{firstDot, labelledGlyphs, smoothedLine, isLine, keysAtMost, keptLines, lineNumber}
-use Rattle.grouping.specs.Blocks.{lineHeight, hardCap, candidates, leastOf, nearestGaps, maxGap, together, blockFirsts, opensBlock, blockNumber, unionAll, blockOf, blocksOf}
+use Rattle.grouping.specs.Blocks.{lineHeight, hardCap, candidates, leastOf, leastWith, nearestGaps, maxGap, together, blockFirsts, opensBlock, blockNumber, unionAll, blockOf, blocksOf}
 use Rattle.grouping.specs.Columns.{cover, covered, columnsFrom, columnRuns, columnsOf}
 use Rattle.grouping.specs.Layouts.{textLine, glyphBox, layout, page, layoutRefusal}
 use Rattle.grouping.specs.Readings.{differences, pitches, twentyLineMeasure, summary, listed, columnsAndRows, dotList}

@@ -30,3 +30,5 @@ pub mod ColumnWords
 pub mod CoverSums
 -- counts of starts and ends in lent words
 pub mod CoverWords
+-- the least gap to a candidate
+pub mod GapLaws

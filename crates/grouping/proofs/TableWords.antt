@@ -1,7 +1,8 @@
 -- Tables over the front of lent words: tables of counts with one more value counted, and a table with one more entry.
 use mathlib.Core.Path.{_≡_, refl, sym, ap, _∙_, subst}
 use mathlib.Core.Bool.{Bool, true, false, cond}
-use mathlib.Core.List.{List, [], _∷_, _++_}
+use mathlib.Core.List.{List, [], _∷_, _++_, append-nil}
+use borrow.Author.Tests.{lt-ltb, le-ltb}
 use Prim.Native.Nat.{ℕ, zero, suc, _+_, _*_, _≤_, _<_, zero-le}
 use native.Mathlib.Nat.{le-refl}
 use native.Mathlib.Decide.{ℕ-discrete}
@@ -13,7 +14,7 @@ use lib.Dec.{eqb}
 use Rattle.memory.specs.Lists.{table, occurs}
 use Rattle.memory.specs.Words.{over}
 use Rattle.memory.proofs.TableLaws.{length-table, getD-table, table-step}
-use Rattle.grouping.specs.Counts.{counts}
+use Rattle.grouping.specs.Counts.{counts, below}
 use Rattle.grouping.specs.Words.{fields}
 use Rattle.grouping.proofs.CountLaws.{occurs-same, occurs-other}
 
@@ -74,6 +75,33 @@ counts-more l s m v h =
     ∙ (set-append-left (counts l m) (drop (length (counts l m)) s) v (occurs v l + 1) (omega arith)
     ∙ ((λ i. counts-set l m v h i ++ drop (a i) s) ∙ ap (λ k. counts (l ++ (v ∷ [])) m ++ drop k s) (sym b)))
 
+-- from cleared words to counts, and back to what the words were before
+pub counts-start : (t₀ t : List ℕ) (m : ℕ) → t ≡ over (table (λ v. 0) m) t₀ → t ≡ over (counts [] m) t
+unfolding occurs
+counts-start t₀ t m e = e ∙ (sym (over-again (table (λ v. 0) m) (table (λ v. 0) m) t₀ refl) ∙ ap (λ (z : List ℕ). over (table (λ v. 0) m) z) (sym e))
+
+pub counts-done : (t₀ t u l : List ℕ) (m : ℕ) → t ≡ over (table (λ v. 0) m) t₀ → u ≡ over (counts l m) t → u ≡ over (counts l m) t₀
+counts-done t₀ t u l m e f =
+    f
+    ∙ (ap (λ (y : List ℕ). over (counts l m) y) e
+    ∙ over-again (counts l m) (table (λ v. 0) m) t₀ (length-table (λ v. occurs v l) m ∙ sym (length-table (λ v. 0) m)))
+
+-- a value counted where it is below m
+pub below-counted : (l s t : List ℕ) (m v : ℕ) → v < m → t ≡ over (counts l m) s
+    → (1 ≡ length (below m v)) × (set t v (getD t v 0 + 1) ≡ over (counts (l ++ below m v) m) s)
+below-counted l s t m v h e =
+    rw (lt-ltb v m h) (refl, ap (λ (z : List ℕ). set z v (getD z v 0 + 1)) e ∙ counts-more l s m v h)
+
+pub below-left : (l s t : List ℕ) (m v : ℕ) → m ≤ v → t ≡ over (counts l m) s → (0 ≡ length (below m v)) × (t ≡ over (counts (l ++ below m v) m) s)
+below-left l s t m v h e = rw (le-ltb v m h) (refl, e ∙ ap (λ (z : List ℕ). over (counts z m) s) (sym (append-nil l)))
+
+-- no count is more than the values
+pub counted-few : (l s t : List ℕ) (m v : ℕ) → v < m → t ≡ over (counts l m) s → getD t v 0 ≤ length l
+counted-few l s t m v h e =
+    let a : getD t v 0 ≡ occurs v l = ap (λ (z : List ℕ). getD z v 0) e ∙ over-at (λ w. occurs w l) m s v h in
+    let b = occurs-length v l in
+    omega arith
+
 -- The values of one word of each line, counted one after the other
 
 pub fields-more : (k j : ℕ) (s : List ℕ) (i : ℕ) → fields k j s (i + 1) ≡ fields k j s i ++ (getD s (i * k + j) 0 ∷ [])
@@ -81,24 +109,17 @@ unfolding table
 fields-more k j s i = ap (λ n. fields k j s n) (add-one i)
 
 pub field-none : (k j : ℕ) (s t₀ t : List ℕ) (m : ℕ) → t ≡ over (table (λ v. 0) m) t₀ → t ≡ over (counts (fields k j s 0) m) t
-unfolding occurs table
-field-none k j s t₀ t m e = e ∙ (sym (over-again (table (λ v. 0) m) (table (λ v. 0) m) t₀ refl) ∙ ap (λ (z : List ℕ). over (table (λ v. 0) m) z) (sym e))
+unfolding table
+field-none k j s t₀ t m e = counts-start t₀ t m e
 
-pub field-all : (k j : ℕ) (s t₀ t u : List ℕ) (m i n : ℕ) → t ≡ over (table (λ v. 0) m) t₀ → u ≡ over (counts (fields k j s i) m) t → i ≡ n → u ≡ over (counts (fields k j s n) m) t₀
-field-all k j s t₀ t u m i n e f z =
-    f
-    ∙ (ap (λ (y : List ℕ). over (counts (fields k j s i) m) y) e
-    ∙ (over-again (counts (fields k j s i) m) (table (λ v. 0) m) t₀ (length-table (λ v. occurs v (fields k j s i)) m ∙ sym (length-table (λ v. 0) m)) ∙ ap (λ y. over (counts (fields k j s y) m) t₀) z))
-
-module _ (k j : ℕ) (s t₀ t : List ℕ) (m i v : ℕ) (known : t ≡ over (counts (fields k j s i) m) t₀) (value : v ≡ getD s (i * k + j) 0) (below : v < m) where
+module _ (k j : ℕ) (s t₀ t : List ℕ) (m i v : ℕ) (known : t ≡ over (counts (fields k j s i) m) t₀) (value : v ≡ getD s (i * k + j) 0) (low : v < m) where
   pub field-fits : getD t v 0 ≤ i
   field-fits =
-      let a : getD t v 0 ≡ occurs v (fields k j s i) = ap (λ (z : List ℕ). getD z v 0) known ∙ over-at (λ w. occurs w (fields k j s i)) m t₀ v below in
-      let b = occurs-length v (fields k j s i) in
+      let a = counted-few (fields k j s i) t₀ t m v low known in
       let c = length-table (λ n. getD s (n * k + j) 0) i in
       omega arith
 
   pub field-more : set t v (getD t v 0 + 1) ≡ over (counts (fields k j s (i + 1)) m) t₀
   field-more =
       ap (λ (z : List ℕ). set z v (getD z v 0 + 1)) known
-      ∙ (counts-more (fields k j s i) t₀ m v below ∙ ap (λ (z : List ℕ). over (counts z m) t₀) (ap (λ a. fields k j s i ++ (a ∷ [])) value ∙ sym (fields-more k j s i)))
+      ∙ (counts-more (fields k j s i) t₀ m v low ∙ ap (λ (z : List ℕ). over (counts z m) t₀) (ap (λ a. fields k j s i ++ (a ∷ [])) value ∙ sym (fields-more k j s i)))

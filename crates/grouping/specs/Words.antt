@@ -63,6 +63,10 @@ pub record Inside (w h : ℕ) (r : Rect) : Type 0 where
   pub rows : r .y0 ≤ r .y1
   pub bottom : r .y1 < h
 
+-- the lines go by y0: none starts above the one before it
+abbrev pub ByTop : ℕ → List ℕ → Type 0
+ByTop n s = (i j : ℕ) → i ≤ j → j < n → lineBox s i .y0 ≤ lineBox s j .y0
+
 -- n lines of a frame, their boxes inside it
 pub record Lines (w h n : ℕ) (s : List ℕ) : Type 0 where
   pub room : n * lineWords ≤ length s

@@ -12,6 +12,7 @@ ghost use Rattle.memory.specs.Limits.{maxFrameWidth};
 ghost use Rattle.grouping.specs.Columns.{cover, enoughCover, columnRuns, columnsOf, extended, CoverSteps};
 ghost use Rattle.grouping.specs.Words.{Lines, lineBoxes, columnRecord};
 use crate::counts::count_field;
+use crate::numbers::greater;
 use params::LayoutParams;
 
 // A column of the page: its first and its last frame column.
@@ -67,13 +68,6 @@ fn sum_cover(counts: &mut [u32], w: usize) -> u32
         x += 1;
     }
     busiest
-}
-
-// The greater of two numbers.
-fn greater(a: u32, b: u32) -> u32
-    ensures { λ r. ⌜ r ≡ Prim.Native.Nat.max a b ⌝ }
-{
-    if a < b { b } else { a }
 }
 
 // Writes the runs of frame columns under enough lines.

@@ -1,21 +1,14 @@
 // Tables of counts in lent words: how often each value occurs.
 ghost use mathlib.Core.Path.{_≡_};
+ghost use mathlib.Core.List.{List, _++_};
 ghost use Prim.Native.Nat.{ℕ, _+_, _*_, _≤_, _<_};
 ghost use lib.ListN.{length, getD};
 ghost use Rattle.memory.specs.Lists.{table};
 ghost use Rattle.memory.specs.Words.{over};
 ghost use Rattle.grouping.specs.Words.{lineWords, fields};
-ghost use Rattle.grouping.specs.Counts.{counts};
-
-// The words of a line.
-pub const LINE_WORDS: usize = 8;
-
-// The same number, wider.
-pub fn wide(x: u32) -> usize
-    ensures { λ r. ⌜ r ≡ x ⌝ }
-{
-    x as usize
-}
+ghost use Rattle.grouping.specs.Counts.{counts, below};
+use crate::numbers::LINE_WORDS;
+use crate::numbers::wide;
 
 // The first m words become 0.
 pub fn clear(words: &mut [u32], m: usize)
@@ -41,4 +34,17 @@ pub fn count_field(lines: &[u32], n: usize, field: usize, table: &mut [u32], m: 
         table[v] = table[v] + 1;
         i += 1;
     }
+}
+
+// Counts v where it is below m; answers 1, or 0 where it is not.
+pub fn count_below(table: &mut [u32], m: u32, v: u32) -> u32
+    requires { ⌜ (m ≤ length (now table)) × (v < m → getD (now table) v 0 < 4294967295) ⌝ }
+    ensures { λ r. ⌜ ((l s : List ℕ) → now (table .entry) ≡ over (counts l m) s → (r ≡ length (below m v)) × (now (table .exit) ≡ over (counts (l ++ below m v) m) s)) ⌝ }
+{
+    if v < m {
+        let at = wide(v);
+        table[at] = table[at] + 1;
+        return 1;
+    }
+    0
 }

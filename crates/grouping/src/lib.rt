@@ -1,7 +1,9 @@
 // Grouping: text lines, blocks, columns and the figures that clubs print (layout.rs). Lines, blocks and columns lie in lent words,
 // as many for each record; what the functions must do is in specs/.
+mod block;
 mod column;
 mod counts;
+mod numbers;
 
 pub use column::Column;
 pub use column::columns;

@@ -1,4 +1,4 @@
-use Rattle.grouping.proofs.TableWords.{field-all}
+use Rattle.grouping.proofs.TableWords.{counts-done}
 use Prim.Native.Nat.{ℕ, _+_, _-_, _*_, _≤_, _<_, zero-le}
 use mathlib.Core.Path.{_≡_, refl, sym, ap, _∙_}
 use lib.ListN.{length, getD, length-set}
@@ -66,7 +66,9 @@ same-length : tie.Need-same-length Inv-loop μ-loop
 same-length c = search needs
 
 returns : tie.Need-returns Inv-loop μ-loop
-returns c = field-all 8 (c .before .before .before .before .before .before .before .before .args .field) (c .before .before .before .before .before .before .before .before .args .lines .now) (c .before .before .before .before .before .before .before .before .args .table .now) (c .before .before .before .before .clear .last .0) (c .before .loop .table) (c .before .before .before .before .before .before .before .before .args .m) (c .before .loop .i) (c .before .before .before .before .before .before .before .before .args .n) (c .before .before .before .before .clear .ensures) (c .before .loop .inv .2) (omega arith)
+returns c =
+    counts-done (c .before .before .before .before .before .before .before .before .args .table .now) (c .before .before .before .before .clear .last .0) (c .before .loop .table) _ (c .before .before .before .before .before .before .before .before .args .m) (c .before .before .before .before .clear .ensures)
+    (c .before .loop .inv .2 ∙ ap (λ (k : ℕ). over (counts (fields lineWords (c .before .before .before .before .before .before .before .before .args .field) (c .before .before .before .before .before .before .before .before .args .lines .now) k) (c .before .before .before .before .before .before .before .before .args .m)) (c .before .before .before .before .clear .last .0)) (let e : c .before .loop .i ≡ c .before .before .before .before .before .before .before .before .args .n = omega arith in e))
 
 pub count-field-spec : {M : Type 1} → statement M
 count-field-spec =

@@ -1,0 +1,111 @@
+// Blocks: lines that follow each other with small gaps and share columns.
+ghost use mathlib.Core.Path.{_≡_};
+ghost use mathlib.Core.Bool.{cond};
+ghost use mathlib.Core.List.{List};
+ghost use Prim.Native.Nat.{ℕ, _+_, _*_, _-_, _≤_, _<_, min};
+ghost use lib.ListN.{length, getD, drop};
+ghost use Rattle.memory.specs.Words.{over};
+ghost use Rattle.grouping.specs.Blocks.{lineGap, sharedColumns, overlapping, candidateGaps, leastWith, nearestGaps};
+ghost use Rattle.grouping.specs.Words.{Inside, Lines, ByTop, lineWords, lineBox, lineBoxes};
+ghost use Rattle.grouping.specs.Counts.{counts};
+use crate::counts::clear;
+use crate::counts::count_below;
+use crate::numbers::LINE_WORDS;
+use crate::numbers::greater;
+use crate::numbers::lesser;
+use labelling::Rect;
+
+// The box of line i.
+pub fn line_box(lines: &[u32], i: usize) -> Rect
+    requires { ⌜ i * lineWords + lineWords ≤ length (now lines) ⌝ }
+    ensures { λ r. ⌜ r ≡ lineBox (now (lines .entry)) i ⌝ }
+{
+    let at = i * LINE_WORDS;
+    Rect {
+        x0: lines[at],
+        y0: lines[at + 1],
+        x1: lines[at + 2],
+        y1: lines[at + 3],
+    }
+}
+
+// The rows between two lines, 0 where they overlap.
+fn line_gap(a: Rect, b: Rect) -> u32
+    requires { ⌜ a .y1 + 1 ≤ 4294967295 ⌝ }
+    ensures { λ r. ⌜ r ≡ lineGap a b ⌝ }
+{
+    let below = a.y1 + 1;
+    if b.y0 < below { 0 } else { b.y0 - below }
+}
+
+// The columns that two lines share.
+fn shared_columns(a: Rect, b: Rect) -> u32
+    requires { ⌜ a .x1 + 1 ≤ 4294967295 ⌝ }
+    ensures { λ r. ⌜ r ≡ sharedColumns a b ⌝ }
+{
+    let end = lesser(a.x1, b.x1) + 1;
+    let start = greater(a.x0, b.x0);
+    if end < start { 0 } else { end - start }
+}
+
+// Whether two lines share at least one column and at least `overlap` times the narrower width.
+fn overlaps(overlap: f64, a: Rect, b: Rect) -> bool
+    requires { ⌜ (a .x0 ≤ a .x1) × (a .x1 + 1 ≤ 4294967295) × (b .x0 ≤ b .x1) × (b .x1 + 1 ≤ 4294967295) ⌝ }
+    ensures { λ r. ⌜ r ≡ overlapping overlap a b ⌝ }
+{
+    let shared = shared_columns(a, b);
+    let narrow = lesser(a.width(), b.width());
+    (0 < shared) & (overlap * (narrow as f64) <= shared as f64)
+}
+
+// The nearer of what was found so far and line b, where a and b overlap.
+fn nearer(nearest: u32, gap: u32, overlap: f64, a: Rect, b: Rect) -> u32
+    requires { ⌜ (a .x0 ≤ a .x1) × (a .x1 + 1 ≤ 4294967295) × (b .x0 ≤ b .x1) × (b .x1 + 1 ≤ 4294967295) ⌝ }
+    ensures { λ r. ⌜ r ≡ cond (overlapping overlap a b) (min nearest gap) nearest ⌝ }
+{
+    if nearest <= gap {
+        return nearest;
+    }
+    if overlaps(overlap, a, b) {
+        return gap;
+    }
+    nearest
+}
+
+// The least gap from line i to a candidate after it; h, the frame's height, where there is none. The lines go by y0, so that past a
+// gap above the cap all are.
+fn nearest_gap(lines: &[u32], n: usize, i: usize, overlap: f64, cap: u32, h: u32) -> u32
+    requires { ⌜ ((w : ℕ) × Lines w h n (now lines) × (w ≤ 4294967295)) × ByTop n (now lines) × (i < n) ⌝ }
+    ensures { λ r. ⌜ r ≡ leastWith h (candidateGaps overlap cap (lineBox (now (lines .entry)) i) (drop (i + 1) (lineBoxes (now (lines .entry)) n))) ⌝ }
+{
+    let a = line_box(lines, i);
+    let mut nearest = h;
+    let mut j = i + 1;
+    while j < n {
+        let b = line_box(lines, j);
+        let gap = line_gap(a, b);
+        if cap < gap {
+            return nearest;
+        }
+        nearest = nearer(nearest, gap, overlap, a, b);
+        j += 1;
+    }
+    nearest
+}
+
+// Counts the gap of each line to its nearest candidate, all below h; answers how many lines have one.
+fn count_gaps(lines: &[u32], n: usize, overlap: f64, cap: u32, h: u32, table: &mut [u32]) -> u32
+    requires { ⌜ ((w : ℕ) × Lines w h n (now lines) × (w ≤ 4294967295)) × ByTop n (now lines) × (n ≤ 4294967295) × (h ≤ length (now table)) ⌝ }
+    ensures { λ r. ⌜ (r ≡ length (nearestGaps overlap cap (lineBoxes (now (lines .entry)) n)))
+        × (now (table .exit) ≡ over (counts (nearestGaps overlap cap (lineBoxes (now (lines .entry)) n)) h) (now (table .entry))) ⌝ }
+{
+    clear(table, h as usize);
+    let mut found = 0;
+    let mut i = 0;
+    while i < n {
+        let gap = nearest_gap(lines, n, i, overlap, cap, h);
+        found = found + count_below(table, h, gap);
+        i += 1;
+    }
+    found
+}
