@@ -1,3 +1,4 @@
+use Rattle.grouping.specs.Blocks.{overlapping}
 use mathlib.Core.Path.{sym, _∙_}
 use Rattle.grouping.proofs.GapLaws.{nearest-kept, nearest-found, nearest-not}
 use native.Mathlib.Omega.{arith}
@@ -6,7 +7,7 @@ use Rattle.grouping.proofs.block.nearer.Statement.{statement}
 use Rattle.grouping.proofs.block.nearer.Tie as tie
 
 returns : tie.Need-returns
-returns c = nearest-kept _ _ _ (c .if1 .taken)
+returns c = nearest-kept (overlapping (c .before .args .overlap) (c .before .args .a) (c .before .args .b)) _ _ (c .if1 .taken)
 
 overlaps-requires : tie.Need-overlaps-requires
 overlaps-requires c κs = search needs
