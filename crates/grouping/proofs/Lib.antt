@@ -32,3 +32,5 @@ pub mod CoverSums
 pub mod CoverWords
 -- the least gap to a candidate
 pub mod GapLaws
+-- medians from counts in lent words
+pub mod MedianWords

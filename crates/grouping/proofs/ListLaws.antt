@@ -71,16 +71,19 @@ unfolding sortBy
 each-sort P precedes [] h = tt
 each-sort P precedes (a ∷ l) h = each-insert P precedes a (sortBy precedes l) (h .0) (each-sort P precedes l (h .1))
 
+pub each-append : {A : Type 0} (P : A → Type 0) (l m : List A) → Each P l → Each P m → Each P (l ++ m)
+each-append P [] m h k = k
+each-append P (a ∷ l) m (h, hs) k = (h, each-append P l m hs k)
+
 pub each-snoc : {A : Type 0} (P : A → Type 0) (l : List A) (a : A) → Each P l → P a → Each P (l ++ (a ∷ []))
-each-snoc P [] a h k = (k, tt)
-each-snoc P (b ∷ l) a (h, hs) k = (h, each-snoc P l a hs k)
+each-snoc P l a h k = each-append P l (a ∷ []) h (k, tt)
 
 pub each-table : {A : Type 0} (P : A → Type 0) (f : ℕ → A) (n : ℕ) → ((i : ℕ) → i < n → P (f i)) → Each P (table f n)
 unfolding table
 each-table P f zero h = tt
 each-table P f (suc n) h = each-snoc P (table f n) (f n) (each-table P f n (λ i l. h i (omega arith))) (h n (le-refl (suc n)))
 
-map-append : {A B : Type 0} (f : A → B) (l m : List A) → map f (l ++ m) ≡ map f l ++ map f m
+pub map-append : {A B : Type 0} (f : A → B) (l m : List A) → map f (l ++ m) ≡ map f l ++ map f m
 map-append f [] m = refl
 map-append {A} {B} f (a ∷ l) m = ap (λ (t : List B). f a ∷ t) (map-append f l m)
 

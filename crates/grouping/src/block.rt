@@ -1,11 +1,13 @@
 // Blocks: lines that follow each other with small gaps and share columns.
 ghost use mathlib.Core.Path.{_≡_};
 ghost use mathlib.Core.Bool.{cond};
-ghost use mathlib.Core.List.{List};
+ghost use mathlib.Core.List.{List, map};
 ghost use Prim.Native.Nat.{ℕ, _+_, _*_, _-_, _≤_, _<_, min};
 ghost use lib.ListN.{length, getD, drop};
 ghost use Rattle.memory.specs.Words.{over};
-ghost use Rattle.grouping.specs.Blocks.{lineGap, sharedColumns, overlapping, candidateGaps, leastWith, nearestGaps};
+ghost use Rattle.grouping.specs.Blocks.{lineGap, sharedColumns, overlapping, candidateGaps, leastWith, nearestGaps, hardCap, maxGap};
+ghost use Rattle.labelling.specs.Rects.{height};
+ghost use Rattle.sorting.specs.Units.{median};
 ghost use Rattle.grouping.specs.Words.{Inside, Lines, ByTop, lineWords, lineBox, lineBoxes};
 ghost use Rattle.grouping.specs.Counts.{counts};
 use crate::counts::clear;
@@ -13,7 +15,10 @@ use crate::counts::count_below;
 use crate::numbers::LINE_WORDS;
 use crate::numbers::greater;
 use crate::numbers::lesser;
+use crate::numbers::wide;
 use labelling::Rect;
+use params::LayoutParams;
+use sorting::median_of_counts;
 
 // The box of line i.
 pub fn line_box(lines: &[u32], i: usize) -> Rect
@@ -91,6 +96,59 @@ fn nearest_gap(lines: &[u32], n: usize, i: usize, overlap: f64, cap: u32, h: u32
         j += 1;
     }
     nearest
+}
+
+// The limits of the gaps between lines: of candidates, and within a block.
+pub struct GapLimits {
+    pub cap: u32,
+    pub most: u32,
+}
+
+// Both limits for n lines of a frame h high.
+fn gap_limits(lines: &[u32], n: usize, sheet: LayoutParams, h: u32, table: &mut [u32]) -> GapLimits
+    requires { ⌜ ((w : ℕ) × Lines w h n (now lines) × (w ≤ 4294967295)) × ByTop n (now lines) × (n ≤ 4294967295) × (h < 4294967295) × (h + 1 ≤ length (now table)) ⌝ }
+    ensures { λ r. ⌜ (r .cap ≡ hardCap sheet (lineBoxes (now (lines .entry)) n)) × (r .most ≡ maxGap sheet (lineBoxes (now (lines .entry)) n)) ⌝ }
+{
+    let height = line_height(lines, n, h, table) as f64;
+    let cap = rounding::round_to_u32(sheet.block_max_gap_lines * height);
+    let overlap = sheet.block_min_overlap;
+    let typical = typical_gap(lines, n, overlap, cap, h, table) as f64;
+    let most = rounding::round_to_u32(typical + sheet.block_gap_margin_lines * height);
+    GapLimits { cap, most }
+}
+
+// The median height of the lines' boxes.
+fn line_height(lines: &[u32], n: usize, h: u32, table: &mut [u32]) -> u32
+    requires { ⌜ ((w : ℕ) × Lines w h n (now lines)) × (n ≤ 4294967295) × (h < 4294967295) × (h + 1 ≤ length (now table)) ⌝ }
+    ensures { λ r. ⌜ r ≡ median (map height (lineBoxes (now (lines .entry)) n)) ⌝ }
+{
+    count_heights(lines, n, h, table);
+    let values = (h as usize) + 1;
+    median_of_counts(&table[..values], n as u32)
+}
+
+// Counts the heights of the lines, 1 to h.
+fn count_heights(lines: &[u32], n: usize, h: u32, table: &mut [u32])
+    requires { ⌜ ((w : ℕ) × Lines w h n (now lines)) × (n ≤ 4294967295) × (h < 4294967295) × (h + 1 ≤ length (now table)) ⌝ }
+    ensures { λ _. ⌜ now (table .exit) ≡ over (counts (map height (lineBoxes (now (lines .entry)) n)) (h + 1)) (now (table .entry)) ⌝ }
+{
+    clear(table, (h as usize) + 1);
+    let mut i = 0;
+    while i < n {
+        let v = wide(line_box(lines, i).height());
+        table[v] = table[v] + 1;
+        i += 1;
+    }
+}
+
+// The median of the gaps of the lines to their nearest candidates.
+fn typical_gap(lines: &[u32], n: usize, overlap: f64, cap: u32, h: u32, table: &mut [u32]) -> u32
+    requires { ⌜ ((w : ℕ) × Lines w h n (now lines) × (w ≤ 4294967295)) × ByTop n (now lines) × (n ≤ 4294967295) × (h ≤ length (now table)) ⌝ }
+    ensures { λ r. ⌜ r ≡ median (nearestGaps overlap cap (lineBoxes (now (lines .entry)) n)) ⌝ }
+{
+    let found = count_gaps(lines, n, overlap, cap, h, table);
+    let values = h as usize;
+    median_of_counts(&table[..values], found)
 }
 
 // Counts the gap of each line to its nearest candidate, all below h; answers how many lines have one.
