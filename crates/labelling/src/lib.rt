@@ -14,4 +14,6 @@ mod words;
 pub use component::Component;
 pub use entry::LabelAnswer;
 pub use entry::label;
+pub use link::find;
+pub use link::unite;
 pub use rect::Rect;
