@@ -79,11 +79,11 @@ each-drop P f n d j h = go (decLe j n)
 -- The walk
 
 module _ (overlap : Float) (cap : ℕ) (a : Rect) where
-  too-far : (b : Rect) → cap < lineGap a b → candidates overlap cap a b ≡ false
+  pub too-far : (b : Rect) → cap < lineGap a b → candidates overlap cap a b ≡ false
   unfolding candidates
   too-far b h = rw (lt-leb (lineGap a b) cap h)
 
-  near : (b : Rect) → lineGap a b ≤ cap → candidates overlap cap a b ≡ overlapping overlap a b
+  pub near : (b : Rect) → lineGap a b ≤ cap → candidates overlap cap a b ≡ overlapping overlap a b
   unfolding candidates
   near b h = rw (le-leb (lineGap a b) cap h)
 

@@ -34,3 +34,5 @@ pub mod CoverWords
 pub mod GapLaws
 -- medians from counts in lent words
 pub mod MedianWords
+-- a union-find, its pairs walked by the smaller number
+pub mod PairLaws

@@ -12,6 +12,8 @@ pub mod Layouts
 pub mod Counts
 -- lines, blocks, columns and glyphs as words
 pub mod Words
+-- what the walk over the pairs of lines keeps
+pub mod Joining
 -- what is read from the results: `summarize`, the twenty-line measure, the dots of one kind in a box
 pub mod Readings
 -- the figures of the printed sheet

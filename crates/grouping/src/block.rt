@@ -4,12 +4,16 @@ ghost use mathlib.Core.Bool.{cond};
 ghost use mathlib.Core.List.{List, map};
 ghost use Prim.Native.Nat.{ℕ, _+_, _*_, _-_, _≤_, _<_, min};
 ghost use lib.ListN.{length, getD, drop};
+ghost use Rattle.memory.specs.Lists.{table};
 ghost use Rattle.memory.specs.Words.{over};
+ghost use Rattle.labelling.specs.Classes.{firstOf, firsts};
+ghost use Rattle.labelling.specs.Forests.{Forest};
 ghost use Rattle.grouping.specs.Blocks.{lineGap, sharedColumns, overlapping, candidateGaps, leastWith, nearestGaps, hardCap, maxGap};
 ghost use Rattle.labelling.specs.Rects.{height};
 ghost use Rattle.sorting.specs.Units.{median};
 ghost use Rattle.grouping.specs.Words.{Inside, Lines, ByTop, lineWords, lineBox, lineBoxes};
 ghost use Rattle.grouping.specs.Counts.{counts};
+ghost use Rattle.grouping.specs.Joining.{joins, Joined};
 use crate::counts::clear;
 use crate::counts::count_below;
 use crate::numbers::LINE_WORDS;
@@ -17,6 +21,8 @@ use crate::numbers::greater;
 use crate::numbers::lesser;
 use crate::numbers::wide;
 use labelling::Rect;
+use labelling::find;
+use labelling::unite;
 use params::LayoutParams;
 use sorting::median_of_counts;
 
@@ -166,4 +172,50 @@ fn count_gaps(lines: &[u32], n: usize, overlap: f64, cap: u32, h: u32, table: &m
         i += 1;
     }
     found
+}
+
+// Each line is its own parent.
+fn own_parents(parents: &mut [u32], n: usize)
+    requires { ⌜ (n ≤ length (now parents)) × (n ≤ 4294967295) ⌝ }
+    ensures { λ _. ⌜ now (parents .exit) ≡ over (table (λ (k : ℕ). k) n) (now (parents .entry)) ⌝ }
+{
+    let mut i = 0;
+    while i < n {
+        parents[i] = i as u32;
+        i += 1;
+    }
+}
+
+// Gives the n lines parents that lead each to the first line of its block: lines with a gap of at most `limit` that overlap belong
+// together.
+fn join_lines(lines: &[u32], n: usize, overlap: f64, limit: u32, parents: &mut [u32])
+    requires { ⌜ ((w h : ℕ) × Lines w h n (now lines) × (w ≤ 4294967295) × (h ≤ 4294967295)) × ByTop n (now lines) × (n ≤ 4294967295) × (n ≤ length (now parents)) ⌝ }
+    ensures { λ _. ⌜ Forest (firstOf (firsts (joins overlap limit (now (lines .entry))) n)) (now (parents .exit)) n ⌝ }
+{
+    own_parents(parents, n);
+    let mut i = 0;
+    while i < n {
+        join_after(lines, n, overlap, limit, i, parents);
+        i += 1;
+    }
+}
+
+// Joins line i with the lines after it that belong together with it. Past a gap above the limit there are none.
+fn join_after(lines: &[u32], n: usize, overlap: f64, limit: u32, i: usize, parents: &mut [u32])
+    requires { ⌜ ((w h : ℕ) × Lines w h n (now lines) × (w ≤ 4294967295) × (h ≤ 4294967295)) × ByTop n (now lines) × (n ≤ 4294967295) × (i < n) × Joined (joins overlap limit (now lines)) n (now parents) i (i + 1) ⌝ }
+    ensures { λ _. ⌜ Joined (joins overlap limit (now (lines .entry))) n (now (parents .exit)) (i + 1) (i + 1 + 1) ⌝ }
+{
+    let a = line_box(lines, i);
+    let mut root = find(parents, i);
+    let mut j = i + 1;
+    while j < n {
+        let b = line_box(lines, j);
+        if limit < line_gap(a, b) {
+            return;
+        }
+        if overlaps(overlap, a, b) {
+            root = unite(parents, root, j);
+        }
+        j += 1;
+    }
 }
