@@ -15,7 +15,7 @@ use Rattle.labelling.specs.declared.rect.Rect.{Rect}
 use Rattle.grouping.specs.Blocks.{Block, opensBlock, blockNumber, blockOf, blocksOf}
 use Rattle.grouping.proofs.CountLaws.{Placed, count-below, count-length, count-place, place-count, once}
 
-getD-map : {A B : Type 0} (f : A → B) (l : List A) (i : ℕ) (d : B) (e : A) → i < length l → getD (map f l) i d ≡ f (getD l i e)
+pub getD-map : {A B : Type 0} (f : A → B) (l : List A) (i : ℕ) (d : B) (e : A) → i < length l → getD (map f l) i d ≡ f (getD l i e)
 getD-map f [] i d e h = absurd (not-suc-le-zero h)
 getD-map f (a ∷ l) zero d e h = refl
 getD-map f (a ∷ l) (suc i) d e h = getD-map f l i d e (le-of-suc-le-suc h)

@@ -27,11 +27,11 @@ unfolding occurs
 occurs-other k a l n = occurs-append k l (a ∷ []) ∙ rw (ne-eqb a k n) (let e : occurs k l + 0 ≡ occurs k l = omega arith in e)
 
 module _ (p : ℕ → Bool) where
-  count-yes : (n : ℕ) → p n ≡ true → countIf p (suc n) ≡ suc (countIf p n)
+  pub count-yes : (n : ℕ) → p n ≡ true → countIf p (suc n) ≡ suc (countIf p n)
   unfolding countIf
   count-yes n e = rw e (let z : countIf p n + 1 ≡ suc (countIf p n) = omega arith in z)
 
-  count-no : (n : ℕ) → p n ≡ false → countIf p (suc n) ≡ countIf p n
+  pub count-no : (n : ℕ) → p n ≡ false → countIf p (suc n) ≡ countIf p n
   unfolding countIf
   count-no n e = rw e (let z : countIf p n + 0 ≡ countIf p n = omega arith in z)
 

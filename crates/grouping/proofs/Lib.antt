@@ -36,3 +36,7 @@ pub mod GapLaws
 pub mod MedianWords
 -- a union-find, its pairs walked by the smaller number
 pub mod PairLaws
+-- blocks numbered in one pass over the parents
+pub mod NumberLaws
+-- the records of the blocks, with one line more
+pub mod BlockWords

@@ -91,3 +91,13 @@ pub map-table : {A B : Type 0} (f : A → B) (g : ℕ → A) (n : ℕ) → map f
 unfolding table
 map-table f g zero = refl
 map-table {A} {B} f g (suc n) = map-append f (table g n) (g n ∷ []) ∙ ap (λ (t : List B). t ++ (f (g n) ∷ [])) (map-table f g n)
+
+-- no more pass than there are
+pub keep-few : (p : ℕ → Bool) (n : ℕ) → length (keep p (upto n)) ≤ n
+unfolding keep upto table
+keep-few p zero = le-refl 0
+keep-few p (suc n) = go (p n) refl (keep-few p n)
+  where
+    go : (t : Bool) → p n ≡ t → length (keep p (upto n)) ≤ n → length (keep p (upto n ++ (n ∷ []))) ≤ suc n
+    go true e h = rw (keep-snoc-yes p (upto n) n e) (let z = length-append (keep p (upto n)) (n ∷ []) in omega arith)
+    go false e h = rw (keep-snoc-no p (upto n) n e) (omega arith)

@@ -14,6 +14,8 @@ pub mod Counts
 pub mod Words
 -- what the walk over the pairs of lines keeps
 pub mod Joining
+-- what the numbering of blocks hands on
+pub mod Numbering
 -- what is read from the results: `summarize`, the twenty-line measure, the dots of one kind in a box
 pub mod Readings
 -- the figures of the printed sheet

@@ -3,7 +3,9 @@
 mod block;
 mod column;
 mod counts;
+mod number;
 mod numbers;
+mod record;
 
 pub use column::Column;
 pub use column::columns;
