@@ -40,3 +40,5 @@ pub mod PairLaws
 pub mod NumberLaws
 -- the records of the blocks, with one line more
 pub mod BlockWords
+-- lines that belong together, and the first line of each block
+pub mod TogetherLaws

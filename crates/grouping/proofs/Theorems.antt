@@ -6,9 +6,10 @@ use Prim.Native.Nat.{ℕ, suc, _+_, _*_, _≤_, _<_}
 use borrow.Author.Tests.{leb-true}
 use lib.Ieee.{Float, le}
 use lib.ListN.{getD, length}
-use lib.Dec.{leb}
-use Rattle.memory.specs.Lists.{table, keep, upto}
+use lib.Dec.{eqb, leb}
+use Rattle.memory.specs.Lists.{table, keep, upto, occurs}
 use Rattle.labelling.specs.Rects.{height}
+use Rattle.labelling.specs.Classes.{firstOf}
 use Rattle.labelling.specs.Components.{noDots}
 use Rattle.labelling.specs.declared.rect.Rect.{Rect}
 use Rattle.labelling.specs.declared.component.Component.{Component}
@@ -16,11 +17,14 @@ use Rattle.params.specs.declared.LayoutParams.{LayoutParams}
 use Rattle.sorting.specs.Lengths.{float, _·_, dots}
 use Rattle.grouping.specs.Smoothing.{glyphAt, joined, smoothed}
 use Rattle.grouping.specs.Lines.{LabelledGlyph, SmoothedLine, smoothedLine, isLine, keysAtMost, lineKeys, keptLines}
+use Rattle.grouping.specs.Blocks.{Block, blockFirsts, blockNumber, blocksOf}
 use Rattle.grouping.specs.Columns.{columnsOf, columnRuns}
 use Rattle.grouping.specs.declared.column.Column.{Column}
 use Rattle.grouping.proofs.ListLaws.{Each, each-at, each-keep, each-sort}
 use Rattle.grouping.proofs.PlaneLaws.{mask-at}
 use Rattle.grouping.proofs.JoinLaws.{joined-on, joined-before, joined-after}
+use Rattle.grouping.proofs.BlockLaws.{blocks-part, block-in-range, block-first, numbers-rise}
+use Rattle.grouping.proofs.TogetherLaws.{block-low, block-idem}
 use Rattle.grouping.proofs.ColumnLaws.{rising-keep, runs-order, order-at, order-apart}
 
 -- Smoothing
@@ -83,6 +87,27 @@ each-line p unit gs rows i d h =
     (keep (isLine p unit) (table (λ t. smoothedLine gs (getD rows t noDots) (suc t)) (length rows)))
     (each-keep (Line p unit) (isLine p unit) (line p unit) (table (λ t. smoothedLine gs (getD rows t noDots) (suc t)) (length rows))))
     i d h
+
+-- Blocks: fs is the first line of each line's block
+
+module _ (p : LayoutParams) (ls : List Rect) where
+  -- blocks part the lines: line i stands once in the list of its own block, and in no other's
+  pub each-line-in-one-block : (i b : ℕ) (d : Block) → i < length ls → b < length (blocksOf ls (blockFirsts p ls))
+      → occurs i (getD (blocksOf ls (blockFirsts p ls)) b d .lines) ≡ cond (eqb b (blockNumber (blockFirsts p ls) i)) 1 0
+  each-line-in-one-block = blocks-part ls (blockFirsts p ls) (block-low p ls) (block-idem p ls)
+
+  -- and its block is there
+  pub block-of-line-exists : (i : ℕ) → i < length ls → blockNumber (blockFirsts p ls) i < length (blocksOf ls (blockFirsts p ls))
+  block-of-line-exists = block-in-range ls (blockFirsts p ls) (block-low p ls) (block-idem p ls)
+
+  -- every block has a line: its first
+  pub each-block-has-a-line : (b : ℕ) (d : Block) → b < length (blocksOf ls (blockFirsts p ls))
+      → (k : ℕ) × (k < length ls) × (firstOf (blockFirsts p ls) k ≡ k) × (blockNumber (blockFirsts p ls) k ≡ b) × (occurs k (getD (blocksOf ls (blockFirsts p ls)) b d .lines) ≡ 1)
+  each-block-has-a-line = block-first ls (blockFirsts p ls) (block-low p ls) (block-idem p ls)
+
+  -- block numbers rise with first lines
+  pub block-numbers-rise : (i j : ℕ) → firstOf (blockFirsts p ls) i < firstOf (blockFirsts p ls) j → blockNumber (blockFirsts p ls) i < blockNumber (blockFirsts p ls) j
+  block-numbers-rise = numbers-rise ls (blockFirsts p ls) (block-low p ls) (block-idem p ls)
 
 -- Columns
 

@@ -71,3 +71,15 @@ ByTop n s = (i j : ℕ) → i ≤ j → j < n → lineBox s i .y0 ≤ lineBox s 
 pub record Lines (w h n : ℕ) (s : List ℕ) : Type 0 where
   pub room : n * lineWords ≤ length s
   pub boxes : (i : ℕ) → i < n → Inside w h (lineBox s i)
+
+-- n lines of a frame h high that go by y0, with so many words of scratch and for the blocks
+pub record Groupable (n h : ℕ) (s : List ℕ) (scratch out : ℕ) : Type 0 where
+  pub w : ℕ
+  pub lines : Lines w h n s
+  pub narrow : w ≤ 4294967295
+  pub low : h < 4294967295
+  pub few : n ≤ 4294967295
+  pub by-top : ByTop n s
+  pub heights : h + 1 ≤ scratch
+  pub parents : n ≤ scratch
+  pub room : n * blockWords ≤ out

@@ -8,23 +8,61 @@ ghost use Rattle.memory.specs.Lists.{table};
 ghost use Rattle.memory.specs.Words.{over};
 ghost use Rattle.labelling.specs.Classes.{firstOf, firsts};
 ghost use Rattle.labelling.specs.Forests.{Forest};
-ghost use Rattle.grouping.specs.Blocks.{lineGap, sharedColumns, overlapping, candidateGaps, leastWith, nearestGaps, hardCap, maxGap};
+ghost use Rattle.grouping.specs.Blocks.{lineGap, sharedColumns, overlapping, candidateGaps, leastWith, nearestGaps, hardCap, maxGap, blockFirsts, blockNumber, blocksOf};
+ghost use Rattle.grouping.specs.Numbering.{withBlocks};
 ghost use Rattle.labelling.specs.Rects.{height};
 ghost use Rattle.sorting.specs.Units.{median};
-ghost use Rattle.grouping.specs.Words.{Inside, Lines, ByTop, lineWords, lineBox, lineBoxes};
+ghost use Rattle.grouping.specs.Words.{Inside, Lines, ByTop, Groupable, lineWords, lineBox, lineBoxes, blockRecord};
+ghost use Rattle.memory.specs.Records.{encoded};
 ghost use Rattle.grouping.specs.Counts.{counts};
 ghost use Rattle.grouping.specs.Joining.{joins, Joined};
 use crate::counts::clear;
 use crate::counts::count_below;
+use crate::number::number_blocks;
+use crate::number::write_numbers;
 use crate::numbers::LINE_WORDS;
 use crate::numbers::greater;
 use crate::numbers::lesser;
 use crate::numbers::wide;
+use crate::record::write_blocks;
 use labelling::Rect;
 use labelling::find;
 use labelling::unite;
 use params::LayoutParams;
 use sorting::median_of_counts;
+
+// Groups the n lines, which go by y0, into blocks: writes the number of its block into each line and a record a block, five words,
+// into `out`; answers how many blocks there are.
+pub fn blocks(
+    lines: &mut [u32],
+    n: usize,
+    sheet: LayoutParams,
+    h: u32,
+    scratch: &mut [u32],
+    out: &mut [u32],
+) -> usize
+    requires { ⌜ Groupable n h (now lines) (length (now scratch)) (length (now out)) ⌝ }
+    ensures { λ r. ⌜ (r ≡ length (blocksOf (lineBoxes (now (lines .entry)) n) (blockFirsts sheet (lineBoxes (now (lines .entry)) n))))
+        × (now (out .exit) ≡ over (encoded blockRecord (blocksOf (lineBoxes (now (lines .entry)) n) (blockFirsts sheet (lineBoxes (now (lines .entry)) n)))) (now (out .entry)))
+        × (now (lines .exit) ≡ withBlocks (blockNumber (blockFirsts sheet (lineBoxes (now (lines .entry)) n))) n (now (lines .entry))) ⌝ }
+{
+    number_lines(&lines[..], n, sheet, h, scratch);
+    let count = write_blocks(&lines[..], n, &scratch[..], out);
+    write_numbers(lines, n, &scratch[..]);
+    count
+}
+
+// The number of the block of each line, in the first n words of scratch.
+fn number_lines(lines: &[u32], n: usize, sheet: LayoutParams, h: u32, scratch: &mut [u32])
+    requires { ⌜ ((room : ℕ) × Groupable n h (now lines) (length (now scratch)) room) ⌝ }
+    ensures { λ _. ⌜ ((k : ℕ) → k < n → getD (now (scratch .exit)) k 0 ≡ blockNumber (blockFirsts sheet (lineBoxes (now (lines .entry)) n)) k) ⌝ }
+{
+    let limits = gap_limits(lines, n, sheet, h, scratch);
+    let limit = lesser(limits.cap, limits.most);
+    let overlap = sheet.block_min_overlap;
+    join_lines(lines, n, overlap, limit, scratch);
+    number_blocks(scratch, n);
+}
 
 // The box of line i.
 pub fn line_box(lines: &[u32], i: usize) -> Rect

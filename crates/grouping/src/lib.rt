@@ -7,5 +7,6 @@ mod number;
 mod numbers;
 mod record;
 
+pub use block::blocks;
 pub use column::Column;
 pub use column::columns;
