@@ -42,3 +42,7 @@ pub mod NumberLaws
 pub mod BlockWords
 -- lines that belong together, and the first line of each block
 pub mod TogetherLaws
+-- one more entry of a sorted list is one more insertion
+pub mod InsertLaws
+-- the order of lines
+pub mod OrderLaws

@@ -57,7 +57,7 @@ each-keep {A} P p f (a ∷ l) = go (p a) refl (each-keep P p f l)
     go true e h = (f a e, h)
     go false e h = h
 
-each-insert : {A : Type 0} (P : A → Type 0) (precedes : A → A → Bool) (a : A) (l : List A) → P a → Each P l → Each P (insertBy precedes a l)
+pub each-insert : {A : Type 0} (P : A → Type 0) (precedes : A → A → Bool) (a : A) (l : List A) → P a → Each P l → Each P (insertBy precedes a l)
 unfolding insertBy
 each-insert P precedes a [] h k = (h, tt)
 each-insert {A} P precedes a (b ∷ l) h k = go (precedes a b) (each-insert P precedes a l h (k .1))
