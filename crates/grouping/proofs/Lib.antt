@@ -46,3 +46,5 @@ pub mod TogetherLaws
 pub mod InsertLaws
 -- the order of lines
 pub mod OrderLaws
+-- the summary, field by field
+pub mod SummaryLaws

@@ -6,7 +6,12 @@ mod counts;
 mod number;
 mod numbers;
 mod record;
+mod summary;
 
 pub use block::blocks;
 pub use column::Column;
 pub use column::columns;
+pub use summary::Summary;
+pub use summary::Totals;
+pub use summary::median_glyph_height;
+pub use summary::summarize;
