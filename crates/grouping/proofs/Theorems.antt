@@ -23,6 +23,7 @@ use Rattle.grouping.specs.declared.column.Column.{Column}
 use Rattle.grouping.proofs.ListLaws.{Each, each-at, each-keep, each-sort}
 use Rattle.grouping.proofs.PlaneLaws.{mask-at}
 use Rattle.grouping.proofs.JoinLaws.{joined-on, joined-before, joined-after}
+use Rattle.grouping.proofs.OrderLaws.{lines-by-top}
 use Rattle.grouping.proofs.BlockLaws.{blocks-part, block-in-range, block-first, numbers-rise}
 use Rattle.grouping.proofs.TogetherLaws.{block-low, block-idem}
 use Rattle.grouping.proofs.ColumnLaws.{rising-keep, runs-order, order-at, order-apart}
@@ -87,6 +88,12 @@ each-line p unit gs rows i d h =
     (keep (isLine p unit) (table (λ t. smoothedLine gs (getD rows t noDots) (suc t)) (length rows)))
     (each-keep (Line p unit) (isLine p unit) (line p unit) (table (λ t. smoothedLine gs (getD rows t noDots) (suc t)) (length rows))))
     i d h
+
+-- lines go by y0: none starts above the one before it
+pub lines-go-by-top : (p : LayoutParams) (unit : Float) (gs : List LabelledGlyph) (rows : List Component) (i j : ℕ) (d : SmoothedLine)
+    → i < j → j < length (keptLines p unit gs rows) → getD (keptLines p unit gs rows) i d .bbox .y0 ≤ getD (keptLines p unit gs rows) j d .bbox .y0
+unfolding keptLines
+lines-go-by-top p unit gs rows = lines-by-top (keep (isLine p unit) (table (λ t. smoothedLine gs (getD rows t noDots) (suc t)) (length rows)))
 
 -- Blocks: fs is the first line of each line's block
 
