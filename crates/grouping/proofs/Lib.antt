@@ -48,3 +48,5 @@ pub mod InsertLaws
 pub mod OrderLaws
 -- the summary, field by field
 pub mod SummaryLaws
+-- pitches by blocks and in the order of the lines
+pub mod PitchLaws

@@ -27,7 +27,7 @@ use Rattle.grouping.proofs.ListLaws.{Each, each-append, each-table, map
 use Rattle.grouping.proofs.TableWords.{counts-more, counted-few}
 use Rattle.grouping.proofs.GapLaws.{gapsFrom, gapsBefore, before-all}
 
-absent : (m v : ℕ) (l : List ℕ) → Each (λ a. a < m) l → m ≤ v → occurs v l ≡ 0
+pub absent : (m v : ℕ) (l : List ℕ) → Each (λ a. a < m) l → m ≤ v → occurs v l ≡ 0
 unfolding occurs
 absent m v [] h k = refl
 absent m v (a ∷ l) (h, hs) k = rw (ne-eqb a v (λ e. omega arith)) (let e = absent m v l hs k in omega arith)

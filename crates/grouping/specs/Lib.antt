@@ -18,5 +18,7 @@ pub mod Joining
 pub mod Numbering
 -- what is read from the results: `summarize`, the twenty-line measure, the dots of one kind in a box
 pub mod Readings
+-- pitches from the words of the lines
+pub mod Pitches
 -- the figures of the printed sheet
 pub mod Figures

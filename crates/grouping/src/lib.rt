@@ -5,12 +5,15 @@ mod column;
 mod counts;
 mod number;
 mod numbers;
+mod pitch;
 mod record;
 mod summary;
 
 pub use block::blocks;
 pub use column::Column;
 pub use column::columns;
+pub use pitch::median_pitch;
+pub use pitch::twenty_line_measure;
 pub use summary::Summary;
 pub use summary::Totals;
 pub use summary::median_glyph_height;
