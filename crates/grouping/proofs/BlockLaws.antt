@@ -13,12 +13,20 @@ use Rattle.memory.specs.Lists.{upto, keep, countIf, occurs}
 use Rattle.labelling.specs.Classes.{firstOf}
 use Rattle.labelling.specs.declared.rect.Rect.{Rect}
 use Rattle.grouping.specs.Blocks.{Block, opensBlock, blockNumber, blockOf, blocksOf}
+use Rattle.grouping.proofs.ListLaws.{keep-same}
 use Rattle.grouping.proofs.CountLaws.{Placed, count-below, count-length, count-place, place-count, once}
 
 pub getD-map : {A B : Type 0} (f : A → B) (l : List A) (i : ℕ) (d : B) (e : A) → i < length l → getD (map f l) i d ≡ f (getD l i e)
 getD-map f [] i d e h = absurd (not-suc-le-zero h)
 getD-map f (a ∷ l) zero d e h = refl
 getD-map f (a ∷ l) (suc i) d e h = getD-map f l i d e (le-of-suc-le-suc h)
+
+eqb-swap : (a b : ℕ) → eqb a b ≡ eqb b a
+eqb-swap a b = go (ℕ-discrete a b)
+  where
+    go : Dec (a ≡ b) → eqb a b ≡ eqb b a
+    go (yes e) = eq-eqb a b e ∙ sym (eq-eqb b a (sym e))
+    go (no n) = ne-eqb a b n ∙ sym (ne-eqb b a (λ e. n (sym e)))
 
 module _ (ls : List Rect) (fs : List ℕ) (low : (i : ℕ) → firstOf fs i ≤ i) (idem : (i : ℕ) → firstOf fs (firstOf fs i) ≡ firstOf fs i) where
   opens : (i : ℕ) → opensBlock fs (firstOf fs i) ≡ true
@@ -55,6 +63,14 @@ module _ (ls : List Rect) (fs : List ℕ) (low : (i : ℕ) → firstOf fs i ≤ 
           ∙ sym (ne-eqb b (countIf (opensBlock fs) (firstOf fs i)) (λ e. n
           (sym (count-place (opensBlock fs) (length ls) (firstOf fs i) 0 (let l = low i in omega arith) (opens i))
           ∙ (ap (λ j. getD (keep (opensBlock fs) (upto (length ls))) j 0) (sym e) ∙ sym z))))
+
+  -- the lines of a block are those that have its number
+  pub block-lines : (b : ℕ) (d : Block) → b < length (blocksOf ls fs) → getD (blocksOf ls fs) b d .lines ≡ keep (λ i. eqb (blockNumber fs i) b) (upto (length ls))
+  unfolding blockOf
+  block-lines b d h =
+      let first : ℕ = getD (keep (opensBlock fs) (upto (length ls))) b 0 in
+      ap (λ (t : Block). t .lines) (block-at b d h)
+      ∙ keep-same (λ j. eqb (firstOf fs j) first) (λ i. eqb (blockNumber fs i) b) (length ls) (λ i l. same-block i b first l (opener b h) refl ∙ eqb-swap b (blockNumber fs i))
 
   -- line i stands once in the list of its own block, and in no other's
   pub blocks-part : (i b : ℕ) (d : Block) → i < length ls → b < length (blocksOf ls fs) → occurs i (getD (blocksOf ls fs) b d .lines) ≡ cond (eqb b (blockNumber fs i)) 1 0

@@ -157,16 +157,6 @@ module _ (gap : ℕ) (p : ℕ → Bool) (out₀ out : List ℕ) (n x : ℕ) (v :
       let (a, b) = h (runsTo gap p x) out₀ (v .count) (v .words) in
       record { count = a ∙ ap length r; words = b ∙ ap (λ (t : List Column). over (encoded columnRecord t) out₀) r }
 
--- the test may differ past the frame
-pub keep-same : (p q : ℕ → Bool) (n : ℕ) → ((x : ℕ) → x < n → p x ≡ q x) → keep p (upto n) ≡ keep q (upto n)
-unfolding keep upto table
-keep-same p q zero h = refl
-keep-same p q (suc n) h = go (q n) refl (keep-same p q n (λ x l. h x (omega arith)))
-  where
-    go : (t : Bool) → q n ≡ t → keep p (upto n) ≡ keep q (upto n) → keep p (upto n ++ (n ∷ [])) ≡ keep q (upto n ++ (n ∷ []))
-    go true e i = keep-snoc-yes p (upto n) n (h n (le-refl (suc n)) ∙ e) ∙ (ap (λ (t : List ℕ). t ++ (n ∷ [])) i ∙ sym (keep-snoc-yes q (upto n) n e))
-    go false e i = keep-snoc-no p (upto n) n (h n (le-refl (suc n)) ∙ e) ∙ (i ∙ sym (keep-snoc-no q (upto n) n e))
-
 pub written-all : (gap : ℕ) (p : ℕ → Bool) (out₀ out : List ℕ) (n x w : ℕ) → Written gap p out₀ out n x → x ≡ w
     → (n ≡ length (columnRuns gap (keep p (upto w)))) × (out ≡ over (encoded columnRecord (columnRuns gap (keep p (upto w)))) out₀)
 written-all gap p out₀ out n x w v e =

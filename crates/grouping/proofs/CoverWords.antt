@@ -20,10 +20,9 @@ use Rattle.grouping.specs.Columns.{cover, covered, enoughCover, columnRu
 use Rattle.grouping.specs.Words.{Lines, Inside, lineBox, lineBoxes, fields, columnRecord}
 use Rattle.grouping.specs.Counts.{counts}
 use Rattle.grouping.specs.declared.column.Column.{Column}
-use Rattle.grouping.proofs.ListLaws.{Each, each-table, map-table}
+use Rattle.grouping.proofs.ListLaws.{Each, each-table, map-table, keep-same}
 use Rattle.grouping.proofs.TableWords.{over-at, over-length}
 use Rattle.grouping.proofs.CoverLaws.{cover-first, cover-next, cover-ended, cover-length}
-use Rattle.grouping.proofs.ColumnWords.{keep-same}
 
 -- `&mut s[a..]`: what is lent, and what comes back
 pub tail-part : (a : ℕ) (s : List ℕ) → take (length s - a) (drop a s) ≡ drop a s

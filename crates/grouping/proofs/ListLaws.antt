@@ -101,3 +101,13 @@ keep-few p (suc n) = go (p n) refl (keep-few p n)
     go : (t : Bool) → p n ≡ t → length (keep p (upto n)) ≤ n → length (keep p (upto n ++ (n ∷ []))) ≤ suc n
     go true e h = rw (keep-snoc-yes p (upto n) n e) (let z = length-append (keep p (upto n)) (n ∷ []) in omega arith)
     go false e h = rw (keep-snoc-no p (upto n) n e) (omega arith)
+
+-- the test is asked only below n
+pub keep-same : (p q : ℕ → Bool) (n : ℕ) → ((x : ℕ) → x < n → p x ≡ q x) → keep p (upto n) ≡ keep q (upto n)
+unfolding keep upto table
+keep-same p q zero h = refl
+keep-same p q (suc n) h = go (q n) refl (keep-same p q n (λ x l. h x (omega arith)))
+  where
+    go : (t : Bool) → q n ≡ t → keep p (upto n) ≡ keep q (upto n) → keep p (upto n ++ (n ∷ [])) ≡ keep q (upto n ++ (n ∷ []))
+    go true e i = keep-snoc-yes p (upto n) n (h n (le-refl (suc n)) ∙ e) ∙ (ap (λ (t : List ℕ). t ++ (n ∷ [])) i ∙ sym (keep-snoc-yes q (upto n) n e))
+    go false e i = keep-snoc-no p (upto n) n (h n (le-refl (suc n)) ∙ e) ∙ (i ∙ sym (keep-snoc-no q (upto n) n e))

@@ -1,7 +1,7 @@
 -- Pitches by blocks and in the order of the lines: the same differences.
 use mathlib.Core.Path.{_≡_, refl, sym, ap, _∙_, subst}
 use mathlib.Core.Bool.{Bool, true, false, cond}
-use mathlib.Core.List.{List, [], _∷_, _++_, map, append-nil}
+use mathlib.Core.List.{List, [], _∷_, _++_, map, append-nil, append-assoc}
 use Prim.Native.Nat.{ℕ, zero, suc, _+_, _-_, _*_, _/_, _≤_, _<_}
 use native.Mathlib.Nat.{le-refl, not-suc-le-zero}
 use native.Mathlib.Decide.{ℕ-discrete, decLt}
@@ -9,16 +9,20 @@ use native.Mathlib.Omega.{arith}
 use native.Mathlib.Numerals.{add-one}
 use borrow.Author.Tests.{eq-eqb, ne-eqb}
 use lib.ListN.{getD, length, set, take, length-take, length-append, length-set, List·getD-eq-default}
-use lib.Seq.{getD-take, getD-set-same, getD-set-other}
+use lib.Seq.{take-suc, take-length, getD-take, getD-set-same, getD-set-other}
 use lib.Dec.{eqb, leb}
 use Rattle.memory.specs.Lists.{table, upto, keep, occurs, sortBy}
 use Rattle.sorting.specs.Units.{median}
 use Rattle.sorting.specs.Scans.{CountsOf}
-use Rattle.grouping.specs.Readings.{differences}
+use Rattle.grouping.specs.Readings.{differences, pitches}
+use Rattle.labelling.specs.Classes.{firstOf}
+use Rattle.labelling.specs.declared.rect.Rect.{Rect}
+use Rattle.grouping.specs.Blocks.{Block, noRect, blockNumber, blocksOf}
 use Rattle.grouping.specs.Pitches.{linesIn, pitchesBelow, lastCentre, pitchOf, walkedPitches, PitchAdded}
 use Rattle.grouping.proofs.ListLaws.{Each, each-at, each-sort, each-append, keep-snoc-yes, keep-snoc-no, upto-suc, map-append}
 use Rattle.grouping.proofs.ColumnLaws.{Rising, rising-keep}
 use Rattle.grouping.proofs.MedianWords.{absent}
+use Rattle.grouping.proofs.BlockLaws.{block-lines}
 use Rattle.grouping.proofs.CountLaws.{occurs-append, occurs-same, occurs-other}
 
 -- one more than the last entry, 0 of none
@@ -305,3 +309,30 @@ pitch-counts centre number values n blocks found t hb hc ef each long =
     at v (no k) =
         List·getD-eq-default (take values t) 0 {n = v} (let e = length-take values t in omega arith)
         ∙ sym (absent values v (pitchesBelow centre number n blocks) (below-bound centre number values n blocks hc) (omega arith))
+
+-- The pitches of a page's blocks are those that the numbers of the lines give
+
+pitches-snoc : (ls : List Rect) (bs : List Block) (b : Block) → pitches ls (bs ++ (b ∷ [])) ≡ pitches ls bs ++ differences (map (λ i. getD ls i noRect .y0 + getD ls i noRect .y1) (b .lines))
+unfolding pitches
+pitches-snoc ls [] b = append-nil (differences (map (λ i. getD ls i noRect .y0 + getD ls i noRect .y1) (b .lines)))
+pitches-snoc ls (a ∷ bs) b =
+    let own : Block → List ℕ = λ t. differences (map (λ i. getD ls i noRect .y0 + getD ls i noRect .y1) (t .lines)) in
+    ap (λ (t : List ℕ). own a ++ t) (pitches-snoc ls bs b) ∙ sym (append-assoc (own a) (pitches ls bs) (own b))
+
+module _ (ls : List Rect) (fs : List ℕ) (low : (k : ℕ) → firstOf fs k ≤ k) (idem : (k : ℕ) → firstOf fs (firstOf fs k) ≡ firstOf fs k) where
+  abbrev centreOf : ℕ → ℕ
+  centreOf i = getD ls i noRect .y0 + getD ls i noRect .y1
+
+  pitches-to : (m : ℕ) → m ≤ length (blocksOf ls fs) → pitches ls (take m (blocksOf ls fs)) ≡ pitchesBelow centreOf (blockNumber fs) (length ls) m
+  unfolding pitches pitchesBelow
+  pitches-to zero h = refl
+  pitches-to (suc m) h =
+      let d : Block = record { bbox = noRect; lines = [] } in
+      let b : Block = getD (blocksOf ls fs) m d in
+      ap (pitches ls) (take-suc (blocksOf ls fs) m d h)
+      ∙ (pitches-snoc ls (take m (blocksOf ls fs)) b
+      ∙ ((λ t. pitches-to m (omega arith) t ++ differences (map centreOf (b .lines)))
+      ∙ ap (λ (t : List ℕ). pitchesBelow centreOf (blockNumber fs) (length ls) m ++ differences (map centreOf t)) (block-lines ls fs low idem m d h)))
+
+  pub pitches-by-number : pitches ls (blocksOf ls fs) ≡ pitchesBelow centreOf (blockNumber fs) (length ls) (length (blocksOf ls fs))
+  pitches-by-number = ap (pitches ls) (sym (take-length (blocksOf ls fs))) ∙ pitches-to (length (blocksOf ls fs)) (le-refl (length (blocksOf ls fs)))
