@@ -50,3 +50,5 @@ pub mod OrderLaws
 pub mod SummaryLaws
 -- pitches by blocks and in the order of the lines
 pub mod PitchLaws
+-- the runs of a smoothed row
+pub mod SmoothedRuns
