@@ -52,3 +52,5 @@ pub mod SummaryLaws
 pub mod PitchLaws
 -- the runs of a smoothed row
 pub mod SmoothedRuns
+-- the frame place of a page dot, and the dots listed
+pub mod DotLaws

@@ -20,5 +20,7 @@ pub mod Numbering
 pub mod Readings
 -- pitches from the words of the lines
 pub mod Pitches
+-- the dot list over words
+pub mod Dots
 -- the figures of the printed sheet
 pub mod Figures

@@ -3,6 +3,7 @@
 mod block;
 mod column;
 mod counts;
+mod dots;
 mod number;
 mod numbers;
 mod pitch;
@@ -12,6 +13,9 @@ mod summary;
 pub use block::blocks;
 pub use column::Column;
 pub use column::columns;
+pub use dots::Sides;
+pub use dots::count_dots;
+pub use dots::write_dots;
 pub use pitch::median_pitch;
 pub use pitch::twenty_line_measure;
 pub use summary::Summary;
