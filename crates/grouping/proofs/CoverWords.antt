@@ -14,6 +14,7 @@ use Rattle.memory.specs.Words.{over}
 use Rattle.memory.specs.Records.{encoded}
 use Rattle.memory.proofs.TableLaws.{length-table, getD-table, table-ext}
 use Rattle.labelling.specs.declared.rect.Rect.{Rect}
+use Rattle.labelling.proofs.PartLaws.{tail-part, tail-put}
 use Rattle.params.specs.declared.LayoutParams.{LayoutParams}
 use Rattle.sorting.specs.Lengths.{_·_, dots}
 use Rattle.grouping.specs.Columns.{cover, covered, enoughCover, columnRuns, columnsOf, CoverSteps}
@@ -21,17 +22,9 @@ use Rattle.grouping.specs.Words.{Lines, Inside, lineBox, lineBoxes, fiel
 use Rattle.grouping.specs.Counts.{counts}
 use Rattle.grouping.specs.declared.column.Column.{Column}
 use Rattle.grouping.proofs.ListLaws.{Each, each-table, map-table, keep-same}
-use Rattle.grouping.proofs.TableWords.{over-at, over-length}
+use Rattle.sorting.proofs.OverLaws.{over-at}
+use Rattle.grouping.proofs.TableWords.{over-length}
 use Rattle.grouping.proofs.CoverLaws.{cover-first, cover-next, cover-ended, cover-length}
-
--- `&mut s[a..]`: what is lent, and what comes back
-pub tail-part : (a : ℕ) (s : List ℕ) → take (length s - a) (drop a s) ≡ drop a s
-tail-part a s = take-all (length s - a) (drop a s) (let e = length-drop a s in omega arith)
-
-pub tail-put : (a : ℕ) (s v : List ℕ) → putMid a (length s - a) s v ≡ take a s ++ v
-tail-put a s v =
-    ap (λ (z : List ℕ). take a s ++ (v ++ z)) (drop-of-length-le (drop a s) {i = length s - a} (let e = length-drop a s in omega arith))
-    ∙ ap (λ (z : List ℕ). take a s ++ z) (append-nil v)
 
 module _ (lines : List ℕ) (n w h : ℕ) (v : Lines w h n lines) where
   starts : map (λ (r : Rect). r .x0) (lineBoxes lines n) ≡ fields 8 0 lines n

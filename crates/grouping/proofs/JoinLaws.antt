@@ -8,7 +8,8 @@ use borrow.Author.Tests.{lt-ltb, le-ltb}
 use lib.Dec.{leb, ltb}
 use Rattle.sorting.specs.Extents.{behind, ahead, runThrough}
 use Rattle.grouping.specs.Smoothing.{joined}
-use Rattle.grouping.proofs.RunLaws.{behind-off, behind-run, ahead-off, ahead-run, run-of}
+use Rattle.sorting.proofs.RunLaws.{behind-off, ahead-off, runThrough-ends}
+use Rattle.grouping.proofs.RunLaws.{behind-run, ahead-run}
 
 and-true : (x : Bool) → (x && true) ≡ x
 and-true true = refl
@@ -30,7 +31,7 @@ module _ (p : ℕ → Bool) (n gap : ℕ) where
       let off : (k : ℕ) → a < k → k < b → not (p k) ≡ true = λ k c d. ap not (h k c d) in
       let z₁ : behind (λ k. not (p k)) (suc a) ≡ 0 = behind-off (λ k. not (p k)) a (ap not ea) in
       let z₂ : ahead (λ k. not (p k)) b (n - b) ≡ 0 = ahead-off (λ k. not (p k)) b (n - b) (ap not eb) in
-      let r : runThrough (λ k. not (p k)) n x ≡ b - suc a = run-of (λ k. not (p k)) n (suc a) b (omega arith) z₁ z₂ off x lx ly in
+      let r : runThrough (λ k. not (p k)) n x ≡ b - suc a = runThrough-ends (λ k. not (p k)) n (suc a) b (omega arith) z₁ z₂ off x lx ly in
       let e₁ : suc a + (x - suc a) ≡ x = omega arith in
       let c : behind (λ k. not (p k)) x ≡ x - suc a = ap (behind (λ k. not (p k))) (sym e₁) ∙ behind-run (λ k. not (p k)) (suc a) (x - suc a) z₁ (λ k u v. off k u (omega arith)) in
       let e₂ : b - x + (n - b) ≡ n - x = omega arith in

@@ -8,9 +8,9 @@ pub mod StarredCases
 pub mod SampleLeaf
 -- those that pass a test; lists whose entries all have a property
 pub mod ListLaws
--- the run through a place, from where it starts and ends
+-- how far a run reaches before and after a place
 pub mod RunLaws
--- a place of a plane, and its dot
+-- what a mask holds at a place
 pub mod PlaneLaws
 -- smoothing, as a walk along the row sees it
 pub mod JoinLaws

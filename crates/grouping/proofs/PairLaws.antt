@@ -17,7 +17,8 @@ use Rattle.labelling.specs.Forests.{joinF, Named, Forest, Found, United}
 use Rattle.labelling.proofs.FirstLaws.{chain-trans, chain-sym, renamed-case, joinF-a, joinF-b, min-case, max-case}
 use Rattle.labelling.proofs.TransferLaws.{named-firsts}
 use Rattle.grouping.specs.Joining.{Pairs, Joined}
-use Rattle.grouping.proofs.TableWords.{over-at, over-length}
+use Rattle.sorting.proofs.OverLaws.{over-at}
+use Rattle.grouping.proofs.TableWords.{over-length}
 
 module _ (r : ℕ → ℕ → Bool) (n : ℕ) where
   pairs-none : (j : ℕ) → j ≤ 1 → Pairs r n (λ k. k) 0 j

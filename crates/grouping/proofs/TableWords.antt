@@ -14,6 +14,7 @@ use lib.Dec.{eqb}
 use Rattle.memory.specs.Lists.{table, occurs}
 use Rattle.memory.specs.Words.{over}
 use Rattle.memory.proofs.TableLaws.{length-table, getD-table, table-step}
+use Rattle.sorting.proofs.OverLaws.{over-at}
 use Rattle.grouping.specs.Counts.{counts, below}
 use Rattle.grouping.specs.Words.{fields}
 use Rattle.grouping.proofs.CountLaws.{occurs-same, occurs-other}
@@ -23,9 +24,6 @@ over-table f n s = ap (λ k. table f n ++ drop k s) (sym (length-table f n))
 
 pub over-length : (v s : List ℕ) → length v ≤ length s → length (over v s) ≡ length s
 over-length v s h = simp (length-append, length-drop) (omega arith)
-
-pub over-at : (f : ℕ → ℕ) (n : ℕ) (s : List ℕ) (i : ℕ) → i < n → getD (over (table f n) s) i 0 ≡ f i
-over-at f n s i h = List·getD-append (table f n) (drop (length (table f n)) s) 0 i (let e = length-table f n in omega arith) ∙ getD-table f n i 0 h
 
 -- what lies over a front lies over it again
 pub over-again : (v u s : List ℕ) → length v ≡ length u → over v (over u s) ≡ over v s
