@@ -2,6 +2,8 @@
 pub mod PartLaws
 -- counting the numbers that pass a test
 pub mod CountLaws
+-- the least or the greatest of some numbers
+pub mod ExtremeLaws
 -- a range of numbers, with one more
 pub mod RangeLaws
 -- `firsts` names each class by its first, and nothing else does

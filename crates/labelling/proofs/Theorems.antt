@@ -17,6 +17,7 @@ use Rattle.labelling.specs.Components.{noDots, absorbed}
 use Rattle.labelling.specs.Labels.{isInk, touches, isFirst, labelAt, componentTo, Labelling, labelling}
 use Rattle.labelling.specs.declared.component.Component.{Component}
 use Rattle.labelling.proofs.CountLaws.{count-up, count-one, count-reach}
+use Rattle.labelling.proofs.ExtremeLaws.{Extreme, Least, Greatest, extreme, min-either, max-either}
 use Rattle.labelling.proofs.FirstLaws.{firsts-right, firsts-unique, firsts-chain, along}
 use Rattle.labelling.proofs.TouchLaws.{and-both, and-intro, Near, near-of}
 
@@ -24,16 +25,6 @@ use Rattle.labelling.proofs.TouchLaws.{and-both, and-intro, Near, near-
 unfoldable pub sumIf : (ℕ → Bool) → (ℕ → ℕ) → ℕ → ℕ
 sumIf p f zero = 0
 sumIf p f (suc n) = sumIf p f n + cond (p n) (f n) 0
-
--- v is the least of f over the numbers below n that pass the test p
-pub record Least (p : ℕ → Bool) (f : ℕ → ℕ) (n v : ℕ) : Type 0 where
-  pub bound : (i : ℕ) → i < n → p i ≡ true → v ≤ f i
-  pub taken : (i : ℕ) → i < n → p i ≡ true → (j : ℕ) × (j < n) × (p j ≡ true) × (v ≡ f j)
-
--- v is the greatest
-pub record Greatest (p : ℕ → Bool) (f : ℕ → ℕ) (n v : ℕ) : Type 0 where
-  pub bound : (i : ℕ) → i < n → p i ≡ true → f i ≤ v
-  pub taken : (i : ℕ) → i < n → p i ≡ true → (j : ℕ) × (j < n) × (p j ≡ true) × (v ≡ f j)
 
 -- Labels
 
@@ -128,3 +119,91 @@ module _ (w h : ℕ) (m : List ℕ) where
       let b = and-both _ _ (r .2) in
       let f : firstDot (r .0) ≡ r .0 = eqb-true _ _ (b .1) in
       (r .0, r .1, b .0, f, label-ink (r .0) (r .1) (b .0) ∙ (ap (λ z. countIf (isFirst m (firsts (touches w m) (w * h))) (suc z)) f ∙ r .3))
+
+-- Records: of the first t dots those labelled k, whatever the labels
+
+module _ (w : ℕ) (labels : List ℕ) (k : ℕ) where
+  abbrev pub labelled : ℕ → Bool
+  labelled i = eqb (getD labels i 0) k
+
+  field : (F : Component → ℕ) (t : ℕ) → F (componentTo w labels k (suc t)) ≡ cond (labelled t) (F (absorbed (componentTo w labels k t) (t % w) (t / w))) (F (componentTo w labels k t))
+  unfolding componentTo
+  field F t = go (eqb (getD labels t 0) k)
+    where
+      go : (b : Bool)
+          → F (cond b (absorbed (componentTo w labels k t) (t % w) (t / w)) (componentTo w labels k t)) ≡ cond b (F (absorbed (componentTo w labels k t) (t % w) (t / w))) (F (componentTo w labels k t))
+      go true = refl
+      go false = refl
+
+  -- the area is the number of its dots
+  pub area-of : (t : ℕ) → componentTo w labels k t .area ≡ countIf labelled t
+  unfolding componentTo countIf
+  area-of zero = refl
+  area-of (suc t) = field (λ c. c .area) t ∙ go (labelled t) (area-of t)
+    where
+      go : (b : Bool) → componentTo w labels k t .area ≡ countIf labelled t → cond b (componentTo w labels k t .area + 1) (componentTo w labels k t .area) ≡ countIf labelled t + cond b 1 0
+      go true e = omega arith
+      go false e = omega arith
+
+  -- the sums are the sums of its dots' columns and rows
+  sum-of : (F : Component → ℕ) (f : ℕ → ℕ) → F noDots ≡ 0 → ((c : Component) (t : ℕ) → F (absorbed c (t % w) (t / w)) ≡ F c + f t) → (t : ℕ) → F (componentTo w labels k t) ≡ sumIf labelled f t
+  unfolding componentTo sumIf
+  sum-of F f z s zero = z
+  sum-of F f z s (suc t) = field F t ∙ go (labelled t) (sum-of F f z s t)
+    where
+      go : (b : Bool) → F (componentTo w labels k t) ≡ sumIf labelled f t → cond b (F (absorbed (componentTo w labels k t) (t % w) (t / w))) (F (componentTo w labels k t)) ≡ sumIf labelled f t + cond b (f t) 0
+      go true e = let q = s (componentTo w labels k t) t in omega arith
+      go false e = omega arith
+
+  pub sum-x-of : (t : ℕ) → componentTo w labels k t .«sum_x» ≡ sumIf labelled (λ i. i % w) t
+  sum-x-of = sum-of (λ c. c .«sum_x») (λ i. i % w) refl (λ c t. refl)
+
+  pub sum-y-of : (t : ℕ) → componentTo w labels k t .«sum_y» ≡ sumIf labelled (λ i. i / w) t
+  sum-y-of = sum-of (λ c. c .«sum_y») (λ i. i / w) refl (λ c t. refl)
+
+  -- the box is the least and greatest of its dots' columns and rows
+  least-of : (F : Component → ℕ) (f : ℕ → ℕ) → F noDots ≡ 4294967295 → ((c : Component) (t : ℕ) → F (absorbed c (t % w) (t / w)) ≡ min (F c) (f t)) → (n : ℕ) → ((t : ℕ) → t < n → f t ≤ 4294967295) → Least labelled f n (F (componentTo w labels k n))
+  unfolding componentTo
+  least-of F f z s n low =
+      extreme (λ a b. a ≤ b) (λ a b c p q. le-trans p q) min (λ a b. omega arith) (λ a b. omega arith) min-either labelled f (λ t. F (componentTo w labels k t)) n
+      (λ t l. let h = low t l in (let q : min (F noDots) (f t) ≡ f t = omega arith in q))
+      (λ t. field F t ∙ ap (λ v. cond (labelled t) v (F (componentTo w labels k t))) (s (componentTo w labels k t) t))
+
+  greatest-of : (F : Component → ℕ) (f : ℕ → ℕ) → F noDots ≡ 0 → ((c : Component) (t : ℕ) → F (absorbed c (t % w) (t / w)) ≡ max (F c) (f t)) → (n : ℕ) → Greatest labelled f n (F (componentTo w labels k n))
+  unfolding componentTo
+  greatest-of F f z s n =
+      extreme (λ a b. b ≤ a) (λ a b c p q. le-trans q p) max (λ a b. omega arith) (λ a b. omega arith) max-either labelled f (λ t. F (componentTo w labels k t)) n
+      (λ t l. (let q : max (F noDots) (f t) ≡ f t = omega arith in q))
+      (λ t. field F t ∙ ap (λ v. cond (labelled t) v (F (componentTo w labels k t))) (s (componentTo w labels k t) t))
+
+record-at : (w h : ℕ) (m : List ℕ) (k : ℕ) → k < count w h m → getD (labelling w h m .components) k noDots ≡ componentTo w (labelling w h m .labels) (suc k) (w * h)
+unfolding labelling
+record-at w h m k l =
+    getD-table (λ q. componentTo w (table (labelAt m (firsts (touches w m) (w * h))) (w * h)) (suc q) (w * h)) (countIf (isFirst m (firsts (touches w m) (w * h))) (w * h)) k noDots
+    (let c = count-is w h m in omega arith)
+
+-- a component's record: its area, box and sums
+pub record RecordOf (w n : ℕ) (labels : List ℕ) (k : ℕ) (c : Component) : Type 0 where
+  pub area : c .area ≡ countIf (labelled w labels k) n
+  pub x0 : Least (labelled w labels k) (λ i. i % w) n (c .x0)
+  pub y0 : Least (labelled w labels k) (λ i. i / w) n (c .y0)
+  pub x1 : Greatest (labelled w labels k) (λ i. i % w) n (c .x1)
+  pub y1 : Greatest (labelled w labels k) (λ i. i / w) n (c .y1)
+  pub sum-x : c .«sum_x» ≡ sumIf (labelled w labels k) (λ i. i % w) n
+  pub sum-y : c .«sum_y» ≡ sumIf (labelled w labels k) (λ i. i / w) n
+
+-- the record of component k + 1, within 01's limits
+pub records-right : (w h : ℕ) (m : List ℕ) → w * h ≤ 1073741824 → (k : ℕ) → k < count w h m → RecordOf w (w * h) (labelling w h m .labels) (suc k) (getD (labelling w h m .components) k noDots)
+records-right w h m lim k l = rw (record-at w h m k l) (of-labels (labelling w h m .labels))
+  where
+    of-labels : (labels : List ℕ) → RecordOf w (w * h) labels (suc k) (componentTo w labels (suc k) (w * h))
+    of-labels labels =
+        record {
+          area = area-of w labels (suc k) (w * h);
+          x0 = least-of w labels (suc k) (λ c. c .x0) (λ i. i % w) refl (λ c t. refl) (w * h) (λ t l. let q = mod-le t w in omega arith);
+          y0 = least-of w labels (suc k) (λ c. c .y0) (λ i. i / w) refl (λ c t. refl) (w * h) (λ t l. let q = div-le-self t w in omega arith);
+          x1 = greatest-of w labels (suc k) (λ c. c .x1) (λ i. i % w) refl (λ c t. refl) (w * h);
+          y1 = greatest-of w labels (suc k) (λ c. c .y1) (λ i. i / w) refl (λ c t. refl) (w * h);
+          sum-x = sum-x-of w labels (suc k) (w * h);
+          sum-y = sum-y-of w labels (suc k) (w * h);
+        }

@@ -1,8 +1,8 @@
 -- Rust's saturating casts of a float, `toUnsigned` and `toSigned`, by the range that it is in.
 use mathlib.Core.Path.{_≡_, refl, sym, ap, _∙_, subst}
-use mathlib.Core.Bool.{Bool, true, false, not, _&&_, _||_}
+use mathlib.Core.Bool.{true, false, not, _&&_, _||_}
 use Prim.Native.Nat.{ℕ, zero, suc, _+_, _-_, _*_, _/_, _^_, _≤_, _<_, min}
-use native.Mathlib.Nat.{le-trans, le-of-eq, le-of-lt, le-refl, mul-one, one-mul, mul-comm, mul-pos, add-comm, le-div-iff-mul-le, div-lt-iff-lt-mul, div-le-of-le-mul}
+use native.Mathlib.Nat.{le-trans, le-of-eq, le-refl, mul-one, one-mul, mul-comm, mul-pos, add-comm, le-div-iff-mul-le, div-lt-iff-lt-mul, div-le-of-le-mul}
 use native.Mathlib.Omega.{arith}
 use lib.IntN.{pos, negℤ}
 use lib.Dec.{T, ltb, eqb, ltb→lt, nltb→le, eqb→eq, lit<}
@@ -10,6 +10,7 @@ use lib.Pow.{pow-pos}
 use lib.Signed.{mag}
 use lib.Ieee.{Float, nan, inf, fin, up, down, lt, le, toUnsigned, toSigned}
 use lib.Ieee.Fits.{down-pos}
+use Rattle.rounding.proofs.Tests.{first-not, at-most}
 use Rattle.rounding.proofs.Fractions.{two-to, tidy-lt, tidy-le}
 
 abbrev pub minus-two-to : ℕ → Float
@@ -83,19 +84,13 @@ unsigned-bottom w (fin false m e) a = absurd (not-below (m * up e) (down e) 1 (d
 -- ---- signed
 -- the whole part of a float from -2 ^ h on
 at-most-part : (n d p : ℕ) → 0 < d → T (ltb (n * 1) (1 * p * d) || (eqb (1 * p * d) (n * 1) && true)) → n / d ≤ p
-at-most-part n d p D t = div-le-of-le-mul d (le-trans (go (ltb (n * 1) (1 * p * d)) (eqb (1 * p * d) (n * 1)) t (ltb→lt (n * 1) (1 * p * d)) (eqb→eq (1 * p * d) (n * 1))) (le-of-eq (mul-comm p d)))
+at-most-part n d p D t = div-le-of-le-mul d (tidy n p d (at-most (n * 1) (1 * p * d) (eqb (1 * p * d) (n * 1)) (λ q. sym (eqb→eq (1 * p * d) (n * 1) q)) t))
   where
-    go : (a b : Bool) → T (a || (b && true)) → (T a → n * 1 < 1 * p * d) → (T b → 1 * p * d ≡ n * 1) → n ≤ p * d
-    go true b t f g = le-of-lt (tidy-lt n p d (f tt))
-    go false true t f g = le-of-eq (sym (mul-one n) ∙ sym (g tt) ∙ ap (λ (z : ℕ). z * d) (one-mul p))
-    go false false t f g = absurd t
-
-not-first : (a b : Bool) → T (not (a || b)) → T (not a)
-not-first true b t = absurd t
-not-first false b t = tt
+    tidy : (n p d : ℕ) → n * 1 ≤ 1 * p * d → n ≤ d * p
+    tidy n p d h = le-trans (le-of-eq (sym (mul-one n))) (le-trans h (le-of-eq (ap (λ (z : ℕ). z * d) (one-mul p) ∙ mul-comm p d)))
 
 past : (n d p : ℕ) → T (not (ltb (n * 1) (1 * p * d) || (eqb (1 * p * d) (n * 1) && true))) → T (not (ltb (n * 1) (1 * p * d)))
-past n d p t = not-first (ltb (n * 1) (1 * p * d)) _ t
+past n d p t = first-not (ltb (n * 1) (1 * p * d)) _ t
 
 least-uncapped : (q p r : ℕ) → q ≤ p → p ≤ r → min q r ≡ min q p
 least-uncapped q p r a b = omega arith
@@ -107,15 +102,15 @@ mag-least : (n p : ℕ) → 0 < p → n ≤ p → mag (negℤ (pos n)) < p
 mag-least zero p h l = h
 mag-least (suc n) p h l = l
 
-at-most : (q p : ℕ) → min q p ≤ p
-at-most q p = omega arith
+min-at-most : (q p : ℕ) → min q p ≤ p
+min-at-most q p = omega arith
 
 pub signed-fits : (h : ℕ) (x : Float) → mag (toSigned h x) < 2 ^ h
 unfolding toSigned
 signed-fits h nan = pow-pos h
 signed-fits h (inf true) = mag-least (2 ^ h) (2 ^ h) (pow-pos h) (le-refl (2 ^ h))
 signed-fits h (inf false) = under-top (2 ^ h) (pow-pos h)
-signed-fits h (fin true m e) = mag-least (min (m * up e / down e) (2 ^ h)) (2 ^ h) (pow-pos h) (at-most (m * up e / down e) (2 ^ h))
+signed-fits h (fin true m e) = mag-least (min (m * up e / down e) (2 ^ h)) (2 ^ h) (pow-pos h) (min-at-most (m * up e / down e) (2 ^ h))
 signed-fits h (fin false m e) = under (m * up e / down e) (2 ^ h) (pow-pos h)
 
 pub signed-narrowed : (h k : ℕ) (x : Float) → 2 ^ h ≤ 2 ^ k → T (le (minus-two-to h) x) → T (lt x (two-to h)) → toSigned k x ≡ toSigned h x
@@ -154,4 +149,4 @@ signed-nan h (fin true m e) a b = absurd (no-size (m * up e * 1) (1 * 2 ^ h * do
   where
     no-size : (n q d : ℕ) → 0 < q → q ≤ n → n + 0 * 1 * d ≤ 0 → ⊥
     no-size n q d h k l = omega arith
-signed-nan h (fin false m e) a b = absurd (not-below (m * up e) (down e) (2 ^ h) (down-pos e) (pow-pos h) (not-first (ltb 0 (1 * 2 ^ h * down e + m * up e * 1)) _ a))
+signed-nan h (fin false m e) a b = absurd (not-below (m * up e) (down e) (2 ^ h) (down-pos e) (pow-pos h) (first-not (ltb 0 (1 * 2 ^ h * down e + m * up e * 1)) _ a))

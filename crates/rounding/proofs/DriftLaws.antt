@@ -9,12 +9,12 @@
 --   driftX-is-negated    so it is the negated drift
 --   drift-zero           a slope of 0.0 or -0.0 has the drift 0, at any column
 use mathlib.Core.Path.{_≡_, refl, sym, ap, _∙_, subst}
-use mathlib.Core.Bool.{Bool, true, false, not, _&&_, _||_, cond, true≢false}
+use mathlib.Core.Bool.{Bool, true, false, not, cond, true≢false}
 use Prim.Native.Nat.{ℕ, zero, suc, _+_, _*_, _^_, _≤_, _<_, min}
-use native.Mathlib.Nat.{le-trans, le-of-eq, le-of-lt, le-suc, mul-comm, mul-assoc, mul-left-comm, mul-one, one-mul, mul-zero, mul-pos, zero-mul, zero-lt-suc}
+use native.Mathlib.Nat.{le-trans, le-of-lt, le-suc, mul-comm, mul-assoc, mul-left-comm, mul-one, mul-zero, mul-pos, zero-mul, zero-lt-suc}
 use native.Mathlib.Omega.{arith}
 use lib.IntN.{ℤ, pos, negℤ, natAbs}
-use lib.Dec.{T, ltb, eqb, lit≤, ltb→lt, eqb→eq}
+use lib.Dec.{T, eqb, lit≤, eqb→eq}
 use lib.Ieee.{Float, nan, inf, fin, binary64, up, down, round, le, mul, neg, ofInt, unlike, fits, toSigned}
 use lib.Ieee.Fits.{down-pos, round-fits, neg-fits}
 use lib.Ieee.Exact.{HasValue}
@@ -23,6 +23,7 @@ use lib.Ieee.Scale.{round-same}
 use lib.Ieee.Positive.{num, den, den-pos}
 use Rattle.rounding.specs.Rounding.{nearestWhole, roundHalfAway, roundToSigned}
 use Rattle.rounding.specs.Drift.{drift, driftX}
+use Rattle.rounding.proofs.Tests.{at-most}
 use Rattle.rounding.proofs.Signs.{negative, neg-round, mul-neg}
 use Rattle.rounding.proofs.RoundedCasts.{roundToSigned-is}
 use Rattle.rounding.proofs.RoundBounds.{finite-nonneg}
@@ -75,18 +76,16 @@ drift-of-fin c s m e C S = ap (roundToSigned 31) (product c s m e C) ∙ go s
     go true = ap (roundToSigned 31) (sym (neg-round binary64 false (c * (m * up e)) (down e))) ∙ both .1
 
 -- a slope within one has a size of at most one
-at-most-one : (n d : ℕ) (p q : Bool) → (T p → n * 1 < 1 * 1 * d) → (T q → n * 1 ≡ 1 * 1 * d) → T (p || (q && true)) → n ≤ d
-at-most-one n d true q f g t = le-trans (le-of-eq (sym (mul-one n))) (le-trans (le-of-lt (f tt)) (le-of-eq (one-mul d)))
-at-most-one n d false true f g t = le-of-eq (sym (mul-one n) ∙ g tt ∙ one-mul d)
-at-most-one n d false false f g t = absurd t
+tidy-one : (n d : ℕ) → n * 1 ≤ 1 * 1 * d → n ≤ d
+tidy-one n d h = omega arith
 
 slope-size : (x : Float) → WithinOne x → num x ≤ den x
 unfolding le
 slope-size nan w = absurd (w .0)
 slope-size (inf true) w = absurd (w .0)
 slope-size (inf false) w = absurd (w .1)
-slope-size (fin true m e) w = at-most-one (m * up e) (down e) (ltb (m * up e * 1) (1 * 1 * down e)) (eqb (1 * 1 * down e) (m * up e * 1)) (ltb→lt (m * up e * 1) (1 * 1 * down e)) (λ t. sym (eqb→eq (1 * 1 * down e) (m * up e * 1) t)) (w .0)
-slope-size (fin false m e) w = at-most-one (m * up e) (down e) (ltb (m * up e * 1) (1 * 1 * down e)) (eqb (m * up e * 1) (1 * 1 * down e)) (ltb→lt (m * up e * 1) (1 * 1 * down e)) (eqb→eq (m * up e * 1) (1 * 1 * down e)) (w .1)
+slope-size (fin true m e) w = tidy-one (m * up e) (down e) (at-most (m * up e * 1) (1 * 1 * down e) (eqb (1 * 1 * down e) (m * up e * 1)) (λ t. sym (eqb→eq (1 * 1 * down e) (m * up e * 1) t)) (w .0))
+slope-size (fin false m e) w = tidy-one (m * up e) (down e) (at-most (m * up e * 1) (1 * 1 * down e) (eqb (m * up e * 1) (1 * 1 * down e)) (eqb→eq (m * up e * 1) (1 * 1 * down e)) (w .1))
 
 signed-is : (slope : Float) → WithinOne slope → (c : ℕ) → c ≤ 2 ^ 15 → drift slope c ≡ signed (negative slope) (size c (num slope) (den slope))
 signed-is nan w c C = absurd (unfold le in w .0)

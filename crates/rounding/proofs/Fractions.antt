@@ -1,6 +1,6 @@
 -- Positive floats as fractions num / den, their order, and where x + x is exact.
 use mathlib.Core.Path.{_≡_, refl, sym, ap, _∙_, subst}
-use mathlib.Core.Bool.{Bool, true, false, not, _&&_, _||_}
+use mathlib.Core.Bool.{Bool, true, false, _&&_}
 use Prim.Native.Nat.{ℕ, zero, suc, _+_, _-_, _*_, _/_, _%_, _^_, _≤_, _<_, min}
 use native.Mathlib.Nat.{le-of-eq, lt-of-lt-of-le, lt-of-le-of-lt, lt-of-not-le, lt-irrefl, mul-comm, mul-assoc, mul-right-comm, mul-lt-mul-of-pos-right, lt-of-mul-lt-mul-right, mul-one, one-mul, mul-pos, pow-suc, eq-of-mul-eq-mul-right, le-of-suc-le-suc, div-lt-iff-lt-mul}
 use native.Mathlib.Omega.{arith}
@@ -12,6 +12,7 @@ use lib.Ieee.Fits.{down-pos, and-l, and-r}
 use lib.Ieee.Exact.{HasValue, round-exact}
 use lib.Ieee.Nearest.{div-same}
 use lib.Ieee.Positive.{num, den, positive, den-pos, value→cross, between, le→cross, positive-of-value}
+use Rattle.rounding.proofs.Tests.{first-so}
 
 abbrev pub half : Float
 half = fin false 1 (negsuc 0)
@@ -19,32 +20,20 @@ half = fin false 1 (negsuc 0)
 abbrev pub two-to : ℕ → Float
 two-to w = fin false 1 (pos w)
 
-pub yes : {b : Bool} → b ≡ true → T b
-yes h = subst T (sym h) tt
-
-pub no : {b : Bool} → b ≡ false → T (not b)
-no h = subst (λ (a : Bool). T (not a)) (sym h) tt
-
 -- ---- the order of two positive floats is that of their fractions
-pub lt→frac : (x y : Float) → T (positive x) → T (positive y) → T (lt x y) → num x * den y < num y * den x
+lt→frac : (x y : Float) → T (positive x) → T (positive y) → T (lt x y) → num x * den y < num y * den x
 unfolding lt
 lt→frac (fin false m e) (fin false n d) p q h = ltb→lt (m * up e * down d) (n * up d * down e) h
 
-pub frac→lt : (x y : Float) → T (positive x) → T (positive y) → num x * den y < num y * den x → T (lt x y)
+frac→lt : (x y : Float) → T (positive x) → T (positive y) → num x * den y < num y * den x → T (lt x y)
 unfolding lt
 frac→lt (fin false m e) (fin false n d) p q h = lt→ltb (m * up e * down d) (n * up d * down e) h
 
-or-l : (a b : Bool) → T a → T (a || b)
-or-l true b t = tt
-or-l false b t = absurd t
-
-pub lt→le : (x y : Float) → T (lt x y) → T (le x y)
-unfolding le
-lt→le x y h = or-l (lt x y) _ h
-
 -- ---- at least a half and below 2 ^ w
-abbrev pub Within : ℕ → Float → Type 0
-Within w x = T (positive x) × (den x ≤ 2 * num x) × (num x < 2 ^ w * den x)
+pub record Within (w : ℕ) (x : Float) : Type 0 where
+  pub is-positive : T (positive x)
+  pub from-half : den x ≤ 2 * num x
+  pub under : num x < 2 ^ w * den x
 
 tidy-half : (d n : ℕ) → 1 * 1 * d ≤ n * 2 ^ 1 → d ≤ 2 * n
 tidy-half d n h = omega arith
@@ -55,13 +44,17 @@ tidy-lt n p d h = subst (λ (k : ℕ). n < k * d) (one-mul p) (subst (λ (k : �
 pub tidy-le : (n p d : ℕ) → 1 * p * d ≤ n * 1 → p * d ≤ n
 tidy-le n p d h = subst (λ (k : ℕ). k * d ≤ n) (one-mul p) (subst (λ (k : ℕ). 1 * p * d ≤ k) (mul-one n) h)
 
+lt→le : (x y : Float) → T (lt x y) → T (le x y)
+unfolding le
+lt→le x y h = first-so (lt x y) _ h
+
 pub within : (w : ℕ) (x : Float) → T (le half x) → T (lt x (two-to w)) → Within w x
 within w x a b =
     let p : T (positive x) = between half x (two-to w) tt tt a (lt→le x (two-to w) b) in
-    (p, tidy-half (den x) (num x) (le→cross half x tt p a), tidy-lt (num x) (2 ^ w) (den x) (lt→frac x (two-to w) p tt b))
+    record { is-positive = p; from-half = tidy-half (den x) (num x) (le→cross half x tt p a); under = tidy-lt (num x) (2 ^ w) (den x) (lt→frac x (two-to w) p tt b) }
 
 -- ---- another fraction of the same size
-pub rescale : (x : Float) (s : Bool) (a c a' c' : ℕ) → 0 < c → a * c' ≡ a' * c → HasValue x s a c → HasValue x s a' c'
+rescale : (x : Float) (s : Bool) (a c a' c' : ℕ) → 0 < c → a * c' ≡ a' * c → HasValue x s a c → HasValue x s a' c'
 rescale nan s a c a' c' C h v = v
 rescale (inf t) s a c a' c' C h v = v
 rescale (fin t m e) s a c a' c' C h v = (
@@ -81,23 +74,28 @@ pow-le-back i p h = le-of-suc-le-suc (lt-of-not-le (λ (g : suc p ≤ i). lt-irr
 join : (k : ℕ) → suc k ≤ 1074 → 1074 - suc k + suc k ≡ 1074
 join k h = omega arith
 
-pub unit : (m : ℕ) (e : ℤ) → down e ≤ 2 ^ 1074 → (j : ℕ) × (m * up e * 2 ^ 1074 ≡ m * 2 ^ j * down e)
-unit m (pos k) h = (k + 1074, mul-assoc m (2 ^ k) (2 ^ 1074) ∙ ap (λ (z : ℕ). m * z) (sym (pow-add 2 k 1074)) ∙ sym (mul-one (m * 2 ^ (k + 1074))))
-unit m (negsuc k) h =
+in-units : (m : ℕ) (e : ℤ) → down e ≤ 2 ^ 1074 → (j : ℕ) × (m * up e * 2 ^ 1074 ≡ m * 2 ^ j * down e)
+in-units m (pos k) h = (k + 1074, mul-assoc m (2 ^ k) (2 ^ 1074) ∙ ap (λ (z : ℕ). m * z) (sym (pow-add 2 k 1074)) ∙ sym (mul-one (m * 2 ^ (k + 1074))))
+in-units m (negsuc k) h =
     let e : 2 ^ (1074 - suc k) * 2 ^ suc k ≡ 2 ^ 1074 = sym (pow-add 2 (1074 - suc k) (suc k)) ∙ ap (λ (z : ℕ). 2 ^ z) (join k (pow-le-back (suc k) 1074 h)) in
     (1074 - suc k, ap (λ (z : ℕ). z * 2 ^ 1074) (mul-one m) ∙ ap (λ (z : ℕ). m * z) (sym e) ∙ sym (mul-assoc m (2 ^ (1074 - suc k)) (2 ^ suc k)))
 
--- what a positive value that fits has: fewer than 53 digits, and no unit below 2 ^ -1074
-pub digits : (m : ℕ) (e : ℤ) → T (fits binary64 (fin false m e)) → 0 < m → (m < 2 ^ 53) × (down e ≤ 2 ^ 1074) × (m % 2 ≡ 1)
+-- what a positive float that f64 holds has: at most 53 digits, no unit below 2 ^ -1074, and a size below 2 ^ 1024
+pub record Held (m : ℕ) (e : ℤ) : Type 0 where
+  pub digits : m < 2 ^ 53
+  pub unit : down e ≤ 2 ^ 1074
+  pub top : m * up e < 2 ^ 1024 * down e
+
+pub held : (m : ℕ) (e : ℤ) → T (fits binary64 (fin false m e)) → 0 < m → Held m e
 unfolding fits
-digits zero e t h = absurd (lt-irrefl 0 h)
-digits (suc m) e t h =
+held zero e t h = absurd (lt-irrefl 0 h)
+held (suc m) e t h =
     let a : Bool = eqb (suc m % 2) 1 in
     let b : Bool = ltb (suc m) (2 ^ 53) in
     let c : Bool = leb (down e) (2 ^ 1074) in
     let d : Bool = ltb (suc m * up e) (2 ^ 1024 * down e) in
     let l = and-l (a && b && c) d t in
-    (ltb→lt (suc m) (2 ^ 53) (and-r a b (and-l (a && b) c l)), leb→le (down e) (2 ^ 1074) (and-r (a && b) c l), lib.Dec.eqb→eq (suc m % 2) 1 (and-l a b (and-l (a && b) c l)))
+    record { digits = ltb→lt (suc m) (2 ^ 53) (and-r a b (and-l (a && b) c l)); unit = leb→le (down e) (2 ^ 1074) (and-r (a && b) c l); top = ltb→lt (suc m * up e) (2 ^ 1024 * down e) (and-r (a && b && c) d t) }
 
 -- ---- x + x is exact where it does not overflow
 double-fin : (m : ℕ) (e : ℤ) → T (fits binary64 (fin false m e)) → 0 < m → m * up e < 2 ^ 64 * down e → HasValue (add binary64 (fin false m e) (fin false m e)) false (2 * (m * up e)) (down e)
@@ -105,8 +103,8 @@ unfolding add
 double-fin m e F M B =
     let D = down e in
     let N = m * up e in
-    let g = digits m e F M in
-    let u = unit m e (g .1) in
+    let g = held m e F M in
+    let u = in-units m e (g .unit) in
     let j = u .0 in
     let u2 : m * 2 ^ suc j ≡ 2 * (m * 2 ^ j) = ap (λ (z : ℕ). m * z) (pow-suc 2 j) ∙ sym (mul-assoc m (2 ^ j) 2) ∙ mul-comm (m * 2 ^ j) 2 in
     let bound : m * 2 ^ j < 2 ^ 64 * 2 ^ 1074 = lt-of-mul-lt-mul-right D
@@ -116,7 +114,7 @@ double-fin m e F M B =
     let e1 : (A + A) * 2 ^ 1074 ≡ m * 2 ^ suc j * (D * D) =
     regroup N D (2 ^ 1074) ∙ ap (λ (z : ℕ). 2 * (z * D)) (u .1) ∙ sym (ap (λ (z : ℕ). z * (D * D)) u2 ∙ regroup2 (m * 2 ^ j) D) in
     rescale (round binary64 false (A + A) (D * D)) false (A + A) (D * D) (2 * N) D (mul-pos (down-pos e) (down-pos e)) (regroup3 N D)
-    (round-exact binary64 false (A + A) (D * D) m (suc j) (mul-pos (down-pos e) (down-pos e)) (g .0) bound2 e1)
+    (round-exact binary64 false (A + A) (D * D) m (suc j) (mul-pos (down-pos e) (down-pos e)) (g .digits) bound2 e1)
   where
     twice : (a b : ℕ) → a < b → 2 * a < 2 * b
     twice a b h = omega arith
@@ -140,7 +138,7 @@ double (fin false m e) F p h = double-fin m e F (ltb→lt 0 m p) h
 uncapped : (a c : ℕ) → a < c → min a (c - 1) ≡ a
 uncapped a c h = omega arith
 
-pub whole-part : (w : ℕ) (x : Float) → T (positive x) → num x < 2 ^ w * den x → toUnsigned w x ≡ num x / den x
+whole-part : (w : ℕ) (x : Float) → T (positive x) → num x < 2 ^ w * den x → toUnsigned w x ≡ num x / den x
 unfolding toUnsigned
 whole-part w (fin false m e) p h = uncapped (m * up e / down e) (2 ^ w) (div-lt-iff-lt-mul (down-pos e) .1 h)
 
@@ -171,7 +169,7 @@ above-minus-one (fin false m e) p = lt→ltb 0 (1 * 1 * down e + m * up e * 1) (
 -- ---- from 2 ^ 52 on a float is whole
 pub large-whole : (x : Float) → T (fits binary64 x) → T (positive x) → 2 ^ 52 * den x ≤ num x → den x ≡ 1
 large-whole (fin false m (pos k)) F p h = refl
-large-whole (fin false m (negsuc k)) F p h = absurd (go m (2 ^ k) (2 ^ suc k) (digits m (negsuc k) F (ltb→lt 0 m p) .0) (pow-pos k) (pow-suc 2 k) (subst (λ (z : ℕ). 2 ^ 52 * 2 ^ suc k ≤ z) (mul-one m) h))
+large-whole (fin false m (negsuc k)) F p h = absurd (go m (2 ^ k) (2 ^ suc k) (held m (negsuc k) F (ltb→lt 0 m p) .digits) (pow-pos k) (pow-suc 2 k) (subst (λ (z : ℕ). 2 ^ 52 * 2 ^ suc k ≤ z) (mul-one m) h))
   where
     go : (m p q : ℕ) → m < 2 ^ 53 → 0 < p → q ≡ p * 2 → 2 ^ 52 * q ≤ m → ⊥
     go m p q a b c d = omega arith

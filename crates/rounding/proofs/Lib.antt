@@ -1,3 +1,5 @@
+-- tests of the code as facts
+pub mod Tests
 -- positive floats as fractions
 pub mod Fractions
 -- the nearest whole number of a fraction

@@ -1,19 +1,20 @@
--- What `round` gives for a / b lies where a / b lies, against any k / 2 ^ t that the format holds; and so does its nearest whole number.
+-- What `round` gives for a / b lies where a / b lies, against any k / 2 ^ t that f64 holds.
 use mathlib.Core.Path.{_≡_, refl, sym, ap, _∙_, subst}
-use mathlib.Core.Bool.{Bool, true, false, not, _&&_, _||_, cond}
+use mathlib.Core.Bool.{Bool, true, false, not, cond}
 use Prim.Native.Nat.{ℕ, zero, suc, _+_, _-_, _*_, _^_, _≤_, _<_}
-use native.Mathlib.Nat.{le-of-eq, lt-of-lt-of-le, mul-assoc}
+use native.Mathlib.Nat.{lt-of-lt-of-le, mul-assoc}
 use native.Mathlib.Omega.{arith}
-use lib.Dec.{T, ltb, eqb}
+use lib.Dec.{T, ltb, eqb, eqb→eq}
 use lib.Pow.{pow-add, pow-pos, pow-mono, shl-lt}
 use lib.Ieee.{Float, nan, inf, fin, Format, binary64, prec, low, emax, up, down, odd, units, round, le}
 use lib.Ieee.Fits.{round-is}
 use lib.Ieee.Exact.{HasValue, round-exact}
 use lib.Ieee.Order.{round-mono, transfer}
 use lib.Ieee.Positive.{num, den, den-pos}
+use Rattle.rounding.proofs.Tests.{at-most}
 
 -- ---- `round f false` is not negative, and no NaN
-abbrev pub nonneg : Float → Bool
+abbrev nonneg : Float → Bool
 nonneg nan = false
 nonneg (inf s) = not s
 nonneg (fin s m e) = not s
@@ -36,30 +37,22 @@ units-nonneg f q k = go (ltb (q * 2 ^ k) (2 ^ (low f + suc (emax f))))
     go true = odd-nonneg (suc (prec f)) q k (low f)
     go false = tt
 
-pub round-nonneg : (f : Format) (a b : ℕ) → T (nonneg (round f false a b))
+round-nonneg : (f : Format) (a b : ℕ) → T (nonneg (round f false a b))
 round-nonneg f a b = subst (λ (z : Float). T (nonneg z)) (sym (round-is f false a b)) (units-nonneg f _ _)
 
 -- ---- the order of two such values, as one of fractions
 cross : (x y : Float) → T (finite-nonneg x) → T (finite-nonneg y) → T (le x y) → num x * den y ≤ num y * den x
 unfolding le
-cross (fin false m e) (fin false n d) p q h = lt-or-eq' (m * up e * down d) (n * up d * down e) h
-  where
-    lt-or-eq' : (a b : ℕ) → T (ltb a b || (eqb a b && true)) → a ≤ b
-    lt-or-eq' a b t = go (ltb a b) (eqb a b) t (lib.Dec.ltb→lt a b) (lib.Dec.eqb→eq a b)
-      where
-        go : (p q : Bool) → T (p || (q && true)) → (T p → a < b) → (T q → a ≡ b) → a ≤ b
-        go true q t f g = native.Mathlib.Nat.le-of-lt (f tt)
-        go false true t f g = le-of-eq (g tt)
-        go false false t f g = absurd t
+cross (fin false m e) (fin false n d) p q h = at-most (m * up e * down d) (n * up d * down e) (eqb (m * up e * down d) (n * up d * down e)) (eqb→eq (m * up e * down d) (n * up d * down e)) h
 
-plain-below : (x y : Float) → T (nonneg x) → T (finite-nonneg y) → T (le x y) → T (finite-nonneg x)
+finite-below : (x y : Float) → T (nonneg x) → T (finite-nonneg y) → T (le x y) → T (finite-nonneg x)
 unfolding le
-plain-below (inf false) (fin s n d) p q h = absurd h
-plain-below (fin false m e) y p q h = tt
+finite-below (inf false) (fin s n d) p q h = absurd h
+finite-below (fin false m e) y p q h = tt
 
-plain-of : (x : Float) (a c : ℕ) → HasValue x false a c → T (finite-nonneg x)
-plain-of (fin true m e) a c v = absurd (mathlib.Core.Bool.true≢false (v .0))
-plain-of (fin false m e) a c v = tt
+finite-of-value : (x : Float) (a c : ℕ) → HasValue x false a c → T (finite-nonneg x)
+finite-of-value (fin true m e) a c v = absurd (mathlib.Core.Bool.true≢false (v .0))
+finite-of-value (fin false m e) a c v = tt
 
 value-cross : (x : Float) (a c : ℕ) → HasValue x false a c → num x * c ≡ a * den x
 value-cross (fin s m e) a c v = v .1
@@ -90,14 +83,14 @@ module _ (k t a b : ℕ) (K : k < 2 ^ 53) (H : t ≤ 1074) (B : 0 < b) where
   round-at-most h =
       let l : T (le y g) = round-mono binary64 a b k (2 ^ t) B (pow-pos t) h in
       let v = held k t K H in
-      let p : T (finite-nonneg y) = plain-below y g (round-nonneg binary64 a b) (plain-of g k (2 ^ t) v) l in
-      (p, transfer (num y) k (den y) (2 ^ t) (num y) (num g) (den y) (den g) (den-pos y) (den-pos g) refl (sym (value-cross g k (2 ^ t) v)) (cross y g p (plain-of g k (2 ^ t) v) l))
+      let p : T (finite-nonneg y) = finite-below y g (round-nonneg binary64 a b) (finite-of-value g k (2 ^ t) v) l in
+      (p, transfer (num y) k (den y) (2 ^ t) (num y) (num g) (den y) (den g) (den-pos y) (den-pos g) refl (sym (value-cross g k (2 ^ t) v)) (cross y g p (finite-of-value g k (2 ^ t) v) l))
 
   pub round-at-least : T (finite-nonneg y) → k * b ≤ a * 2 ^ t → k * den y ≤ num y * 2 ^ t
   round-at-least p h =
       let l : T (le g y) = round-mono binary64 k (2 ^ t) a b (pow-pos t) B h in
       let v = held k t K H in
-      transfer k (num y) (2 ^ t) (den y) (num g) (num y) (den g) (den y) (den-pos g) (den-pos y) (sym (value-cross g k (2 ^ t) v)) refl (cross g y (plain-of g k (2 ^ t) v) p l)
+      transfer k (num y) (2 ^ t) (den y) (num g) (num y) (den g) (den y) (den-pos g) (den-pos y) (sym (value-cross g k (2 ^ t) v)) refl (cross g y (finite-of-value g k (2 ^ t) v) p l)
 
 pub round-in-order : (a b c d : ℕ) → 0 < b → 0 < d → a * d ≤ c * b → T (finite-nonneg (round binary64 false a b)) → T (finite-nonneg (round binary64 false c d))
     → num (round binary64 false a b) * den (round binary64 false c d) ≤ num (round binary64 false c d) * den (round binary64 false a b)

@@ -11,7 +11,7 @@ use lib.Ieee.Fits.{down-pos}
 use lib.Ieee.Positive.{num, den}
 use lib.Ieee.Scale.{finite}
 use Rattle.rounding.specs.Rounding.{nearestWhole, roundHalfAway, roundToUnsigned, roundToSigned}
-use Rattle.rounding.proofs.HalfAway.{away-value}
+use Rattle.rounding.proofs.HalfAway.{roundHalfAway-value}
 use Rattle.rounding.proofs.Signs.{negative}
 
 -- the whole part of a float that is a whole number
@@ -31,7 +31,7 @@ signed-of-whole h (fin t m e) s n v =
     λ i. cond (v .0 i) (negℤ (pos (min (c i) (2 ^ h)))) (pos (min (c i) (2 ^ h - 1)))
 
 pub roundToUnsigned-is : (w : ℕ) (x : Float) → T (fits binary64 x) → T (finite x) → roundToUnsigned w x ≡ cond (negative x) 0 (min (nearestWhole (num x) (den x)) (2 ^ w - 1))
-roundToUnsigned-is w (fin s m e) F p = unsigned-of-whole w (roundHalfAway (fin s m e)) s (nearestWhole (m * up e) (down e)) (away-value s m e F)
+roundToUnsigned-is w (fin s m e) F p = unsigned-of-whole w (roundHalfAway (fin s m e)) s (nearestWhole (m * up e) (down e)) (roundHalfAway-value s m e F)
 
 pub roundToSigned-is : (h : ℕ) (x : Float) → T (fits binary64 x) → T (finite x) → roundToSigned h x ≡ cond (negative x) (negℤ (pos (min (nearestWhole (num x) (den x)) (2 ^ h)))) (pos (min (nearestWhole (num x) (den x)) (2 ^ h - 1)))
-roundToSigned-is h (fin s m e) F p = signed-of-whole h (roundHalfAway (fin s m e)) s (nearestWhole (m * up e) (down e)) (away-value s m e F)
+roundToSigned-is h (fin s m e) F p = signed-of-whole h (roundHalfAway (fin s m e)) s (nearestWhole (m * up e) (down e)) (roundHalfAway-value s m e F)

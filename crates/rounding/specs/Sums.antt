@@ -12,7 +12,11 @@ unfoldable pub sumFrom : Float → List Float → Float
 sumFrom sum [] = sum
 sumFrom sum (x ∷ xs) = sumFrom (add binary64 sum x) xs
 
--- up to 8 values: left to right from 0.0 (01, part 1)
+-- up to this many values are added left to right (01, part 1)
+abbrev pub block : ℕ
+block = 8
+
+-- such a sum starts from 0.0 (01, part 1)
 abbrev pub blockSum : List Float → Float
 blockSum xs = sumFrom positiveZero xs
 
@@ -20,13 +24,13 @@ blockSum xs = sumFrom positiveZero xs
 abbrev pub half : List Float → ℕ
 half xs = length xs / 2
 
--- the pairwise sum, with at most k splits one in another
+-- a block is summed, a longer list splits, at most k times one in another
 unfoldable pub sumWithin : ℕ → List Float → Float
 unfolding sumFrom
 sumWithin zero xs = blockSum xs
-sumWithin (suc k) xs = cond (leb (length xs) 8) (blockSum xs) (add binary64 (sumWithin k (take (half xs) xs)) (sumWithin k (drop (half xs) xs)))
+sumWithin (suc k) xs = cond (leb (length xs) block) (blockSum xs) (add binary64 (sumWithin k (take (half xs) xs)) (sumWithin k (drop (half xs) xs)))
 
--- more than 8 values: the sum of the two parts' sums (01, part 1); k at the length is enough: `pairwiseSum-short`, `pairwiseSum-split`
+-- the sum of a block, or of the two parts' sums (01, part 1). The length is splits enough: `pairwiseSum-short`, `pairwiseSum-split`
 unfoldable pub pairwiseSum : List Float → Float
 unfolding sumWithin
 pairwiseSum xs = sumWithin (length xs) xs

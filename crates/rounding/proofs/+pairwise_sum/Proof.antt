@@ -1,172 +1,76 @@
+-- `pairwise_sum` calls itself on the two parts of its slice, which are shorter: the measure is the length.
 use borrow.Author.Needs.{needs, scaled-fits}
-use mathlib.Core.Path.{_≡_, sym, ap, _∙_, subst}
-use native.Mathlib.Omega.{arith}
-use mathlib.Core.List.{List}
-use lib.Seq.{take-length}
-use lib.Ieee.{Float, add, binary64}
-use Rattle.rounding.specs.Sums.{pairwiseSum}
-use Rattle.rounding.proofs.SumLaws.{pairwiseSum-short, pairwiseSum-split}
-use Prim.Native.Nat.{ℕ, _<_, _/_, _-_, min}
-use lib.ListN.{length, take, drop, length-take, length-drop}
-use denote.Ref.{now}
 use borrow.Fn.Kinds.{In}
 use borrow.Fn.PlainCycle.{Measures, is, falls, and}
+use denote.Ref.{now}
+use mathlib.Core.Path.{_≡_, sym, ap, _∙_}
+use mathlib.Core.List.{List}
+use Prim.Native.Nat.{ℕ, _<_, _-_}
+use native.Mathlib.Omega.{arith}
+use lib.ListN.{length, take, drop, length-take, length-drop}
+use lib.Seq.{take-length}
+use lib.Ieee.{Float, add, binary64}
+use Rattle.rounding.specs.Sums.{half, pairwiseSum}
+use Rattle.rounding.proofs.SumLaws.{pairwiseSum-short, pairwiseSum-split}
+use Rattle.rounding.proofs.block_sum.Reads as block-sum
 use Rattle.rounding.proofs.pairwise_sum.Reads as pairwise-sum
-use Rattle.rounding.proofs.pairwise_sum.Kinds as pairwise-sum-kinds
-use Rattle.rounding.proofs.+pairwise_sum.Lts-pairwise_sum as pairwise-sum-lts
-use Rattle.rounding.proofs.block_sum.Reads as block-sum-reads
+use Rattle.rounding.proofs.pairwise_sum.Kinds as kinds
+use Rattle.rounding.proofs.+pairwise_sum.Lts-pairwise_sum as lts
 use Rattle.rounding.proofs.+pairwise_sum.{statement}
 use Rattle.rounding.proofs.+pairwise_sum.Tie.{close}
 
-abbrev μ-pairwise-sum : Measures 1 pairwise-sum-kinds.ps ℕ
-μ-pairwise-sum κs a = length (now (a .0))
+abbrev μ : Measures 1 kinds.ps ℕ
+μ κs a = length (now (a .0))
 
-abbrev pairwise-sum-at : ℕ → In 1 pairwise-sum-kinds.ps
-pairwise-sum-at t =
-    and 1 pairwise-sum-kinds.ps (is 1 pairwise-sum-kinds.ps μ-pairwise-sum t) pairwise-sum.Pre
+-- what `pairwise_sum` is given at the measure t, and what a call of it asks below t
+abbrev at : ℕ → In 1 kinds.ps
+at t = and 1 kinds.ps (is 1 kinds.ps μ t) pairwise-sum.Pre
 
-abbrev pairwise-sum-below : ℕ → In 1 pairwise-sum-kinds.ps
-pairwise-sum-below t =
-    and
-    1
-    pairwise-sum-kinds.ps
-    (falls 1 pairwise-sum-kinds.ps _<_ μ-pairwise-sum t)
-    pairwise-sum.Pre
+abbrev below : ℕ → In 1 kinds.ps
+below t = and 1 kinds.ps (falls 1 kinds.ps _<_ μ t) pairwise-sum.Pre
 
-lo : (n : ℕ) → min (n / 2) n ≡ n / 2
-lo n = omega arith
+abbrev claims : ℕ → lts.Claims
+claims t = (block-sum.Asked, block-sum.Learnt, below t, pairwise-sum.Post)
 
-below : (n : ℕ) → 8 < n → n / 2 < n
-below n h = omega arith
+-- the right part reaches to the end
+right-whole : (xs : List Float) → take (length xs - half xs) (drop (half xs) xs) ≡ drop (half xs) xs
+right-whole xs = ap (λ (n : ℕ). take n (drop (half xs) xs)) (sym (length-drop (half xs) xs)) ∙ take-length (drop (half xs) xs)
 
-hi : (n : ℕ) → min n n ≡ n
-hi n = omega arith
+module _ (t : ℕ) where
+  block-sum-requires : lts.Need-block-sum-requires (claims t) (at t) pairwise-sum.Post
+  block-sum-requires c κs = tt
 
-below-hi : (n : ℕ) → 8 < n → n - n / 2 < n
-below-hi n h = omega arith
+  left-counted : lts.Need-slice-aggregate-pairwise-sum (claims t) (at t) pairwise-sum.Post
+  left-counted c = simp length-take (omega arith)
 
--- the rest, taken whole
-whole-rest : (xs : List Float) → take (length xs - length xs / 2) (drop (length xs / 2) xs) ≡ drop (length xs / 2) xs
-whole-rest xs = ap (λ (n : ℕ). take n (drop (length xs / 2) xs)) (sym (length-drop (length xs / 2) xs)) ∙ take-length (drop (length xs / 2) xs)
+  left-requires : lts.Need-pairwise-sum-requires (claims t) (at t) pairwise-sum.Post
+  left-requires c κs = (simp length-take (omega arith), tt)
 
--- src/lib.rt:21:9
-pairwise-sum-block-sum-requires : (t : ℕ) → pairwise-sum-lts.Need-block-sum-requires (
-  block-sum-reads.Asked,
-  block-sum-reads.Learnt,
-  pairwise-sum-below t,
-  pairwise-sum.Post,
-) (pairwise-sum-at t) pairwise-sum.Post
-pairwise-sum-block-sum-requires t c κs = tt
+  right-start-fits : lts.Need-mul-pairwise-sum (claims t) (at t) pairwise-sum.Post
+  right-start-fits c = scaled-fits _ (length (c .before .before .before .before .args .values .now)) 8 (omega arith) (c .before .before .before .before .good .0 .1)
 
--- src/lib.rt:24:30
-pairwise-sum-slice-aggregate-pairwise-sum :
-    (t : ℕ) → pairwise-sum-lts.Need-slice-aggregate-pairwise-sum (
-      block-sum-reads.Asked,
-      block-sum-reads.Learnt,
-      pairwise-sum-below t,
-      pairwise-sum.Post,
-    ) (pairwise-sum-at t) pairwise-sum.Post
-pairwise-sum-slice-aggregate-pairwise-sum t c = sym (length-take (length (c .before .before .before .args .values .now) / 2) (c .before .before .before .args .values .now) ∙ lo (length (c .before .before .before .args .values .now)))
+  right-length : lts.Need-sub-pairwise-sum (claims t) (at t) pairwise-sum.Post
+  right-length c = search needs
 
--- src/lib.rt:24:13
-pairwise-sum-pairwise-sum-requires : (t : ℕ) → pairwise-sum-lts.Need-pairwise-sum-requires (
-  block-sum-reads.Asked,
-  block-sum-reads.Learnt,
-  pairwise-sum-below t,
-  pairwise-sum.Post,
-) (pairwise-sum-at t) pairwise-sum.Post
-pairwise-sum-pairwise-sum-requires t c κs =
-    let xs = c .before .before .before .args .values .now in
-    (subst (λ (n : ℕ). length (take (length xs / 2) xs) < n) (c .before .before .before .pre .0) (subst (λ (n : ℕ). n < length xs) (sym (length-take (length xs / 2) xs ∙ lo (length xs))) (below (length xs) (c .before .if1 .left))), tt)
+  right-start : lts.Need-part-pairwise-sum-start (claims t) (at t) pairwise-sum.Post
+  right-start c = search needs
 
--- src/lib.rt:25:30
-pairwise-sum-mul-pairwise-sum : (t : ℕ) → pairwise-sum-lts.Need-mul-pairwise-sum (
-  block-sum-reads.Asked,
-  block-sum-reads.Learnt,
-  pairwise-sum-below t,
-  pairwise-sum.Post,
-) (pairwise-sum-at t) pairwise-sum.Post
-pairwise-sum-mul-pairwise-sum t c =
-    let n = length (c .before .before .before .before .args .values .now) in
-    scaled-fits (n / 2) n 8 (below n (c .before .before .if1 .left)) (c .before .before .before .before .good .0 .1)
+  right-end : lts.Need-part-pairwise-sum-end (claims t) (at t) pairwise-sum.Post
+  right-end c = search needs
 
--- src/lib.rt:25:30
-pairwise-sum-sub-pairwise-sum : (t : ℕ) → pairwise-sum-lts.Need-sub-pairwise-sum (
-  block-sum-reads.Asked,
-  block-sum-reads.Learnt,
-  pairwise-sum-below t,
-  pairwise-sum.Post,
-) (pairwise-sum-at t) pairwise-sum.Post
-pairwise-sum-sub-pairwise-sum t c = search needs
+  right-requires : lts.Need-pairwise-sum-requires-2 (claims t) (at t) pairwise-sum.Post
+  right-requires c κs = (simp (length-take, length-drop) (omega arith), tt)
 
--- src/lib.rt:25:30
-pairwise-sum-part-pairwise-sum-start : (t : ℕ) → pairwise-sum-lts.Need-part-pairwise-sum-start (
-  block-sum-reads.Asked,
-  block-sum-reads.Learnt,
-  pairwise-sum-below t,
-  pairwise-sum.Post,
-) (pairwise-sum-at t) pairwise-sum.Post
-pairwise-sum-part-pairwise-sum-start t c = search needs
+  returns : lts.Need-returns (claims t) (at t) pairwise-sum.Post
+  returns c = c .block-sum .ensures ∙ sym (pairwiseSum-short (c .before .before .before .args .values .now) (c .before .if1 .taken))
 
--- src/lib.rt:25:30
-pairwise-sum-part-pairwise-sum-end : (t : ℕ) → pairwise-sum-lts.Need-part-pairwise-sum-end (
-  block-sum-reads.Asked,
-  block-sum-reads.Learnt,
-  pairwise-sum-below t,
-  pairwise-sum.Post,
-) (pairwise-sum-at t) pairwise-sum.Post
-pairwise-sum-part-pairwise-sum-end t c = search needs
-
--- src/lib.rt:25:13
-pairwise-sum-pairwise-sum-requires-2 : (t : ℕ) → pairwise-sum-lts.Need-pairwise-sum-requires-2 (
-  block-sum-reads.Asked,
-  block-sum-reads.Learnt,
-  pairwise-sum-below t,
-  pairwise-sum.Post,
-) (pairwise-sum-at t) pairwise-sum.Post
-pairwise-sum-pairwise-sum-requires-2 t c κs =
-    let xs = c .before .before .before .before .before .args .values .now in (
-      subst (λ (n : ℕ). length (take (length xs - length xs / 2) (drop (length xs / 2) xs)) < n) (c .before .before .before .before .before .pre .0)
-          (subst (λ (n : ℕ). n < length xs) (sym (length-take (length xs - length xs / 2) (drop (length xs / 2) xs) ∙ ap (min (length xs - length xs / 2)) (length-drop (length xs / 2) xs) ∙ hi (length xs - length xs / 2))) (below-hi (length xs) (c .before .before .before .if1 .left))),
-      tt,
-    )
-
--- src/lib.rt:16:1
-pairwise-sum-returns : (t : ℕ) → pairwise-sum-lts.Need-returns (
-  block-sum-reads.Asked,
-  block-sum-reads.Learnt,
-  pairwise-sum-below t,
-  pairwise-sum.Post,
-) (pairwise-sum-at t) pairwise-sum.Post
-pairwise-sum-returns t c = c .block-sum .ensures ∙ sym (pairwiseSum-short (c .before .before .before .args .values .now) (c .before .if1 .taken))
-
--- src/lib.rt:16:1
-pairwise-sum-returns-2 : (t : ℕ) → pairwise-sum-lts.Need-returns-2 (
-  block-sum-reads.Asked,
-  block-sum-reads.Learnt,
-  pairwise-sum-below t,
-  pairwise-sum.Post,
-) (pairwise-sum-at t) pairwise-sum.Post
-pairwise-sum-returns-2 t c =
-    let xs = c .before .before .before .before .before .before .args .values .now in
-    (λ i. add binary64 (c .before .before .pairwise-sum .ensures i) ((c .pairwise-sum2 .ensures ∙ ap pairwiseSum (whole-rest xs)) i)) ∙ sym (pairwiseSum-split xs (c .before .before .before .before .if1 .left))
+  returns-2 : lts.Need-returns-2 (claims t) (at t) pairwise-sum.Post
+  returns-2 c =
+      let xs = c .before .before .before .before .before .before .args .values .now in
+      (λ i. add binary64 (c .before .before .pairwise-sum .ensures i) ((c .pairwise-sum2 .ensures ∙ ap pairwiseSum (right-whole xs)) i))
+      ∙ sym (pairwiseSum-split xs (c .before .before .before .before .if1 .left))
 
 pub +pairwise-sum-spec : {M : Type 1} → statement M
-+pairwise-sum-spec = close μ-pairwise-sum λ t. pairwise-sum-lts.spec (
-  block-sum-reads.Asked,
-  block-sum-reads.Learnt,
-  pairwise-sum-below t,
-  pairwise-sum.Post,
-)
-    (pairwise-sum-at t)
-    pairwise-sum.Post
-    (pairwise-sum-block-sum-requires t)
-    (pairwise-sum-slice-aggregate-pairwise-sum t)
-    (pairwise-sum-pairwise-sum-requires t)
-    (pairwise-sum-mul-pairwise-sum t)
-    (pairwise-sum-sub-pairwise-sum t)
-    (pairwise-sum-part-pairwise-sum-start t)
-    (pairwise-sum-part-pairwise-sum-end t)
-    (pairwise-sum-pairwise-sum-requires-2 t)
-    (pairwise-sum-returns t)
-    (pairwise-sum-returns-2 t)
++pairwise-sum-spec =
+    close μ
+    (λ t. lts.spec (claims t) (at t) pairwise-sum.Post (block-sum-requires t) (left-counted t) (left-requires t) (right-start-fits t) (right-length t) (right-start t) (right-end t) (right-requires t) (returns t) (returns-2 t))

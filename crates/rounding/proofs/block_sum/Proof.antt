@@ -3,7 +3,7 @@ use mathlib.Core.Path.{_≡_, refl, sym, _∙_}
 use Prim.Native.Nat.{_≤_, _-_, zero-le}
 use lib.ListN.{length, drop}
 use Rattle.rounding.specs.Sums.{sumFrom, blockSum}
-use Rattle.rounding.proofs.SumLaws.{sum-next, sum-end}
+use Rattle.rounding.proofs.SumLaws.{sumFrom-next, sumFrom-end}
 use Rattle.rounding.proofs.block_sum.Statement.{statement}
 use Rattle.rounding.proofs.block_sum.Tie as tie
 
@@ -32,12 +32,12 @@ loop-again : tie.Need-loop-again Inv-loop μ-loop
 loop-again c =
     let l = c .before .before .loop in
     let xs = c .before .before .before .args .values .now in
-    (search needs, sum-next (l .sum) xs (l .i) (c .before .loop-test .taken) ∙ l .inv .1)
+    (search needs, sumFrom-next (l .sum) xs (l .i) (c .before .loop-test .taken) ∙ l .inv .1)
 
 returns : tie.Need-returns Inv-loop μ-loop
 returns c =
     let l = c .before .loop in
-    sym (sum-end (l .sum) (c .before .before .args .values .now) (l .i) (c .loop-test .left)) ∙ l .inv .1
+    sym (sumFrom-end (l .sum) (c .before .before .args .values .now) (l .i) (c .loop-test .left)) ∙ l .inv .1
 
 pub block-sum-spec : {M : Type 1} → statement M
 block-sum-spec = tie.close (tie.spec Inv-loop μ-loop loop-holds mul-sum shared-slice-read-sum add-i loop-less loop-again returns)

@@ -31,18 +31,18 @@ single : (n d : ℕ) → n < 2 ^ 52 * d → n < 2 ^ 64 * d
 single n d h = omega arith
 
 exact : (c : tie.Start) → HasValue (twice c) false (2 * num (x c)) (den (x c))
-exact c = double (x c) (held c) (inside c .0) (single (num (x c)) (den (x c)) (inside c .2))
+exact c = double (x c) (held c) (inside c .is-positive) (single (num (x c)) (den (x c)) (inside c .under))
 
 some : (n d : ℕ) → 0 < d → d ≤ 2 * n → 0 < 2 * n
 some n d a b = omega arith
 
 above-zero : (c : tie.Start) → 0 < 2 * num (x c)
-above-zero c = some (num (x c)) (den (x c)) (den-pos (x c)) (inside c .1)
+above-zero c = some (num (x c)) (den (x c)) (den-pos (x c)) (inside c .from-half)
 
 truncating-f64-to-u64-requires : tie.Need-truncating-f64-to-u64-requires
 truncating-f64-to-u64-requires c κs = (
   above-minus-one (twice c) (positive-of-value (twice c) (2 * num (x c)) (den (x c)) (exact c) (above-zero c)),
-  value-lt 64 (twice c) (2 * num (x c)) (den (x c)) (exact c) (above-zero c) (small (num (x c)) (den (x c)) (inside c .2)),
+  value-lt 64 (twice c) (2 * num (x c)) (den (x c)) (exact c) (above-zero c) (small (num (x c)) (den (x c)) (inside c .under)),
 )
 
 add-result : tie.Need-add-result
@@ -51,7 +51,7 @@ add-result c = search needs
 returns : tie.Need-returns
 returns c =
     let s = c .before in
-    ap (λ (h : ℕ). h / 2 + h % 2) (c .truncating-f64-to-u64 .ensures ∙ whole-of 64 (twice s) (2 * num (x s)) (den (x s)) (exact s) (above-zero s) (den-pos (x s)) (small (num (x s)) (den (x s)) (inside s .2)))
+    ap (λ (h : ℕ). h / 2 + h % 2) (c .truncating-f64-to-u64 .ensures ∙ whole-of 64 (twice s) (2 * num (x s)) (den (x s)) (exact s) (above-zero s) (den-pos (x s)) (small (num (x s)) (den (x s)) (inside s .under)))
     ∙ nearestWhole-by-twice (num (x s)) (den (x s)) (den-pos (x s))
 
 pub nearest-whole-spec : {M : Type 1} → statement M

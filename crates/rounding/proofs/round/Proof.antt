@@ -4,8 +4,9 @@ use lib.Dec.{T}
 use lib.IntN.{pos}
 use lib.Ieee.{Float, binary64, fits, neg, ofBits, ofInt, inFloat}
 use lib.Ieee.Fits.{neg-fits}
-use Rattle.rounding.proofs.Fractions.{Within, within, yes, no}
-use Rattle.rounding.proofs.HalfAway.{away-is, fits-whole, large, small, neg-away}
+use Rattle.rounding.proofs.Tests.{yes, no}
+use Rattle.rounding.proofs.Fractions.{Within, within}
+use Rattle.rounding.proofs.HalfAway.{roundHalfAway-of-positive, whole-fits, roundHalfAway-large, roundHalfAway-small, roundHalfAway-negated}
 use Rattle.rounding.proofs.Signs.{neg-neg}
 use Rattle.rounding.proofs.round.Statement.{statement}
 use Rattle.rounding.proofs.round.Tie as tie
@@ -29,36 +30,36 @@ unfolding ofBits
 nearest-whole-requires c κs = (yes (c .before .if1 .taken), yes (c .if2 .taken))
 
 int-to-float-result : tie.Need-int-to-float-result
-int-to-float-result c = subst (λ (n : ℕ). T (inFloat binary64 (pos n))) (sym (c .before .nearest-whole .ensures)) (fits-whole (x (c .before .before .before .before)) (right (c .before .before)))
+int-to-float-result c = subst (λ (n : ℕ). T (inFloat binary64 (pos n))) (sym (c .before .nearest-whole .ensures)) (whole-fits (x (c .before .before .before .before)) (right (c .before .before)))
 
 nearest-whole-requires-2 : tie.Need-nearest-whole-requires-2
 unfolding ofBits
 nearest-whole-requires-2 c κs = (yes (c .before .if3 .taken), yes (c .if4 .taken))
 
 int-to-float-result-2 : tie.Need-int-to-float-result-2
-int-to-float-result-2 c = subst (λ (n : ℕ). T (inFloat binary64 (pos n))) (sym (c .before .nearest-whole2 .ensures)) (fits-whole (neg (x (c .before .before .before .before .before))) (left (c .before .before)))
+int-to-float-result-2 c = subst (λ (n : ℕ). T (inFloat binary64 (pos n))) (sym (c .before .nearest-whole2 .ensures)) (whole-fits (neg (x (c .before .before .before .before .before))) (left (c .before .before)))
 
 returns : tie.Need-returns
-returns c = ap (λ (n : ℕ). ofInt binary64 (pos n)) (c .before .nearest-whole .ensures) ∙ sym (away-is (x (c .before .before .before .before)) (right (c .before .before) .0))
+returns c = ap (λ (n : ℕ). ofInt binary64 (pos n)) (c .before .nearest-whole .ensures) ∙ sym (roundHalfAway-of-positive (x (c .before .before .before .before)) (right (c .before .before) .is-positive))
 
 returns-2 : tie.Need-returns-2
 unfolding ofBits
-returns-2 c = sym (large (x (c .before .before)) (held (c .before .before)) (yes (c .before .if1 .taken)) (no (c .if2 .left)))
+returns-2 c = sym (roundHalfAway-large (x (c .before .before)) (held (c .before .before)) (yes (c .before .if1 .taken)) (no (c .if2 .left)))
 
 returns-3 : tie.Need-returns-3
 returns-3 c =
     let X = x (c .before .before .before .before .before) in
-    ap (λ (n : ℕ). neg (ofInt binary64 (pos n))) (c .before .nearest-whole2 .ensures) ∙ ap neg (sym (away-is (neg X) (left (c .before .before) .0))) ∙ neg-away X
+    ap (λ (n : ℕ). neg (ofInt binary64 (pos n))) (c .before .nearest-whole2 .ensures) ∙ ap neg (sym (roundHalfAway-of-positive (neg X) (left (c .before .before) .is-positive))) ∙ roundHalfAway-negated X
 
 returns-4 : tie.Need-returns-4
 unfolding ofBits
 returns-4 c =
     let X = x (c .before .before .before) in
-    sym (sym (neg-away X) ∙ ap neg (large (neg X) (neg-fits binary64 X (held (c .before .before .before))) (yes (c .before .if3 .taken)) (no (c .if4 .left))) ∙ neg-neg X)
+    sym (sym (roundHalfAway-negated X) ∙ ap neg (roundHalfAway-large (neg X) (neg-fits binary64 X (held (c .before .before .before))) (yes (c .before .if3 .taken)) (no (c .if4 .left))) ∙ neg-neg X)
 
 returns-5 : tie.Need-returns-5
 unfolding ofBits
-returns-5 c = small (x (c .before .before)) (no (c .before .if1 .left)) (no (c .if3 .left))
+returns-5 c = roundHalfAway-small (x (c .before .before)) (no (c .before .if1 .left)) (no (c .if3 .left))
 
 pub round-spec : {M : Type 1} → statement M
 round-spec =

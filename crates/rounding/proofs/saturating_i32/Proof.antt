@@ -6,7 +6,7 @@ use lib.Ieee.{ofBits, neg, toSigned}
 use mir.Syntax.{w32, w64}
 use mir.Val.{SFits, toZ, ofZ}
 use mir.ValLaws.{toZ-ofZ}
-use Rattle.rounding.proofs.Fractions.{yes, no}
+use Rattle.rounding.proofs.Tests.{yes, no}
 use Rattle.rounding.proofs.Casts.{signed-fits, signed-narrowed, signed-top, signed-bottom, signed-nan}
 use Rattle.rounding.proofs.saturating_i32.Statement.{statement}
 use Rattle.rounding.proofs.saturating_i32.Tie as tie

@@ -1,6 +1,6 @@
 use borrow.Author.Needs.{needs}
 use lib.Ieee.{ofBits, neg}
-use Rattle.rounding.proofs.Fractions.{yes, no}
+use Rattle.rounding.proofs.Tests.{yes, no}
 use Rattle.rounding.proofs.Casts.{signed-top, signed-bottom, signed-nan}
 use Rattle.rounding.proofs.saturating_i64.Statement.{statement}
 use Rattle.rounding.proofs.saturating_i64.Tie as tie

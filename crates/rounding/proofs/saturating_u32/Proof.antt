@@ -5,7 +5,7 @@ use lib.Dec.{lit≤}
 use lib.Ieee.{ofBits, neg, toUnsigned}
 use mir.Syntax.{w32}
 use mir.Val.{Fits}
-use Rattle.rounding.proofs.Fractions.{yes, no}
+use Rattle.rounding.proofs.Tests.{yes, no}
 use Rattle.rounding.proofs.Casts.{unsigned-fits, unsigned-narrowed, unsigned-top, unsigned-bottom}
 use Rattle.rounding.proofs.saturating_u32.Statement.{statement}
 use Rattle.rounding.proofs.saturating_u32.Tie as tie

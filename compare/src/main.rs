@@ -1,0 +1,97 @@
+//! Compares this project's functions with the original Rust's, times both, and writes the list that the gate replays.
+//!
+//! `compare run [PART..]` compares, `compare bench [PART..]` times, `compare list` writes the list to standard output,
+//! `compare definitions N` the Rust's answers for N pages as equations over this project's definitions.
+//! No PART means all. The parts are in `parts/`; `parts/mod.rs` says how to add one. The bash scripts `run`, `bench` and
+//! `list` build all that is needed and call this.
+
+mod bench;
+mod definitions;
+mod list;
+mod ours;
+mod parts;
+mod random;
+mod tally;
+
+use std::process::ExitCode;
+
+use parts::{Part, PARTS};
+
+fn main() -> ExitCode {
+    let words: Vec<String> = std::env::args().skip(1).collect();
+    let Some((command, names)) = words.split_first() else {
+        return usage();
+    };
+    if let ("definitions", [pages]) = (command.as_str(), names) {
+        return pages.parse().map_or_else(
+            |_| usage(),
+            |pages| {
+                print!("{}", definitions::module(pages));
+                ExitCode::SUCCESS
+            },
+        );
+    }
+    let Some(chosen) = chosen(names) else {
+        return usage();
+    };
+    match command.as_str() {
+        "run" => run(&chosen, names.is_empty()),
+        "bench" => {
+            for part in chosen {
+                (part.bench)(&mut bench::Bench::new());
+            }
+            ExitCode::SUCCESS
+        }
+        "list" => {
+            print!("{}", list::whole());
+            ExitCode::SUCCESS
+        }
+        _ => usage(),
+    }
+}
+
+/// The parts of these names, all where there is none; nothing where a name is no part's.
+fn chosen(names: &[String]) -> Option<Vec<&'static Part>> {
+    if names.is_empty() {
+        return Some(PARTS.iter().collect());
+    }
+    names
+        .iter()
+        .map(|name| PARTS.iter().find(|part| part.name == name))
+        .collect()
+}
+
+/// Runs the parts. The last line is the sum of theirs. A run of all also holds the committed list to the Rust's answers
+/// of today, so that the gate never replays an old one.
+fn run(chosen: &[&Part], all: bool) -> ExitCode {
+    println!("seed {:016X}", random::SEED);
+    let (mut cases, mut differences) = (0, 0);
+    for part in chosen {
+        let mut tally = tally::Tally::new(part.name);
+        (part.compare)(&mut tally);
+        tally.report();
+        cases += tally.cases;
+        differences += tally.differences;
+    }
+    if all {
+        let mut tally = tally::Tally::new("list");
+        list::compare(&mut tally);
+        tally.report();
+        differences += tally.differences;
+    }
+    println!("compared {cases} cases, {differences} differences");
+    if differences == 0 {
+        ExitCode::SUCCESS
+    } else {
+        ExitCode::FAILURE
+    }
+}
+
+fn usage() -> ExitCode {
+    let names: Vec<&str> = PARTS.iter().map(|part| part.name).collect();
+    eprintln!(
+        "usage: compare run|bench [PART..], compare list or compare definitions N; parts: {}",
+        names.join(" ")
+    );
+    ExitCode::from(2)
+}

@@ -1,0 +1,97 @@
+//! This project's functions: the C exports of `crates/boundary`, in safe Rust. A slice crosses as a pointer and a length, a
+//! bool as one byte, which is held to be 0 or 1.
+
+use original::pixel::layout::LayoutParams;
+
+mod c {
+    extern "C" {
+        pub fn novlizeb_round(x: f64) -> f64;
+        pub fn novlizeb_round_to_u32(x: f64) -> u32;
+        pub fn novlizeb_round_to_usize(x: f64) -> usize;
+        pub fn novlizeb_round_to_i32(x: f64) -> i32;
+        pub fn novlizeb_round_to_i64(x: f64) -> i64;
+        pub fn novlizeb_round_output(x: f64) -> f64;
+        pub fn novlizeb_pairwise_sum(values: *const f64, length: usize) -> f64;
+        pub fn novlizeb_validate(
+            glyph_min_area: u32,
+            glyph_max_extent_frac: f64,
+            xheight_min_area: u32,
+            xheight_fallback_px: f64,
+            rule_min_len_xh: f64,
+            rule_max_thick_xh: f64,
+            rule_run_xh: f64,
+            graphic_min_xh: f64,
+            smear_xh: f64,
+            line_min_glyphs: u32,
+            line_min_height_xh: f64,
+            line_max_height_xh: f64,
+            block_min_overlap: f64,
+            block_gap_margin_lines: f64,
+            block_max_gap_lines: f64,
+            column_gap_xh: f64,
+            column_cover_frac: f64,
+            shear_min_deg: f64,
+        ) -> u8;
+    }
+}
+
+// The exports are total: whatever numbers they are handed, they return. So a call is safe wherever the pointers are.
+
+pub fn round(x: f64) -> f64 {
+    unsafe { c::novlizeb_round(x) }
+}
+
+pub fn round_to_u32(x: f64) -> u32 {
+    unsafe { c::novlizeb_round_to_u32(x) }
+}
+
+pub fn round_to_usize(x: f64) -> usize {
+    unsafe { c::novlizeb_round_to_usize(x) }
+}
+
+pub fn round_to_i32(x: f64) -> i32 {
+    unsafe { c::novlizeb_round_to_i32(x) }
+}
+
+pub fn round_to_i64(x: f64) -> i64 {
+    unsafe { c::novlizeb_round_to_i64(x) }
+}
+
+pub fn round_output(x: f64) -> f64 {
+    unsafe { c::novlizeb_round_output(x) }
+}
+
+pub fn pairwise_sum(values: &[f64]) -> f64 {
+    unsafe { c::novlizeb_pairwise_sum(values.as_ptr(), values.len()) }
+}
+
+pub fn validate(p: &LayoutParams) -> bool {
+    flag(unsafe {
+        c::novlizeb_validate(
+            p.glyph_min_area,
+            p.glyph_max_extent_frac,
+            p.xheight_min_area,
+            p.xheight_fallback_px,
+            p.rule_min_len_xh,
+            p.rule_max_thick_xh,
+            p.rule_run_xh,
+            p.graphic_min_xh,
+            p.smear_xh,
+            p.line_min_glyphs,
+            p.line_min_height_xh,
+            p.line_max_height_xh,
+            p.block_min_overlap,
+            p.block_gap_margin_lines,
+            p.block_max_gap_lines,
+            p.column_gap_xh,
+            p.column_cover_frac,
+            p.shear_min_deg,
+        )
+    })
+}
+
+/// A bool of C.
+fn flag(byte: u8) -> bool {
+    assert!(byte < 2, "a bool of {byte}");
+    byte == 1
+}

@@ -1,0 +1,113 @@
+// What a program in C or Rust may call, under plain C names. Each function hands its arguments to
+// the crate that does the work, and promises what that crate promises. No function asks anything of
+// its caller beyond the types: a slice comes as a pointer to its first element and then a length,
+// the pointer valid for that many elements (and never null, not even for the length 0); a bool is
+// one byte, 0 or 1.
+ghost use mathlib.Core.Path.{_≡_};
+ghost use Rattle.rounding.specs.Rounding.{roundHalfAway, roundToUnsigned, roundToSigned, roundOutput};
+ghost use Rattle.rounding.specs.Sums.{pairwiseSum};
+ghost use Rattle.params.specs.Valid.{valid};
+ghost use Rattle.boundary.specs.Sheet.{sheetOf};
+use params::LayoutParams;
+
+// x at the nearest whole number, halves away from zero.
+#[no_mangle]
+pub extern "C" fn novlizeb_round(x: f64) -> f64
+    ensures { λ r. ⌜ r ≡ roundHalfAway x ⌝ }
+{
+    rounding::round(x)
+}
+
+// x rounded the same way, as a u32: the nearer end of the type's range beyond it, 0 for a NaN.
+#[no_mangle]
+pub extern "C" fn novlizeb_round_to_u32(x: f64) -> u32
+    ensures { λ r. ⌜ r ≡ roundToUnsigned 32 x ⌝ }
+{
+    rounding::round_to_u32(x)
+}
+
+// x rounded the same way, as a usize: the nearer end of the type's range beyond it, 0 for a NaN.
+#[no_mangle]
+pub extern "C" fn novlizeb_round_to_usize(x: f64) -> usize
+    ensures { λ r. ⌜ r ≡ roundToUnsigned 64 x ⌝ }
+{
+    rounding::round_to_usize(x)
+}
+
+// x rounded the same way, as an i32: the nearer end of the type's range beyond it, 0 for a NaN.
+#[no_mangle]
+pub extern "C" fn novlizeb_round_to_i32(x: f64) -> i32
+    ensures { λ r. ⌜ r ≡ roundToSigned 31 x ⌝ }
+{
+    rounding::round_to_i32(x)
+}
+
+// x rounded the same way, as an i64: the nearer end of the type's range beyond it, 0 for a NaN.
+#[no_mangle]
+pub extern "C" fn novlizeb_round_to_i64(x: f64) -> i64
+    ensures { λ r. ⌜ r ≡ roundToSigned 63 x ⌝ }
+{
+    rounding::round_to_i64(x)
+}
+
+// x at six decimals, either zero as 0.0.
+#[no_mangle]
+pub extern "C" fn novlizeb_round_output(x: f64) -> f64
+    ensures { λ r. ⌜ r ≡ roundOutput x ⌝ }
+{
+    rounding::round_output(x)
+}
+
+// The sum of the values, by halves.
+#[no_mangle]
+pub extern "C" fn novlizeb_pairwise_sum(values: &[f64]) -> f64
+    ensures { λ r. ⌜ r ≡ pairwiseSum (now (values .entry)) ⌝ }
+{
+    rounding::pairwise_sum(values)
+}
+
+// Whether a sheet of these eighteen numbers is accepted.
+#[no_mangle]
+pub extern "C" fn novlizeb_validate(
+    glyph_min_area: u32,
+    glyph_max_extent_frac: f64,
+    xheight_min_area: u32,
+    xheight_fallback_px: f64,
+    rule_min_len_xh: f64,
+    rule_max_thick_xh: f64,
+    rule_run_xh: f64,
+    graphic_min_xh: f64,
+    smear_xh: f64,
+    line_min_glyphs: u32,
+    line_min_height_xh: f64,
+    line_max_height_xh: f64,
+    block_min_overlap: f64,
+    block_gap_margin_lines: f64,
+    block_max_gap_lines: f64,
+    column_gap_xh: f64,
+    column_cover_frac: f64,
+    shear_min_deg: f64,
+) -> bool
+    ensures { λ r. ⌜ r ≡ valid (sheetOf «glyph_min_area» «glyph_max_extent_frac» «xheight_min_area» «xheight_fallback_px» «rule_min_len_xh» «rule_max_thick_xh» «rule_run_xh» «graphic_min_xh» «smear_xh» «line_min_glyphs» «line_min_height_xh» «line_max_height_xh» «block_min_overlap» «block_gap_margin_lines» «block_max_gap_lines» «column_gap_xh» «column_cover_frac» «shear_min_deg») ⌝ }
+{
+    LayoutParams {
+        glyph_min_area,
+        glyph_max_extent_frac,
+        xheight_min_area,
+        xheight_fallback_px,
+        rule_min_len_xh,
+        rule_max_thick_xh,
+        rule_run_xh,
+        graphic_min_xh,
+        smear_xh,
+        line_min_glyphs,
+        line_min_height_xh,
+        line_max_height_xh,
+        block_min_overlap,
+        block_gap_margin_lines,
+        block_max_gap_lines,
+        column_gap_xh,
+        column_cover_frac,
+        shear_min_deg,
+    }.validate()
+}
