@@ -80,6 +80,23 @@ unfoldable pub summary : Frame → Float → Layout → Summary
 summary f skew l =
     summarized (unitValue (l .unit)) skew (f .w) (f .h) (totalsOf l) (median (pitchesOf l)) (median (map (λ (t : TextLine). t .glyph-height) (l .lines)))
 
+-- its numbers in the order in which the Rust puts them
+abbrev pub summaryNumbers : Summary → List Float
+summaryNumbers s =
+    s .«xheight_px»
+    ∷ s .«skew_deg_applied»
+    ∷ s .glyphs
+    ∷ s .lines
+    ∷ s .blocks
+    ∷ s .columns
+    ∷ s .rules
+    ∷ s .graphics
+    ∷ s .«glyph_ink_fraction»
+    ∷ s .«text_share_of_ink»
+    ∷ s .«median_line_pitch_xh»
+    ∷ s .«median_glyph_height_xh»
+    ∷ []
+
 -- whether a frame point lies in a box
 abbrev pub inBox : Rect → ℕ → ℕ → Bool
 inBox r x y = leb (r .x0) x && leb x (r .x1) && leb (r .y0) y && leb y (r .y1)
