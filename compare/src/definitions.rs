@@ -33,7 +33,7 @@ use lib.Ieee.{Float, binary64, ofBits, toBits}
 use Rattle.params.specs.declared.LayoutParams.{LayoutParams}
 use Rattle.labelling.specs.declared.rect.Rect.{Rect}
 use Rattle.grouping.specs.Layouts.{Page, page}
-use Rattle.grouping.specs.Readings.{summary}
+use Rattle.grouping.specs.Readings.{summary, summaryNumbers}
 use Rattle.grouping.specs.Figures.{corners, headFigures, lineFigures, blockFigures, glyphFigures, columnFigures}
 use Rattle.grouping.proofs.Computed.{computed}
 
@@ -51,7 +51,7 @@ rows p =
     ++ ((l .ink-pixels ∷ getD (l .counts) 0 0 ∷ getD (l .counts) 3 0 ∷ [])
     ∷ p .levelled .frame .shear
     ∷ p .levelled .frame .shear-x
-    ∷ map (toBits binary64) (summary (p .levelled .frame) (p .levelled .skew) l)
+    ∷ map (toBits binary64) (summaryNumbers (summary (p .levelled .frame) (p .levelled .skew) l))
     ∷ map (λ k. cond (leb 2 k) 1 0) (l .kinds)
     ∷ [])
 ";

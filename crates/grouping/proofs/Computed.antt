@@ -15,13 +15,13 @@ use Rattle.sorting.specs.Rulings.{runMin, thickMax, widened, inThinRuling, cutH
 use Rattle.sorting.specs.Units.{median, underExtents, measurable, unitFrom, unitOf}
 use Rattle.sorting.specs.Kinds.{kindAt}
 use Rattle.sorting.specs.Sorted.{sorted, boxesOf, rulesOf, graphicsOf, kindCounts}
-use Rattle.grouping.specs.Smoothing.{smoothingGap, glyphAt, joined, smoothed}
+use Rattle.grouping.specs.Smoothing.{smoothingGap, glyphAt, joined, smoothed, closedFrom, closed}
 use Rattle.grouping.specs.Lines.{firstDot, labelledGlyphs, smoothedLine, isLine, keysAtMost, keptLines, lineNumber}
-use Rattle.grouping.specs.Blocks.{lineHeight, hardCap, candidates, leastOf, nearestGaps, maxGap, together, blockFirsts, opensBlock, blockNumber, unionAll, blockOf, blocksOf}
+use Rattle.grouping.specs.Blocks.{lineHeight, hardCap, candidates, leastOf, leastWith, nearestGaps, maxGap, together, blockFirsts, opensBlock, blockNumber, unionAll, blockOf, blocksOf}
 use Rattle.grouping.specs.Columns.{cover, covered, columnsFrom, columnRuns, columnsOf}
 use Rattle.grouping.specs.Layouts.{textLine, glyphBox, layout, page, layoutRefusal}
 use Rattle.grouping.specs.Readings.{differences, pitches, twentyLineMeasure, summary, listed, columnsAndRows, dotList}
 
 unfoldable pub computed : Unit {0}
-unfolding round mul neg add div le lt eq ofInt ofBits toBits toUnsigned toSigned table upto keep countIf occurs total greatest indexFrom insertBy sortBy refuseIf roundHalfAway renamed join joinIf joinOne joinAll firsts isInk touches isFirst labelAt componentTo labelling magnitude applied leastEntry shearOf frame rowOf columnOf toPage rectToPage levelAt levelled Planes.levelling inkAt maskOf behind ahead runThrough extent rowExtents columnExtents runMin thickMax widened inThinRuling cutHorizontal cutVertical afterCut median underExtents measurable unitFrom unitOf kindAt sorted boxesOf rulesOf graphicsOf kindCounts smoothingGap glyphAt joined smoothed firstDot labelledGlyphs smoothedLine isLine keysAtMost keptLines lineNumber lineHeight hardCap candidates leastOf nearestGaps maxGap together blockFirsts opensBlock blockNumber unionAll blockOf blocksOf cover covered columnsFrom columnRuns columnsOf textLine glyphBox layout page layoutRefusal differences pitches twentyLineMeasure summary listed columnsAndRows dotList
+unfolding round mul neg add div le lt eq ofInt ofBits toBits toUnsigned toSigned table upto keep countIf occurs total greatest indexFrom insertBy sortBy refuseIf roundHalfAway renamed join joinIf joinOne joinAll firsts isInk touches isFirst labelAt componentTo labelling magnitude applied leastEntry shearOf frame rowOf columnOf toPage rectToPage levelAt levelled Planes.levelling inkAt maskOf behind ahead runThrough extent rowExtents columnExtents runMin thickMax widened inThinRuling cutHorizontal cutVertical afterCut median underExtents measurable unitFrom unitOf kindAt sorted boxesOf rulesOf graphicsOf kindCounts smoothingGap glyphAt joined smoothed closedFrom closed firstDot labelledGlyphs smoothedLine isLine keysAtMost keptLines lineNumber lineHeight hardCap candidates leastOf nearestGaps maxGap together blockFirsts opensBlock blockNumber unionAll blockOf blocksOf cover covered columnsFrom columnRuns columnsOf textLine glyphBox layout page layoutRefusal differences pitches twentyLineMeasure summary listed columnsAndRows dotList
 computed = tt

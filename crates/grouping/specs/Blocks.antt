@@ -29,12 +29,13 @@ lineHeight ls = float (median (map height ls))
 unfoldable pub hardCap : LayoutParams → List Rect → ℕ
 hardCap p ls = dots (p .«block_max_gap_lines» · lineHeight ls)
 
--- a before b are candidates: gap at most the cap, at least one shared column and at least `block_min_overlap` × the narrower width
-unfoldable pub candidates : LayoutParams → ℕ → Rect → Rect → Bool
-candidates p cap a b =
-    leb (lineGap a b) cap
-    && ltb 0 (sharedColumns a b)
-    && le (p .«block_min_overlap» · float (min (width a) (width b))) (float (sharedColumns a b))
+-- two lines share at least one column and at least `overlap` × the narrower width
+abbrev pub overlapping : Float → Rect → Rect → Bool
+overlapping overlap a b = ltb 0 (sharedColumns a b) && le (overlap · float (min (width a) (width b))) (float (sharedColumns a b))
+
+-- a before b are candidates: gap at most the cap, and overlapping by `block_min_overlap`
+unfoldable pub candidates : Float → ℕ → Rect → Rect → Bool
+candidates overlap cap a b = leb (lineGap a b) cap && overlapping overlap a b
 
 -- the least of some numbers; none of none
 unfoldable pub leastOf : List ℕ → List ℕ
@@ -42,28 +43,37 @@ leastOf [] = []
 leastOf (g ∷ []) = g ∷ []
 leastOf (g ∷ (k ∷ l)) = map (min g) (leastOf (k ∷ l))
 
+-- the least of some numbers and d
+unfoldable pub leastWith : ℕ → List ℕ → ℕ
+leastWith d [] = d
+leastWith d (g ∷ l) = leastWith (min d g) l
+
+-- the gaps from line a to its candidates among the lines after it
+abbrev pub candidateGaps : Float → ℕ → Rect → List Rect → List ℕ
+candidateGaps overlap cap a ls = map (lineGap a) (keep (candidates overlap cap a) ls)
+
 -- each line with a candidate after it gives its least gap
-unfoldable pub nearestGaps : LayoutParams → ℕ → List Rect → List ℕ
-nearestGaps p cap [] = []
-nearestGaps p cap (a ∷ ls) = leastOf (map (lineGap a) (keep (candidates p cap a) ls)) ++ nearestGaps p cap ls
+unfoldable pub nearestGaps : Float → ℕ → List Rect → List ℕ
+nearestGaps overlap cap [] = []
+nearestGaps overlap cap (a ∷ ls) = leastOf (candidateGaps overlap cap a ls) ++ nearestGaps overlap cap ls
 
 -- the greatest gap within a block: round(median of these + `block_gap_margin_lines` × median line height)
 unfoldable pub maxGap : LayoutParams → List Rect → ℕ
-maxGap p ls = dots (add binary64 (float (median (nearestGaps p (hardCap p ls) ls))) (p .«block_gap_margin_lines» · lineHeight ls))
+maxGap p ls = dots (add binary64 (float (median (nearestGaps (p .«block_min_overlap») (hardCap p ls) ls))) (p .«block_gap_margin_lines» · lineHeight ls))
 
 abbrev pub noRect : Rect
 noRect = record { x0 = 0; y0 = 0; x1 = 0; y1 = 0 }
 
 -- lines i before j belong together: candidates with a gap at most that
-unfoldable pub together : LayoutParams → ℕ → ℕ → List Rect → ℕ → ℕ → Bool
-together p cap most ls i j =
+unfoldable pub together : Float → ℕ → ℕ → List Rect → ℕ → ℕ → Bool
+together overlap cap most ls i j =
     let a = getD ls i noRect in
     let b = getD ls j noRect in
-    candidates p cap a b && leb (lineGap a b) most
+    candidates overlap cap a b && leb (lineGap a b) most
 
 -- for each line the first line of its block
 unfoldable pub blockFirsts : LayoutParams → List Rect → List ℕ
-blockFirsts p ls = let cap = hardCap p ls in let most = maxGap p ls in firsts (together p cap most ls) (length ls)
+blockFirsts p ls = let cap = hardCap p ls in let most = maxGap p ls in firsts (together (p .«block_min_overlap») cap most ls) (length ls)
 
 -- whether line k is the first of its block
 unfoldable pub opensBlock : List ℕ → ℕ → Bool

@@ -1,23 +1,28 @@
 -- Columns of the page, from the boxes of the lines (01, part 8).
-use Prim.Native.Nat.{ℕ, _+_, _-_}
+use mathlib.Core.Path.{_≡_}
+use Prim.Native.Nat.{ℕ, suc, _+_, _-_, _*_, _≤_, _<_}
 use mathlib.Core.Bool.{Bool, cond, _&&_}
 use mathlib.Core.List.{List, [], _∷_}
 use lib.Ieee.{Float, lt}
-use lib.ListN.{length}
+use lib.ListN.{getD, length}
 use lib.Dec.{ltb, leb}
 use Rattle.memory.specs.Lists.{table, upto, keep, greatest}
 use Rattle.labelling.specs.declared.rect.Rect.{Rect}
 use Rattle.params.specs.declared.LayoutParams.{LayoutParams}
 use Rattle.sorting.specs.Lengths.{float, _·_, dots}
-use Rattle.grouping.specs.declared.Column.{Column}
+use Rattle.grouping.specs.declared.column.Column.{Column}
 
 -- how many lines lie over frame column x
 unfoldable pub cover : List Rect → ℕ → ℕ
 cover ls x = length (keep (λ (r : Rect). leb (r .x0) x && leb x (r .x1)) ls)
 
+-- a count of lines that is at least one and more than `frac` × the greatest count
+abbrev pub enoughCover : Float → ℕ → ℕ → Bool
+enoughCover frac busiest n = ltb 0 n && lt (frac · float busiest) (float n)
+
 -- under at least one line and under more than `column_cover_frac` × the greatest count
 unfoldable pub covered : LayoutParams → ℕ → List Rect → ℕ → Bool
-covered p busiest ls x = ltb 0 (cover ls x) && lt (p .«column_cover_frac» · float busiest) (float (cover ls x))
+covered p busiest ls x = enoughCover (p .«column_cover_frac») busiest (cover ls x)
 
 abbrev pub column : ℕ → ℕ → Column
 column a b = record { x0 = a; x1 = b }
@@ -40,3 +45,17 @@ unfoldable pub columnsOf : LayoutParams → Float → ℕ → List Rect → List
 columnsOf p unit w ls =
     let busiest = greatest (table (cover ls) w) in
     columnRuns (dots (p .«column_gap_xh» · unit)) (keep (covered p busiest ls) (upto w))
+
+-- the columns cs with the frame column x, right of them, more: `columnRuns` as a walk along the frame's columns
+unfoldable pub extended : ℕ → ℕ → List Column → List Column
+extended gap x [] = column x x ∷ []
+extended gap x (c ∷ []) = cond (ltb (x - (c .x1 + 1)) gap) (column (c .x0) x ∷ []) (c ∷ column x x ∷ [])
+extended gap x (c ∷ (d ∷ l)) = c ∷ extended gap x (d ∷ l)
+
+-- f is the count of lines over each frame column: at s the lines that start there (w words), then those that end there (w words)
+pub record CoverSteps (w : ℕ) (s : List ℕ) (f : ℕ → ℕ) : Type 0 where
+  pub room : 2 * w ≤ length s
+  pub first : 0 < w → getD s 0 0 ≡ f 0
+  pub next : (x : ℕ) → suc x < w → f (suc x) + getD s (w + x) 0 ≡ f x + getD s (suc x) 0
+  pub ended : (x : ℕ) → x < w → getD s (w + x) 0 ≤ f x
+  pub fits : (x : ℕ) → f x ≤ 4294967295

@@ -8,7 +8,7 @@ use Rattle.levelling.specs.Frames.{Frame}
 use Rattle.sorting.specs.Units.{unitValue}
 use Rattle.grouping.specs.Blocks.{Block}
 use Rattle.grouping.specs.Layouts.{Layout, TextLine, GlyphBox, Page}
-use Rattle.grouping.specs.declared.Column.{Column}
+use Rattle.grouping.specs.declared.column.Column.{Column}
 
 abbrev pub corners : Rect → List ℕ
 corners r = r .x0 ∷ r .y0 ∷ r .x1 ∷ r .y1 ∷ []

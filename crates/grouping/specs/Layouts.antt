@@ -19,7 +19,7 @@ use Rattle.grouping.specs.Smoothing.{smoothingGap, smoothed}
 use Rattle.grouping.specs.Lines.{LabelledGlyph, labelledGlyphs, SmoothedLine, keptLines, lineNumber}
 use Rattle.grouping.specs.Blocks.{Block, blockFirsts, blockNumber, blocksOf}
 use Rattle.grouping.specs.Columns.{columnsOf}
-use Rattle.grouping.specs.declared.Column.{Column}
+use Rattle.grouping.specs.declared.column.Column.{Column}
 
 -- a line: its box, the number, ink and median height of its glyphs, its block
 pub record TextLine : Type 0 where

@@ -2,7 +2,7 @@
 use Prim.Native.Nat.{ℕ, _+_, _-_, _*_, _/_, _%_}
 use mathlib.Core.Bool.{Bool, cond, _&&_}
 use mathlib.Core.List.{List, [], _∷_, _++_, map}
-use lib.Ieee.{Float, binary64, div}
+use lib.Ieee.{Float, binary64, div, ofBits}
 use lib.ListN.{getD, length}
 use lib.Dec.{eqb, leb}
 use Rattle.memory.specs.Lists.{upto, keep}
@@ -13,6 +13,8 @@ use Rattle.sorting.specs.Lengths.{float}
 use Rattle.sorting.specs.Units.{median, unitValue}
 use Rattle.grouping.specs.Blocks.{Block, noRect}
 use Rattle.grouping.specs.Layouts.{Layout, TextLine}
+use Rattle.grouping.specs.declared.summary.Summary.{Summary}
+use Rattle.grouping.specs.declared.summary.Totals.{Totals}
 
 -- from each number of the list to the next, below 0 as 0
 unfoldable pub differences : List ℕ → List ℕ
@@ -32,24 +34,67 @@ pitchesOf l = pitches (map (λ (t : TextLine). t .bbox) (l .lines)) (l .blocks)
 unfoldable pub twentyLineMeasure : Layout → ℕ
 twentyLineMeasure l = 10 * median (pitchesOf l)
 
--- the twelve numbers of `summarize`, in the order in which it puts them: xheight_px, skew_deg_applied, glyphs, lines, blocks, columns,
--- rules, graphics, glyph_ink_fraction, text_share_of_ink, median_line_pitch_xh, median_glyph_height_xh
-unfoldable pub summary : Frame → Float → Layout → List Float
+-- 2.0 (`two-is` of proofs/SummaryLaws.antt)
+abbrev pub two : Float
+two = ofBits binary64 0x4000_0000_0000_0000
+
+-- the glyph dots as a part of the ink; 0 on a page without any
+abbrev pub textShare : ℕ → ℕ → Float
+textShare glyph-ink ink = cond (eqb ink 0) positiveZero (div binary64 (float glyph-ink) (float ink))
+
+-- the twelve numbers of `summarize`, from the unit, the applied skew, the frame's sides, what was counted, the median pitch and the median
+-- glyph height of the lines
+abbrev pub summarized : Float → Float → ℕ → ℕ → Totals → ℕ → ℕ → Summary
+summarized xheight skew w h t pitch glyph-height =
+    record {
+      «xheight_px» = xheight;
+      «skew_deg_applied» = skew;
+      glyphs = float (t .glyphs);
+      lines = float (t .lines);
+      blocks = float (t .blocks);
+      columns = float (t .columns);
+      rules = float (t .rules);
+      graphics = float (t .graphics);
+      «glyph_ink_fraction» = div binary64 (float (t .«glyph_ink»)) (float (w * h));
+      «text_share_of_ink» = textShare (t .«glyph_ink») (t .ink);
+      «median_line_pitch_xh» = div binary64 (div binary64 (float pitch) two) xheight;
+      «median_glyph_height_xh» = div binary64 (float glyph-height) xheight;
+    }
+
+-- what is counted of a layout
+abbrev pub totalsOf : Layout → Totals
+totalsOf l =
+    record {
+      glyphs = length (l .glyphs);
+      lines = length (l .lines);
+      blocks = length (l .blocks);
+      columns = length (l .columns);
+      rules = length (l .rules);
+      graphics = length (l .graphics);
+      «glyph_ink» = getD (l .counts) 3 0;
+      ink = l .ink-pixels;
+    }
+
+-- `summarize`
+unfoldable pub summary : Frame → Float → Layout → Summary
 summary f skew l =
-    let xheight = unitValue (l .unit) in
-    let glyph-ink = float (getD (l .counts) 3 0) in
-    xheight
-    ∷ skew
-    ∷ float (length (l .glyphs))
-    ∷ float (length (l .lines))
-    ∷ float (length (l .blocks))
-    ∷ float (length (l .columns))
-    ∷ float (length (l .rules))
-    ∷ float (length (l .graphics))
-    ∷ div binary64 glyph-ink (float (f .w * f .h))
-    ∷ cond (eqb (l .ink-pixels) 0) positiveZero (div binary64 glyph-ink (float (l .ink-pixels)))
-    ∷ div binary64 (div binary64 (float (median (pitchesOf l))) (float 2)) xheight
-    ∷ div binary64 (float (median (map (λ (t : TextLine). t .glyph-height) (l .lines)))) xheight
+    summarized (unitValue (l .unit)) skew (f .w) (f .h) (totalsOf l) (median (pitchesOf l)) (median (map (λ (t : TextLine). t .glyph-height) (l .lines)))
+
+-- its numbers in the order in which the Rust puts them
+abbrev pub summaryNumbers : Summary → List Float
+summaryNumbers s =
+    s .«xheight_px»
+    ∷ s .«skew_deg_applied»
+    ∷ s .glyphs
+    ∷ s .lines
+    ∷ s .blocks
+    ∷ s .columns
+    ∷ s .rules
+    ∷ s .graphics
+    ∷ s .«glyph_ink_fraction»
+    ∷ s .«text_share_of_ink»
+    ∷ s .«median_line_pitch_xh»
+    ∷ s .«median_glyph_height_xh»
     ∷ []
 
 -- whether a frame point lies in a box

@@ -1,8 +1,24 @@
-// Grouping: text lines, blocks, columns and the figures that clubs print (layout.rs). The functions come with their proofs; what
-// they must do is in specs/.
+// Grouping: text lines, blocks, columns and the figures that clubs print (layout.rs). Lines, blocks and columns lie in lent words,
+// as many for each record; what the functions must do is in specs/.
+mod block;
+mod column;
+mod counts;
+mod dots;
+mod number;
+mod numbers;
+mod pitch;
+mod record;
+mod summary;
 
-// A column of the page: its first and its last frame column.
-pub struct Column {
-    pub x0: u32,
-    pub x1: u32,
-}
+pub use block::blocks;
+pub use column::Column;
+pub use column::columns;
+pub use dots::Sides;
+pub use dots::count_dots;
+pub use dots::write_dots;
+pub use pitch::median_pitch;
+pub use pitch::twenty_line_measure;
+pub use summary::Summary;
+pub use summary::Totals;
+pub use summary::median_glyph_height;
+pub use summary::summarize;

@@ -10,7 +10,7 @@ ghost use Rattle.labelling.specs.Linking.{RunList, Linkable, Joinable, R
 use crate::words::wide;
 
 // The root of run x; each second parent on the way is passed over from now on.
-fn find(parents: &mut [u32], x: usize) -> usize
+pub fn find(parents: &mut [u32], x: usize) -> usize
     requires { ⌜ (x < length (now parents)) × ((j : ℕ) → j ≤ x → getD (now parents) j 0 ≤ j) ⌝ }
     ensures { λ r. ⌜ Found (now (parents .entry)) (now (parents .exit)) x r ⌝ }
 {
@@ -26,7 +26,7 @@ fn find(parents: &mut [u32], x: usize) -> usize
 }
 
 // The classes of a root and of run k become one: the larger root gets the smaller for its parent, which is the answer.
-fn unite(parents: &mut [u32], root: usize, k: usize) -> usize
+pub fn unite(parents: &mut [u32], root: usize, k: usize) -> usize
     requires { ⌜ (k < length (now parents)) × (root < length (now parents)) × (k < 4294967296) × (root < 4294967296) × ((j : ℕ) → j ≤ k → getD (now parents) j 0 ≤ j) ⌝ }
     ensures { λ r. ⌜ United (now (parents .entry)) (now (parents .exit)) root k r ⌝ }
 {

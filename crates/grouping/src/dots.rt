@@ -1,0 +1,168 @@
+// The page dots of one kind inside a frame box, by page row and then page column.
+ghost use mathlib.Core.Path.{_≡_};
+ghost use mathlib.Core.Bool.{cond};
+ghost use mathlib.Core.List.{List, [], _∷_};
+ghost use Prim.Native.Nat.{ℕ, _+_, _*_, _≤_, _<_};
+ghost use lib.ListN.{length};
+ghost use lib.Seq.{sets};
+ghost use Rattle.memory.specs.Lists.{countIf, keep, upto};
+ghost use Rattle.memory.specs.Words.{over};
+ghost use Rattle.grouping.specs.Readings.{inBox, listed, columnsAndRows, dotList};
+ghost use Rattle.grouping.specs.Dots.{frameOf, listedAt, FrameWords};
+use crate::numbers::wide;
+use labelling::Rect;
+
+// The sides of a page and of its frame.
+pub struct Sides {
+    pub page_w: usize,
+    pub page_h: usize,
+    pub w: usize,
+    pub h: usize,
+}
+
+// How many dots of the page are of this kind and in the box.
+pub fn count_dots(
+    shear: &[u32],
+    shear_x: &[u32],
+    kinds: &[u8],
+    sides: Sides,
+    kind: u8,
+    r: Rect,
+) -> usize
+    requires { ⌜ FrameWords (frameOf (sides .«page_w») (sides .«page_h») (sides .w) (sides .h) (now shear) (now «shear_x»)) (now kinds) ⌝ }
+    ensures { λ n. ⌜ n ≡ countIf (listed (frameOf (sides .«page_w») (sides .«page_h») (sides .w) (sides .h) (now (shear .entry)) (now («shear_x» .entry))) (now (kinds .entry)) kind r) (sides .«page_w» * sides .«page_h») ⌝ }
+{
+    let rows = sides.page_h;
+    let mut n = 0;
+    let mut y = 0;
+    while y < rows {
+        n = count_row(shear, shear_x, kinds, sides, kind, r, y, n);
+        y += 1;
+    }
+    n
+}
+
+// The same with the dots of page row y, where n are before it.
+fn count_row(
+    shear: &[u32],
+    shear_x: &[u32],
+    kinds: &[u8],
+    sides: Sides,
+    kind: u8,
+    r: Rect,
+    y: usize,
+    n: usize,
+) -> usize
+    requires { ⌜ FrameWords (frameOf (sides .«page_w») (sides .«page_h») (sides .w) (sides .h) (now shear) (now «shear_x»)) (now kinds) × (y < sides .«page_h»)
+        × (n ≡ countIf (listed (frameOf (sides .«page_w») (sides .«page_h») (sides .w) (sides .h) (now shear) (now «shear_x»)) (now kinds) kind r) (y * sides .«page_w»)) ⌝ }
+    ensures { λ m. ⌜ m ≡ countIf (listed (frameOf (sides .«page_w») (sides .«page_h») (sides .w) (sides .h) (now (shear .entry)) (now («shear_x» .entry))) (now (kinds .entry)) kind r) ((y + 1) * sides .«page_w») ⌝ }
+{
+    let columns = sides.page_w;
+    let mut m = n;
+    let mut c = 0;
+    while c < columns {
+        m = m + one_if(is_listed(shear, shear_x, kinds, sides, kind, r, c, y));
+        c += 1;
+    }
+    m
+}
+
+// Writes these dots over the front of `out`, page column and then page row of each, and answers how many there are.
+pub fn write_dots(
+    shear: &[u32],
+    shear_x: &[u32],
+    kinds: &[u8],
+    sides: Sides,
+    kind: u8,
+    r: Rect,
+    out: &mut [u32],
+) -> usize
+    requires { ⌜ FrameWords (frameOf (sides .«page_w») (sides .«page_h») (sides .w) (sides .h) (now shear) (now «shear_x»)) (now kinds) × (2 * countIf (listed (frameOf (sides .«page_w») (sides .«page_h») (sides .w) (sides .h) (now shear) (now «shear_x»)) (now kinds) kind r) (sides .«page_w» * sides .«page_h») ≤ length (now out)) ⌝ }
+    ensures { λ n. ⌜ (n ≡ countIf (listed (frameOf (sides .«page_w») (sides .«page_h») (sides .w) (sides .h) (now (shear .entry)) (now («shear_x» .entry))) (now (kinds .entry)) kind r) (sides .«page_w» * sides .«page_h»))
+        × (now (out .exit) ≡ over (dotList (frameOf (sides .«page_w») (sides .«page_h») (sides .w) (sides .h) (now (shear .entry)) (now («shear_x» .entry))) (now (kinds .entry)) kind r) (now (out .entry))) ⌝ }
+{
+    let rows = sides.page_h;
+    let mut n = 0;
+    let mut y = 0;
+    while y < rows {
+        n = write_row(shear, shear_x, kinds, sides, kind, r, y, n, out);
+        y += 1;
+    }
+    n
+}
+
+// The same of page row y, where n are before it.
+fn write_row(
+    shear: &[u32],
+    shear_x: &[u32],
+    kinds: &[u8],
+    sides: Sides,
+    kind: u8,
+    r: Rect,
+    y: usize,
+    n: usize,
+    out: &mut [u32],
+) -> usize
+    requires { ⌜ FrameWords (frameOf (sides .«page_w») (sides .«page_h») (sides .w) (sides .h) (now shear) (now «shear_x»)) (now kinds) × (y < sides .«page_h») × (n ≡ countIf (listed (frameOf (sides .«page_w») (sides .«page_h») (sides .w) (sides .h) (now shear) (now «shear_x»)) (now kinds) kind r) (y * sides .«page_w»))
+        × (2 * countIf (listed (frameOf (sides .«page_w») (sides .«page_h») (sides .w) (sides .h) (now shear) (now «shear_x»)) (now kinds) kind r) (sides .«page_w» * sides .«page_h») ≤ length (now out)) ⌝ }
+    ensures { λ m. ⌜ (m ≡ countIf (listed (frameOf (sides .«page_w») (sides .«page_h») (sides .w) (sides .h) (now (shear .entry)) (now («shear_x» .entry))) (now (kinds .entry)) kind r) ((y + 1) * sides .«page_w»))
+        × ((s : List ℕ) → now (out .entry) ≡ over (columnsAndRows (sides .«page_w») (keep (listed (frameOf (sides .«page_w») (sides .«page_h») (sides .w) (sides .h) (now (shear .entry)) (now («shear_x» .entry))) (now (kinds .entry)) kind r) (upto (y * sides .«page_w»)))) s
+        → now (out .exit) ≡ over (columnsAndRows (sides .«page_w») (keep (listed (frameOf (sides .«page_w») (sides .«page_h») (sides .w) (sides .h) (now (shear .entry)) (now («shear_x» .entry))) (now (kinds .entry)) kind r) (upto ((y + 1) * sides .«page_w»)))) s) ⌝ }
+{
+    let columns = sides.page_w;
+    let mut m = n;
+    let mut c = 0;
+    while c < columns {
+        if is_listed(shear, shear_x, kinds, sides, kind, r, c, y) {
+            put_dot(out, m, c as u32, y as u32);
+            m += 1;
+        }
+        c += 1;
+    }
+    m
+}
+
+// Dot n of the list.
+fn put_dot(out: &mut [u32], n: usize, c: u32, y: u32)
+    requires { ⌜ 2 * n + 2 ≤ length (now out) ⌝ }
+    ensures { λ _. ⌜ now (out .exit) ≡ sets (now (out .entry)) (2 * n) (c ∷ y ∷ []) ⌝ }
+{
+    let at = 2 * n;
+    out[at] = c;
+    out[at + 1] = y;
+}
+
+// 1 where the test passed.
+fn one_if(t: bool) -> usize
+    ensures { λ n. ⌜ n ≡ cond t 1 0 ⌝ }
+{
+    if t { 1 } else { 0 }
+}
+
+// Whether the page dot in column c and row y is of this kind and in the box.
+fn is_listed(
+    shear: &[u32],
+    shear_x: &[u32],
+    kinds: &[u8],
+    sides: Sides,
+    kind: u8,
+    r: Rect,
+    c: usize,
+    y: usize,
+) -> bool
+    requires { ⌜ FrameWords (frameOf (sides .«page_w») (sides .«page_h») (sides .w) (sides .h) (now shear) (now «shear_x»)) (now kinds) × (c < sides .«page_w») × (y < sides .«page_h») ⌝ }
+    ensures { λ t. ⌜ t ≡ listedAt (frameOf (sides .«page_w») (sides .«page_h») (sides .w) (sides .h) (now (shear .entry)) (now («shear_x» .entry))) (now (kinds .entry)) kind r c y ⌝ }
+{
+    let w = sides.w;
+    let row = y + wide(shear[c]);
+    let column = c + wide(shear_x[row]);
+    let at = row * w + column;
+    (kinds[at] == kind) & in_box(r, column as u32, row as u32)
+}
+
+// Whether a frame point lies in a box.
+fn in_box(r: Rect, x: u32, y: u32) -> bool
+    ensures { λ t. ⌜ t ≡ inBox r x y ⌝ }
+{
+    (r.x0 <= x) & (x <= r.x1) & (r.y0 <= y) & (y <= r.y1)
+}

@@ -1,0 +1,78 @@
+// The records of the blocks: the box around the lines of each, and their count.
+ghost use mathlib.Core.Path.{_≡_};
+ghost use mathlib.Core.List.{List, _∷_, []};
+ghost use Prim.Native.Nat.{ℕ, _+_, _*_, _≤_, _<_};
+ghost use lib.ListN.{length, getD};
+ghost use lib.Seq.{sets};
+ghost use Rattle.memory.specs.Words.{over};
+ghost use Rattle.memory.specs.Records.{encoded};
+ghost use Rattle.labelling.specs.Classes.{firstOf};
+ghost use Rattle.grouping.specs.Blocks.{blockNumber, blocksOf};
+ghost use Rattle.grouping.specs.Numbering.{blockBox, blockFields, Grown};
+ghost use Rattle.grouping.specs.Words.{Lines, lineWords, blockWords, lineBox, lineBoxes, blockRecord};
+use crate::block::line_box;
+use crate::numbers::wide;
+use labelling::Rect;
+
+// The words of a block.
+const BLOCK_WORDS: usize = 5;
+
+// Writes the record of each block, from the numbers of the n lines' blocks; answers how many there are.
+pub fn write_blocks(lines: &[u32], n: usize, numbers: &[u32], out: &mut [u32]) -> usize
+    requires { ⌜ ((w h : ℕ) × Lines w h n (now lines)) × (n ≤ 4294967295) × (n ≤ length (now numbers)) × (n * blockWords ≤ length (now out))
+        × ((fs : List ℕ) × ((k : ℕ) → firstOf fs k ≤ k) × ((k : ℕ) → firstOf fs (firstOf fs k) ≡ firstOf fs k) × ((k : ℕ) → k < n → getD (now numbers) k 0 ≡ blockNumber fs k)) ⌝ }
+    ensures { λ r. ⌜ ((fs : List ℕ) → ((k : ℕ) → firstOf fs k ≤ k) → ((k : ℕ) → firstOf fs (firstOf fs k) ≡ firstOf fs k) → ((k : ℕ) → k < n → getD (now (numbers .entry)) k 0 ≡ blockNumber fs k)
+        → (r ≡ length (blocksOf (lineBoxes (now (lines .entry)) n) fs)) × (now (out .exit) ≡ over (encoded blockRecord (blocksOf (lineBoxes (now (lines .entry)) n) fs)) (now (out .entry)))) ⌝ }
+{
+    let mut count = 0;
+    let mut i = 0;
+    while i < n {
+        let b = wide(numbers[i]);
+        count = add_line(lines, i, b, count, out);
+        i += 1;
+    }
+    count
+}
+
+// Line i in block b, of `count` so far: it opens the block, or the block grows.
+fn add_line(lines: &[u32], i: usize, b: usize, count: usize, out: &mut [u32]) -> usize
+    requires { ⌜ (i * lineWords + lineWords ≤ length (now lines)) × (b ≤ count) × (count * blockWords + blockWords ≤ length (now out)) × (b < count → getD (now out) (b * blockWords + 4) 0 < 4294967295) ⌝ }
+    ensures { λ r. ⌜ Grown (lineBox (now (lines .entry)) i) b count (now (out .entry)) (now (out .exit)) r ⌝ }
+{
+    let line = line_box(lines, i);
+    if b == count {
+        put_block(out, b, line, 1);
+        return count + 1;
+    }
+    let grown = block_box(&out[..], b).union(line);
+    let n = out[b * BLOCK_WORDS + 4];
+    put_block(out, b, grown, n + 1);
+    count
+}
+
+// The box of block b.
+fn block_box(out: &[u32], b: usize) -> Rect
+    requires { ⌜ b * blockWords + blockWords ≤ length (now out) ⌝ }
+    ensures { λ r. ⌜ r ≡ blockBox (now (out .entry)) b ⌝ }
+{
+    let at = b * BLOCK_WORDS;
+    Rect {
+        x0: out[at],
+        y0: out[at + 1],
+        x1: out[at + 2],
+        y1: out[at + 3],
+    }
+}
+
+// The record of block b.
+fn put_block(out: &mut [u32], b: usize, r: Rect, n: u32)
+    requires { ⌜ b * blockWords + blockWords ≤ length (now out) ⌝ }
+    ensures { λ _. ⌜ now (out .exit) ≡ sets (now (out .entry)) (b * blockWords) (blockFields r n) ⌝ }
+{
+    let at = b * BLOCK_WORDS;
+    out[at] = r.x0;
+    out[at + 1] = r.y0;
+    out[at + 2] = r.x1;
+    out[at + 3] = r.y1;
+    out[at + 4] = n;
+}
