@@ -14,7 +14,7 @@ use Rattle.memory.specs.Words.{over}
 use Rattle.memory.specs.Records.{encoded}
 use Rattle.memory.proofs.TableLaws.{length-table, getD-table, table-ext}
 use Rattle.labelling.specs.declared.rect.Rect.{Rect}
-use Rattle.labelling.proofs.PartLaws.{tail-part, tail-put}
+use Rattle.memory.proofs.PartLaws.{tail-part, tail-put}
 use Rattle.params.specs.declared.LayoutParams.{LayoutParams}
 use Rattle.sorting.specs.Lengths.{_·_, dots}
 use Rattle.grouping.specs.Columns.{cover, covered, enoughCover, columnRuns, columnsOf, CoverSteps}
