@@ -1,12 +1,14 @@
 //! Compares this project's functions with the original Rust's, times both, and writes the list that the gate replays.
 //!
-//! `compare run [PART..]` compares, `compare bench [PART..]` times, `compare list` writes the list to standard output.
-//! No PART means all. The parts are in `parts/`; `parts/mod.rs` says how to add one. The bash scripts `run`, `bench` and
+//! `compare run [PART..]` compares, `compare bench [PART..]` times, `compare flat [EXPONENT]` gives the cost of a dot on pages of
+//! growing size, `compare list` writes the list to standard output. No PART means all. The parts are in `parts/`; `parts/mod.rs` says how to add one. The bash scripts `run`, `bench` and
 //! `list` build all that is needed and call this.
 
 mod bench;
+mod lent;
 mod list;
 mod ours;
+mod pages;
 mod parts;
 mod random;
 mod tally;
@@ -20,6 +22,9 @@ fn main() -> ExitCode {
     let Some((command, names)) = words.split_first() else {
         return usage();
     };
+    if command == "flat" {
+        return flat(names);
+    }
     let Some(chosen) = chosen(names) else {
         return usage();
     };
@@ -76,10 +81,24 @@ fn run(chosen: &[&Part], all: bool) -> ExitCode {
     }
 }
 
+/// The cost of a dot, on pages of 2^20 dots up to 2^24, or as high as the argument says.
+fn flat(words: &[String]) -> ExitCode {
+    let most = match words {
+        [] => Some(24),
+        [word] => word.parse().ok().filter(|most| (20..=28).contains(most)),
+        _ => None,
+    };
+    let Some(most) = most else {
+        return usage();
+    };
+    parts::labelling::flat(&mut bench::Bench::new(), most);
+    ExitCode::SUCCESS
+}
+
 fn usage() -> ExitCode {
     let names: Vec<&str> = PARTS.iter().map(|part| part.name).collect();
     eprintln!(
-        "usage: compare run|bench [PART..] or compare list; parts: {}",
+        "usage: compare run|bench [PART..], compare flat [20..28] or compare list; parts: {}",
         names.join(" ")
     );
     ExitCode::from(2)

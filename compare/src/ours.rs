@@ -32,6 +32,35 @@ mod c {
             column_cover_frac: f64,
             shear_min_deg: f64,
         ) -> u8;
+        pub fn novlizeb_label(
+            mask: *const u8,
+            mask_length: usize,
+            width: u32,
+            height: u32,
+            capacity: u32,
+            labels: *mut u32,
+            labels_length: usize,
+            components: *mut u32,
+            components_length: usize,
+            scratch: *mut u32,
+            scratch_length: usize,
+        ) -> u64;
+    }
+}
+
+/// What an entry answers: document 01's number of its refusal, 0 where it has none, and its value.
+#[derive(Clone, Copy, Debug, PartialEq)]
+pub struct Answer {
+    pub number: u32,
+    pub value: u32,
+}
+
+impl Answer {
+    fn of(word: u64) -> Self {
+        Answer {
+            number: (word >> 32) as u32,
+            value: word as u32,
+        }
     }
 }
 
@@ -86,6 +115,33 @@ pub fn validate(p: &LayoutParams) -> bool {
             p.column_gap_xh,
             p.column_cover_frac,
             p.shear_min_deg,
+        )
+    })
+}
+
+/// Labelling by itself. The value is the count of pieces.
+pub fn label(
+    mask: &[u8],
+    width: u32,
+    height: u32,
+    capacity: u32,
+    labels: &mut [u32],
+    components: &mut [u32],
+    scratch: &mut [u32],
+) -> Answer {
+    Answer::of(unsafe {
+        c::novlizeb_label(
+            mask.as_ptr(),
+            mask.len(),
+            width,
+            height,
+            capacity,
+            labels.as_mut_ptr(),
+            labels.len(),
+            components.as_mut_ptr(),
+            components.len(),
+            scratch.as_mut_ptr(),
+            scratch.len(),
         )
     })
 }
