@@ -7,6 +7,7 @@
 mod bench;
 mod lent;
 mod list;
+mod masks;
 mod ours;
 mod pages;
 mod parts;

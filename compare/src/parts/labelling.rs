@@ -9,6 +9,7 @@ use super::Part;
 use crate::bench::Bench;
 use crate::lent::Words;
 use crate::list::{hash, packed, List};
+use crate::masks::{self, near, shown, LARGE_SHAPES, SIDES};
 use crate::ours::{self, Answer};
 use crate::pages::{Kind, KINDS};
 use crate::random::Random;
@@ -21,9 +22,7 @@ pub const PART: Part = Part {
     list,
 };
 
-/// Document 01's limits of a mask that is labelled by itself.
-const MOST_SIDE: u32 = 131_072;
-const MOST_DOTS: u64 = 1 << 30;
+/// Document 01's limit of pieces.
 const MOST_PIECES: u32 = 65_535;
 
 /// The words of a piece's record.
@@ -44,18 +43,6 @@ fn records(rust: &Labelling) -> Vec<u32> {
         }
     }
     words
-}
-
-/// A mask as its rows, or its size where it is large.
-fn shown(mask: &[u8], width: usize) -> String {
-    if mask.len() > 1600 {
-        return format!("{width} x {}", mask.len() / width);
-    }
-    let rows: Vec<String> = mask
-        .chunks(width)
-        .map(|row| row.iter().map(|&v| if v == 0 { '0' } else { '1' }).collect())
-        .collect();
-    rows.join("/")
 }
 
 /// The memory that a call is lent.
@@ -127,57 +114,9 @@ fn each_capacity(tally: &mut Tally, lent: &mut Lent, random: &mut Random, mask: 
     }
 }
 
-/// Ink of any byte but 0.
-fn varied(mask: &mut [u8], random: &mut Random) {
-    for dot in mask.iter_mut().filter(|dot| **dot != 0) {
-        *dot = random.pick(&[1, 2, 3, 127, 128, 254, 255]);
-    }
-}
-
-/// Every mask of up to four by four, with ink of 1 and with ink of any byte.
-fn every_small_mask(tally: &mut Tally, lent: &mut Lent, random: &mut Random) {
-    for width in 1..=4usize {
-        for height in 1..=4usize {
-            for pattern in 0..1u32 << (width * height) {
-                let mut mask: Vec<u8> = (0..width * height).map(|i| (pattern >> i & 1) as u8).collect();
-                each_capacity(tally, lent, random, &mask, width);
-                varied(&mut mask, random);
-                each_capacity(tally, lent, random, &mask, width);
-            }
-        }
-    }
-}
-
-/// Random masks with sides up to 40: of every kind, and of every density.
-fn random_masks(tally: &mut Tally, lent: &mut Lent, random: &mut Random) {
-    for _ in 0..120_000 {
-        let (width, height) = (1 + random.below(40) as usize, 1 + random.below(40) as usize);
-        let kind = if random.below(3) == 0 {
-            random.pick(&KINDS)
-        } else {
-            Kind::Noise(1 + random.below(99) as u8)
-        };
-        let mut mask = kind.page(width, height, random);
-        if random.below(2) == 0 {
-            varied(&mut mask, random);
-        }
-        each_capacity(tally, lent, random, &mask, width);
-    }
-}
-
 /// Large masks of every kind, in shapes up to the longest sides.
 fn large_masks(tally: &mut Tally, lent: &mut Lent, random: &mut Random) {
-    let longest = MOST_SIDE as usize;
-    let shapes = [
-        (1000, 700),
-        (2048, 3072),
-        (longest, 1),
-        (1, longest),
-        (longest, 9),
-        (7, longest),
-        (65_537, 20),
-    ];
-    for (width, height) in shapes {
+    for (width, height) in LARGE_SHAPES {
         for kind in KINDS {
             let mask = kind.page(width, height, random);
             let rust = label_8(&mask, width, height);
@@ -189,12 +128,8 @@ fn large_masks(tally: &mut Tally, lent: &mut Lent, random: &mut Random) {
 /// The number by document 01's rules, of what a call is handed and the lengths that it is lent; 0 where it is accepted,
 /// or refused for its pieces.
 fn refusal(mask: usize, width: u32, height: u32, capacity: u32, lengths: [usize; 3]) -> u32 {
-    let side = |side: u32| (1..=MOST_SIDE).contains(&side);
-    let dots = u64::from(width) * u64::from(height);
-    if !side(width) || !side(height) || dots > MOST_DOTS {
-        1
-    } else if mask as u64 != dots {
-        2
+    if let Some(number) = masks::refusal(mask, width, height) {
+        number
     } else if !(1..=MOST_PIECES).contains(&capacity) {
         7
     } else if lengths[0] < mask
@@ -226,26 +161,8 @@ fn refused(tally: &mut Tally, lent: &mut Lent, mask: &[u8], width: u32, height: 
 /// Sides and dots at each limit and beside it, where the mask need not be there; each limit passed is 1, and else the mask's
 /// length is wrong, 2.
 fn refused_sides(tally: &mut Tally, lent: &mut Lent) {
-    let sides = [
-        0,
-        1,
-        2,
-        8191,
-        8192,
-        8193,
-        32_767,
-        32_768,
-        32_769,
-        65_535,
-        65_536,
-        MOST_SIDE - 1,
-        MOST_SIDE,
-        MOST_SIDE + 1,
-        1 << 31,
-        u32::MAX,
-    ];
-    for width in sides {
-        for height in sides {
+    for width in SIDES {
+        for height in SIDES {
             for capacity in [0, 1, MOST_PIECES, MOST_PIECES + 1, u32::MAX] {
                 for mask in [&[][..], &[1][..], &[0, 1][..]] {
                     refused(tally, lent, mask, width, height, capacity, [0; 3]);
@@ -258,7 +175,6 @@ fn refused_sides(tally: &mut Tally, lent: &mut Lent) {
 
 /// Small masks with every length right, one short or one more, in every combination.
 fn refused_lengths(tally: &mut Tally, lent: &mut Lent) {
-    let near = |n: usize| [0, n.saturating_sub(1), n, n + 1];
     for (width, height) in [(1, 1), (1, 3), (4, 2), (5, 5)] {
         let dots = (width * height) as usize;
         for capacity in [0u32, 1, 2, 7, MOST_PIECES, MOST_PIECES + 1, u32::MAX] {
@@ -281,8 +197,11 @@ fn refused_lengths(tally: &mut Tally, lent: &mut Lent) {
 fn compare(tally: &mut Tally) {
     let mut random = Random::new();
     let mut lent = Lent::new();
-    every_small_mask(tally, &mut lent, &mut random);
-    random_masks(tally, &mut lent, &mut random);
+    let mut each = |random: &mut Random, mask: &[u8], width: usize| {
+        each_capacity(tally, &mut lent, random, mask, width);
+    };
+    masks::every_small_mask(&mut random, &mut each);
+    masks::random_masks(&mut random, &mut each);
     large_masks(tally, &mut lent, &mut random);
     refused_sides(tally, &mut lent);
     refused_lengths(tally, &mut lent);
