@@ -45,6 +45,15 @@ mod c {
             scratch: *mut u32,
             scratch_length: usize,
         ) -> u64;
+        pub fn novlizeb_run_extents(
+            mask: *const u8,
+            mask_length: usize,
+            width: u32,
+            height: u32,
+            columns: u8,
+            extents: *mut u32,
+            extents_length: usize,
+        ) -> u64;
     }
 }
 
@@ -142,6 +151,21 @@ pub fn label(
             components.len(),
             scratch.as_mut_ptr(),
             scratch.len(),
+        )
+    })
+}
+
+/// Run extents by themselves, along the columns or along the rows. The value is 0.
+pub fn run_extents(mask: &[u8], width: u32, height: u32, columns: bool, extents: &mut [u32]) -> Answer {
+    Answer::of(unsafe {
+        c::novlizeb_run_extents(
+            mask.as_ptr(),
+            mask.len(),
+            width,
+            height,
+            u8::from(columns),
+            extents.as_mut_ptr(),
+            extents.len(),
         )
     })
 }

@@ -30,4 +30,5 @@ parts! {
     sums,
     validate,
     labelling,
+    extents,
 }
