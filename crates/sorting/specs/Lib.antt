@@ -2,6 +2,8 @@
 pub mod Lengths
 -- run extents along rows and columns
 pub mod Extents
+-- run extents called by themselves: refusals and outcome
+pub mod Answers
 -- thin rulings: the two cut masks and the ink after the cut
 pub mod Rulings
 -- the median, and the x-height as 01's unit
@@ -10,3 +12,5 @@ pub mod Units
 pub mod Kinds
 -- a whole ink plane sorted: cuts, components after the cut, kinds, lists and counts
 pub mod Sorted
+-- what the functions hand on to each other
+pub mod Scans

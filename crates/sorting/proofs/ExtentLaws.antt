@@ -1,0 +1,291 @@
+-- Extents as loops find them: run by run along a row, by counts down and up the columns.
+use mathlib.Core.Path.{_≡_, refl, sym, ap, _∙_}
+use mathlib.Core.Bool.{Bool, true, false, cond, _&&_, true≢false}
+use mathlib.Core.List.{List}
+use Prim.Native.Nat.{ℕ, zero, suc, _+_, _-_, _*_, _/_, _%_, _^_, _≤_, _<_, min}
+use native.Mathlib.Nat.{mod-lt, mod-eq-sub-mod, div-eq-of-lt, div-eq-sub-div, add-mod-right, add-div-right, div-lt-iff-lt-mul, div-le-self, mul-comm, mul-suc, suc-mul, mul-le-mul-right, lt-of-le-of-lt, mul-le-mul, le-pred-of-lt}
+use native.Mathlib.Decide.{decLt}
+use native.Mathlib.Omega.{arith}
+use borrow.Author.Tests.{lt-ltb, le-ltb, ltb-true}
+use lib.ListN.{length, getD, take, drop, set, replicate, length-replicate, getD-replicate, List·getD-eq-default}
+use lib.Dec.{ltb, lit<}
+use borrow.Rule.Slice.PartMut.{putMid}
+use Rattle.memory.specs.Lists.{table}
+use Rattle.memory.specs.Words.{over}
+use Rattle.memory.proofs.TableLaws.{length-table, getD-table}
+use Rattle.memory.specs.Limits.{maxExtent}
+use Rattle.labelling.specs.Labels.{isInk}
+use Rattle.sorting.specs.Extents.{inkAt, behind, ahead, runThrough, extent}
+use Rattle.sorting.specs.Scans.{ScannedTo, countDown, columnExtent, rowExtent}
+use Rattle.sorting.proofs.MaskLaws.{inkAt-dot, dot-column, dot-row}
+use Rattle.sorting.proofs.OverLaws.{until, until-below, until-from, getD-part, length-part, length-over, over-at, over-unique, over-up, over-down, over-part}
+use Rattle.sorting.proofs.RunLaws.{Starts, clear, blank, behind-off, behind-le, ahead-off, runThrough-ends, runThrough-off, runThrough-next, runThrough-counted, starts-run}
+
+pub product-fits : (a b : ℕ) → a < 2 ^ 32 → b < 2 ^ 32 → a * b < 2 ^ 64
+product-fits a b ha hb = lt-of-le-of-lt (mul-le-mul (le-pred-of-lt ha) (le-pred-of-lt hb)) (lit< tt)
+
+pub ink-zero : (m : List ℕ) (i : ℕ) → getD m i 0 ≡ 0 → isInk m i ≡ false
+unfolding isInk
+ink-zero m i e = le-ltb 0 (getD m i 0) (omega arith)
+
+pub ink-nonzero : (m : List ℕ) (i : ℕ) → (getD m i 0 ≡ 0 → ⊥) → isInk m i ≡ true
+unfolding isInk
+ink-nonzero m i n = lt-ltb 0 (getD m i 0) (omega arith)
+
+pub ink-past : (m : List ℕ) (i : ℕ) → length m ≤ i → isInk m i ≡ false
+ink-past m i l = ink-zero m i (List·getD-eq-default m 0 l)
+
+ink-inside : (m : List ℕ) (i : ℕ) → isInk m i ≡ true → i < length m
+ink-inside m i e = go (decLt i (length m))
+  where
+    go : Dec (i < length m) → i < length m
+    go (yes l) = l
+    go (no l) = absurd (true≢false (sym e ∙ ink-past m i (omega arith)))
+
+-- Scans
+
+pub scan-none : (p : ℕ → Bool) (b : Bool) (x : ℕ) (k : ℕ) → x ≤ k → k < x → p k ≡ b
+scan-none p b x k h l = absurd (omega arith)
+
+pub scan-more : (p : ℕ → Bool) (b : Bool) (x e : ℕ) → ((k : ℕ) → x ≤ k → k < e → p k ≡ b) → p e ≡ b → (k : ℕ) → x ≤ k → k < e + 1 → p k ≡ b
+scan-more p b x e h t k l u = go (decLt k e)
+  where
+    go : Dec (k < e) → p k ≡ b
+    go (yes d) = h k l d
+    go (no d) = ap p (let z : k ≡ e = omega arith in z) ∙ t
+
+-- A row, run by run
+
+module _ (row : List ℕ) where
+  abbrev p : ℕ → Bool
+  p = isInk row
+
+  abbrev n : ℕ
+  n = length row
+
+  -- a stretch of blanks from a start on, then a stretch of ink
+  module _ (x b e : ℕ) (S : Starts p x) (B : ScannedTo p false x n b) (I : ScannedTo p true b n e) where
+    blank-end-off : p e ≡ false
+    blank-end-off = go (decLt e n)
+      where
+        go : Dec (e < n) → p e ≡ false
+        go (yes l) = I .stop l
+        go (no l) = ink-past row e (omega arith)
+
+    pub row-starts : Starts (isInk row) e
+    row-starts = blank blank-end-off
+
+    pub row-blank : (k : ℕ) → x ≤ k → k < b → extent (isInk row) (length row) k ≡ 0
+    unfolding extent
+    row-blank k l u = let q = runThrough-off p n k (B .all k l u) in omega arith
+
+    before : b < n → behind p b ≡ 0
+    before l = go (decLt x b)
+      where
+        go : Dec (x < b) → behind p b ≡ 0
+        go (yes d) = let z : suc (b - 1) ≡ b = omega arith in ap (behind p) (sym z) ∙ behind-off p (b - 1) (B .all (b - 1) (omega arith) (omega arith))
+        go (no d) = let z : x ≡ b = (let q = B .low in omega arith) in ap (behind p) (sym z) ∙ starts-run p x S (ap p z ∙ B .stop l)
+
+    pub row-ink : (k : ℕ) → b ≤ k → k < e → extent (isInk row) (length row) k ≡ min (e - b) maxExtent
+    unfolding extent
+    row-ink k l u =
+        ap (λ r. min r maxExtent)
+        (runThrough-ends p n b e (I .high) (before (let q = I .high in omega arith)) (ahead-off p e (n - e) blank-end-off) (I .all) k l u)
+
+    pub row-further : x < length row → x < e
+    row-further l = go (decLt x b) (decLt b e)
+      where
+        go : Dec (x < b) → Dec (b < e) → x < e
+        go (yes d) f = let q = I .low in omega arith
+        go (no d) (yes f) = let q = B .low in omega arith
+        go (no d) (no f) =
+            let z : e ≡ b = (let q = I .low in omega arith) in
+            let y : b < n = (let q = B .low in omega arith) in
+            absurd (true≢false (sym (B .stop y) ∙ (ap p (sym z) ∙ blank-end-off)))
+
+-- a row of a mask, as a part of it
+pub row-part : (w y : ℕ) (m : List ℕ) → 0 < w → y * w + w ≤ length m → (k : ℕ) → k < w
+    → extent (isInk (take (y * w + w - y * w) (drop (y * w) m))) (length (take (y * w + w - y * w) (drop (y * w) m))) k ≡ rowExtent w m (y * w + k)
+unfolding isInk inkAt
+row-part w y m l h k u =
+    let z : y * w + w - y * w ≡ w = omega arith in
+    let q : length (take (y * w + w - y * w) (drop (y * w) m)) ≡ w = length-part (y * w) (y * w + w) m (omega arith) h ∙ z in
+    (λ i. extent (λ x. same x i) (q i) k) ∙ sym (λ i. extent (λ x. inkAt w m x (dot-row w k y u i)) w (dot-column w k y u i))
+  where
+    same : (x : ℕ) → isInk (take (y * w + w - y * w) (drop (y * w) m)) x ≡ inkAt w m x y
+    same x = go (decLt x w)
+      where
+        go : Dec (x < w) → ltb 0 (getD (take (y * w + w - y * w) (drop (y * w) m)) x 0) ≡ (ltb x w && ltb 0 (getD m (y * w + x) 0))
+        go (yes d) = rw (lt-ltb x w d) (ap (ltb 0) (getD-part (y * w) (y * w + w - y * w) m x (omega arith)))
+        go (no d) =
+            let z : length (take (y * w + w - y * w) (drop (y * w) m)) ≤ x = (let q = length-part (y * w) (y * w + w) m (omega arith) h in omega arith) in
+            rw (le-ltb x w (omega arith)) (ap (ltb 0) (List·getD-eq-default (take (y * w + w - y * w) (drop (y * w) m)) 0 z))
+
+-- Columns, by counts
+
+module _ (w : ℕ) (m : List ℕ) (wide : 0 < w) where
+  -- what ends at dot i, from what ends at the dot above
+  pub count-step : (i : ℕ) → countDown w m i ≡ cond (isInk m i) (cond (ltb i w) 0 (countDown w m (i - w)) + 1) 0
+  unfolding behind
+  count-step i = ap (λ b. cond b (suc (behind (inkAt w m (i % w)) (i / w))) 0) (inkAt-dot w m i wide) ∙ ap (λ c. cond (isInk m i) c 0) (go (decLt i w))
+    where
+      go : Dec (i < w) → suc (behind (inkAt w m (i % w)) (i / w)) ≡ cond (ltb i w) 0 (countDown w m (i - w)) + 1
+      go (yes l) = rw (lt-ltb i w l) (let e : i / w ≡ 0 = div-eq-of-lt l in rw e refl)
+      go (no l) =
+          let a : i % w ≡ (i - w) % w = mod-eq-sub-mod (omega arith) in
+          let b : i / w ≡ (i - w) / w + 1 = div-eq-sub-div wide (omega arith) in
+          let d : i / w ≡ suc ((i - w) / w) = omega arith in
+          rw (le-ltb i w (omega arith)) ((λ j. suc (behind (inkAt w m (a j)) (d j))) ∙ (let e : suc (countDown w m (i - w)) ≡ countDown w m (i - w) + 1 = omega arith in e))
+
+  pub count-le : (i : ℕ) → countDown w m i ≤ suc (i / w)
+  count-le i = behind-le (inkAt w m (i % w)) (suc (i / w))
+
+  below : (i : ℕ) → inkAt w m (i % w) (suc (i / w)) ≡ isInk m (i + w)
+  below i =
+      let a : (i + w) % w ≡ i % w = add-mod-right i w in
+      let b : (i + w) / w ≡ suc (i / w) = (let q = add-div-right i wide in omega arith) in
+      sym (λ j. inkAt w m (a j) (b j)) ∙ inkAt-dot w m (i + w) wide
+
+  -- the extent of dot i, from its count and the extent of the dot below
+  pub extent-step : (h : ℕ) → length m ≡ w * h → (i : ℕ) → i < w * h
+      → columnExtent w h m i ≡ cond (isInk m i) (cond (isInk m (i + w)) (columnExtent w h m (i + w)) (min (countDown w m i) maxExtent)) 0
+  unfolding extent
+  extent-step h q i l = go (isInk m i) refl (isInk m (i + w)) refl
+    where
+      row : i / w < h
+      row = div-lt-iff-lt-mul wide .1 (let z = mul-comm w h in omega arith)
+
+      go : (a : Bool) → isInk m i ≡ a → (b : Bool) → isInk m (i + w) ≡ b → columnExtent w h m i ≡ cond a (cond b (columnExtent w h m (i + w)) (min (countDown w m i) maxExtent)) 0
+      go false e b f = ap (λ r. min r maxExtent) (runThrough-off (inkAt w m (i % w)) h (i / w) (inkAt-dot w m i wide ∙ e))
+      go true e true f =
+          let a : (i + w) % w ≡ i % w = add-mod-right i w in
+          let b : (i + w) / w ≡ suc (i / w) = (let q = add-div-right i wide in omega arith) in
+          let u : i + w < w * h = (let z = ink-inside m (i + w) f in omega arith) in
+          let v : suc (i / w) < h = (let z : (i + w) / w < h = div-lt-iff-lt-mul wide .1 (let z = mul-comm w h in omega arith) in omega arith) in
+          ap (λ r. min r maxExtent)
+          (runThrough-next (inkAt w m (i % w)) h (i / w) v (inkAt-dot w m i wide ∙ e) (below i ∙ f)
+          ∙ sym (λ j. runThrough (inkAt w m (a j)) h (b j)))
+      go true e false f = ap (λ r. min r maxExtent) (runThrough-counted (inkAt w m (i % w)) h (i / w) row (below i ∙ f))
+
+-- Loops
+
+pub count-none : (m : List ℕ) (i c : ℕ) → getD m i 0 ≡ 0 → 0 ≡ cond (isInk m i) c 0
+count-none m i c e = rw (ink-zero m i e)
+
+pub count-first : (m : List ℕ) (i w c : ℕ) → (getD m i 0 ≡ 0 → ⊥) → i < w → 1 ≡ cond (isInk m i) (cond (ltb i w) 0 c + 1) 0
+count-first m i w c n l = rw (ink-nonzero m i n, lt-ltb i w l)
+
+pub count-next : (m : List ℕ) (i w c : ℕ) → (getD m i 0 ≡ 0 → ⊥) → w ≤ i → c + 1 ≡ cond (isInk m i) (cond (ltb i w) 0 c + 1) 0
+count-next m i w c n l = rw (ink-nonzero m i n, le-ltb i w l)
+
+pub extent-below : (m : List ℕ) (i j a b : ℕ) → (getD m i 0 ≡ 0 → ⊥) → (getD m j 0 ≡ 0 → ⊥) → a ≡ cond (isInk m i) (cond (isInk m j) a b) 0
+extent-below m i j a b n k = rw (ink-nonzero m i n, ink-nonzero m j k)
+
+pub extent-own : (m : List ℕ) (i j a b : ℕ) → (getD m i 0 ≡ 0 → ⊥) → isInk m j ≡ false → b ≡ cond (isInk m i) (cond (isInk m j) a b) 0
+extent-own m i j a b n k = rw (ink-nonzero m i n, k)
+
+module _ (w : ℕ) (m s e : List ℕ) (i : ℕ) (wide : 0 < w) (inside : i < length m) (room : length m ≤ length s)
+    (held : e ≡ over (table (until i (countDown w m) (λ k. getD s k 0)) (length m)) s) where
+  above : w ≤ i → getD e (i - w) 0 ≡ countDown w m (i - w)
+  above l =
+      ap (λ t. getD t (i - w) 0) held
+      ∙ (over-at (until i (countDown w m) (λ k. getD s k 0)) (length m) s (i - w) (omega arith) ∙ until-below i (countDown w m) (λ k. getD s k 0) (i - w) (omega arith))
+
+  pub count-bound : w ≤ i → getD e (i - w) 0 ≤ i
+  count-bound l = let a = above l in let b = count-le w m wide (i - w) in let d = div-le-self (i - w) w in omega arith
+
+  -- one dot more, going down
+  pub count-loop : (v : ℕ) → v ≡ cond (isInk m i) (cond (ltb i w) 0 (getD e (i - w) 0) + 1) 0
+      → set e i v ≡ over (table (until (i + 1) (countDown w m) (λ k. getD s k 0)) (length m)) s
+  count-loop v q =
+      ap (λ t. set t i v) held
+      ∙ over-up (countDown w m) (λ k. getD s k 0) (length m) s i v room inside (q ∙ (ap (λ c. cond (isInk m i) (c + 1) 0) (go (decLt i w)) ∙ sym (count-step w m wide i)))
+    where
+      go : Dec (i < w) → cond (ltb i w) 0 (getD e (i - w) 0) ≡ cond (ltb i w) 0 (countDown w m (i - w))
+      go (yes l) = rw (lt-ltb i w l)
+      go (no l) = rw (le-ltb i w (omega arith)) (above (omega arith))
+
+-- before the way up: the counts are there
+pub extent-first : (w h : ℕ) (m s : List ℕ) → length m ≡ w * h → length m ≤ length s → ((k : ℕ) → k < length m → getD s k 0 ≡ countDown w m k)
+    → s ≡ over (table (until (w * h) (countDown w m) (columnExtent w h m)) (w * h)) s
+extent-first w h m s q l held =
+    over-unique (until (w * h) (countDown w m) (columnExtent w h m)) (w * h) s s (omega arith) refl
+    (λ k b. held k (omega arith) ∙ sym (until-below (w * h) (countDown w m) (columnExtent w h m) k b)) (λ k b. refl)
+
+-- one dot more, going up
+pub extent-loop : (w h : ℕ) (m s e : List ℕ) (i v : ℕ) → 0 < w → length m ≡ w * h → w * h ≤ length s → 0 < i → i ≤ w * h
+    → e ≡ over (table (until i (countDown w m) (columnExtent w h m)) (w * h)) s
+    → v ≡ cond (isInk m (i - 1)) (cond (isInk m (i - 1 + w)) (getD e (i - 1 + w) 0) (min (getD e (i - 1) 0) maxExtent)) 0
+    → set e (i - 1) v ≡ over (table (until (i - 1) (countDown w m) (columnExtent w h m)) (w * h)) s
+extent-loop w h m s e i v wide q room pos l held r =
+    let z : i - 1 + 1 ≡ i = omega arith in
+    ap (λ t. set t (i - 1) v) (held ∙ ap (λ k. over (table (until k (countDown w m) (columnExtent w h m)) (w * h)) s) (sym z))
+    ∙ over-down (countDown w m) (columnExtent w h m) (w * h) s (i - 1) v room (omega arith) (r ∙ (go (isInk m (i - 1 + w)) refl ∙ sym (extent-step w m wide h q (i - 1) (omega arith))))
+  where
+    at : (k : ℕ) → k < w * h → getD e k 0 ≡ until i (countDown w m) (columnExtent w h m) k
+    at k b = ap (λ t. getD t k 0) held ∙ over-at (until i (countDown w m) (columnExtent w h m)) (w * h) s k b
+
+    own : getD e (i - 1) 0 ≡ countDown w m (i - 1)
+    own = at (i - 1) (omega arith) ∙ until-below i (countDown w m) (columnExtent w h m) (i - 1) (omega arith)
+
+    go : (b : Bool) → isInk m (i - 1 + w) ≡ b
+        → cond (isInk m (i - 1)) (cond (isInk m (i - 1 + w)) (getD e (i - 1 + w) 0) (min (getD e (i - 1) 0) maxExtent)) 0
+        ≡ cond (isInk m (i - 1)) (cond (isInk m (i - 1 + w)) (columnExtent w h m (i - 1 + w)) (min (countDown w m (i - 1)) maxExtent)) 0
+    go true f =
+        let u : i - 1 + w < w * h = (let y = ink-inside m (i - 1 + w) f in omega arith) in
+        let g : getD e (i - 1 + w) 0 ≡ columnExtent w h m (i - 1 + w) = at (i - 1 + w) u ∙ until-from i (countDown w m) (columnExtent w h m) (i - 1 + w) (omega arith) in
+        (λ j. cond (isInk m (i - 1)) (cond (isInk m (i - 1 + w)) (g j) (min (own j) maxExtent)) 0)
+    go false f = rw f (λ j. cond (isInk m (i - 1)) (min (own j) maxExtent) 0)
+
+-- one stretch of a row with one value
+pub stretch-filled : (f g : ℕ → ℕ) (n : ℕ) (s e t : List ℕ) (x y v : ℕ) → n ≤ length s → x ≤ y → y ≤ n → e ≡ over (table (until x f g) n) s
+    → t ≡ replicate (length (take (y - x) (drop x e))) v → ((k : ℕ) → x ≤ k → k < y → f k ≡ v)
+    → putMid x (y - x) e t ≡ over (table (until y f g) n) s
+stretch-filled f g n s e t x y v l a b held q h =
+    let z : length e ≡ length s = ap length held ∙ length-over (until x f g) n s l in
+    let c : length (take (y - x) (drop x e)) ≡ y - x = length-part x y e a (omega arith) in
+    let r : t ≡ replicate (y - x) v = q ∙ ap (λ k. replicate k v) c in
+    ap (λ o. putMid x (y - x) o t) held
+    ∙ over-part f g n s x y t l a b (ap length r ∙ length-replicate (y - x) v)
+    (λ k u. ap (λ o. getD o k 0) r ∙ (getD-replicate (y - x) k v 0 u ∙ sym (h (x + k) (omega arith) (omega arith))))
+
+pub side-le : (w h : ℕ) → 0 < w * h → w ≤ w * h
+side-le w zero l = let e : w * 0 ≡ 0 = omega arith in omega arith
+side-le w (suc h) l = let e : w * suc h ≡ w * h + w = mul-suc w h in omega arith
+
+-- one turn along a row: a stretch of blanks, then a run
+pub row-loop : (row s e t₁ t₂ : List ℕ) (x b k v : ℕ) → length row ≡ length s → Starts (isInk row) x
+    → ScannedTo (isInk row) false x (length row) b → ScannedTo (isInk row) true b (length row) k
+    → e ≡ over (table (until x (extent (isInk row) (length row)) (λ j. getD s j 0)) (length row)) s
+    → t₁ ≡ replicate (length (take (b - x) (drop x e))) 0
+    → t₂ ≡ replicate (length (take (k - b) (drop b (putMid x (b - x) e t₁)))) v → v ≡ min (k - b) maxExtent
+    → putMid b (k - b) (putMid x (b - x) e t₁) t₂ ≡ over (table (until k (extent (isInk row) (length row)) (λ j. getD s j 0)) (length row)) s
+row-loop row s e t₁ t₂ x b k v q S B I held f₁ f₂ c =
+    let g : ℕ → ℕ = λ j. getD s j 0 in
+    let F = extent (isInk row) (length row) in
+    let first : putMid x (b - x) e t₁ ≡ over (table (until b F g) (length row)) s = stretch-filled F g (length row) s e t₁ x b 0 (omega arith) (B .low) (B .high) held f₁ (row-blank row x b k S B I) in
+    stretch-filled F g (length row) s (putMid x (b - x) e t₁) t₂ b k v (omega arith) (I .low) (I .high) first f₂
+    (λ j l u. row-ink row x b k S B I j l u ∙ sym c)
+
+-- rows of a plane
+
+pub row-inside : (w h y : ℕ) → y < h → y * w + w ≤ w * h
+row-inside w h y l = let a : suc y * w ≤ h * w = mul-le-mul-right w l in let b : suc y * w ≡ y * w + w = suc-mul y w in let c = mul-comm h w in omega arith
+
+pub row-next : (w y : ℕ) → y * w + w ≡ (y + 1) * w
+row-next w y = let b : suc y * w ≡ y * w + w = suc-mul y w in sym b ∙ ap (λ k. k * w) (let e : suc y ≡ y + 1 = omega arith in e)
+
+-- one row more
+pub rows-loop : (w h y : ℕ) (m s e t : List ℕ) → 0 < w → y < h → length m ≡ w * h → w * h ≤ length s
+    → e ≡ over (table (until (y * w) (rowExtent w m) (λ k. getD s k 0)) (w * h)) s
+    → t ≡ table (extent (isInk (take (y * w + w - y * w) (drop (y * w) m))) (length (take (y * w + w - y * w) (drop (y * w) m)))) (length (take (y * w + w - y * w) (drop (y * w) m)))
+    → putMid (y * w) (y * w + w - y * w) e t ≡ over (table (until ((y + 1) * w) (rowExtent w m) (λ k. getD s k 0)) (w * h)) s
+rows-loop w h y m s e t wide l q room held r =
+    let b = row-inside w h y l in
+    let z : length (take (y * w + w - y * w) (drop (y * w) m)) ≡ y * w + w - y * w = length-part (y * w) (y * w + w) m (omega arith) (omega arith) in
+    let f = extent (isInk (take (y * w + w - y * w) (drop (y * w) m))) (length (take (y * w + w - y * w) (drop (y * w) m))) in
+    let c : t ≡ table f (y * w + w - y * w) = r ∙ ap (table f) z in
+    ap (λ o. putMid (y * w) (y * w + w - y * w) o t) held
+    ∙ (over-part (rowExtent w m) (λ k. getD s k 0) (w * h) s (y * w) (y * w + w) t room (omega arith) b (ap length c ∙ length-table f (y * w + w - y * w))
+    (λ k u. ap (λ o. getD o k 0) c ∙ (getD-table f (y * w + w - y * w) k 0 u ∙ row-part w y m wide (omega arith) k (omega arith)))
+    ∙ ap (λ k. over (table (until k (rowExtent w m) (λ k. getD s k 0)) (w * h)) s) (row-next w y))

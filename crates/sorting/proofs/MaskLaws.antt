@@ -1,0 +1,63 @@
+-- Dots of a plane w wide, and the mask of a test on them.
+use mathlib.Core.Path.{_≡_, refl, sym, ap, _∙_}
+use mathlib.Core.Bool.{Bool, true, false, cond, _&&_, _||_, not}
+use mathlib.Core.List.{List}
+use Prim.Native.Nat.{ℕ, suc, _+_, _*_, _/_, _%_, _≤_, _<_}
+use native.Mathlib.Nat.{mod-lt, div-add-mod', mul-add-div-right, mul-add-mod-self-right, mod-eq-of-lt, div-eq-of-lt, mul-comm, mul-le-mul-right, suc-mul}
+use native.Mathlib.Omega.{arith}
+use borrow.Author.Tests.{lt-ltb}
+use lib.ListN.{getD}
+use lib.Dec.{ltb}
+use Rattle.memory.proofs.TableLaws.{getD-table}
+use Rattle.labelling.specs.Labels.{isInk}
+use Rattle.sorting.specs.Extents.{Plane, inkAt, maskOf}
+use Rattle.sorting.specs.Rulings.{transposed, inThinRuling, cutHorizontal, cutVertical, afterCut}
+
+pub dot-column : (w x y : ℕ) → x < w → (y * w + x) % w ≡ x
+dot-column w x y l = mul-add-mod-self-right y w x ∙ mod-eq-of-lt l
+
+pub dot-row : (w x y : ℕ) → x < w → (y * w + x) / w ≡ y
+dot-row w x y l = mul-add-div-right {m = w} (omega arith) y x ∙ (let e : x / w ≡ 0 = div-eq-of-lt l in omega arith)
+
+pub dot-inside : (w h x y : ℕ) → x < w → y < h → y * w + x < w * h
+dot-inside w h x y lx ly =
+    let a : suc y * w ≤ h * w = mul-le-mul-right w ly in
+    let b : suc y * w ≡ y * w + w = suc-mul y w in
+    let c : h * w ≡ w * h = mul-comm h w in
+    omega arith
+
+one-bit : (b : Bool) → ltb 0 (cond b 1 0) ≡ b
+one-bit true = refl
+one-bit false = refl
+
+-- a dot of the mask of a test is ink just where the test passes
+pub isInk-maskOf : (w h : ℕ) (p : Plane) (i : ℕ) → i < w * h → isInk (maskOf w h p) i ≡ p (i % w) (i / w)
+unfolding maskOf isInk
+isInk-maskOf w h p i l = ap (ltb 0) (getD-table _ (w * h) i 0 l) ∙ one-bit (p (i % w) (i / w))
+
+-- dot i is the dot in its column and row
+pub inkAt-dot : (w : ℕ) (m : List ℕ) (i : ℕ) → 0 < w → inkAt w m (i % w) (i / w) ≡ isInk m i
+unfolding inkAt isInk
+inkAt-dot w m i l = rw (lt-ltb (i % w) w (mod-lt i l)) (ap (λ k. ltb 0 (getD m k 0)) (div-add-mod' i w))
+
+inThinRuling-off : (p : Plane) (w h run-min thick-max x y : ℕ) → p x y ≡ false → inThinRuling p w h run-min thick-max x y ≡ false
+unfolding inThinRuling
+inThinRuling-off p w h run-min thick-max x y e = rw e
+
+module _ (run-min thick-max w h : ℕ) (m : List ℕ) (wide : 0 < w) where
+  -- what is cut is ink
+  pub horizontal-blank : (i : ℕ) → i < w * h → isInk m i ≡ false → isInk (cutHorizontal run-min thick-max w h m) i ≡ false
+  unfolding cutHorizontal
+  horizontal-blank i l e =
+      isInk-maskOf w h _ i l ∙ inThinRuling-off (inkAt w m) w h run-min thick-max (i % w) (i / w) (inkAt-dot w m i wide ∙ e)
+
+  pub vertical-blank : (i : ℕ) → i < w * h → isInk m i ≡ false → isInk (cutVertical run-min thick-max w h m) i ≡ false
+  unfolding cutVertical
+  vertical-blank i l e =
+      isInk-maskOf w h _ i l ∙ inThinRuling-off (transposed (inkAt w m)) h w run-min thick-max (i / w) (i % w) (inkAt-dot w m i wide ∙ e)
+
+-- what is left after the cut is ink in neither cut mask
+pub afterCut-ink : (w h : ℕ) (a b m : List ℕ) (i : ℕ) → 0 < w → i < w * h → isInk (afterCut w h a b m) i ≡ (isInk m i && not (isInk a i || isInk b i))
+unfolding afterCut
+afterCut-ink w h a b m i wide l =
+    isInk-maskOf w h _ i l ∙ (λ t. inkAt-dot w m i wide t && not (inkAt-dot w a i wide t || inkAt-dot w b i wide t))
