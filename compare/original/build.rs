@@ -8,6 +8,12 @@
 use std::fs;
 use std::path::{Path, PathBuf};
 
+/// The lines of `segment` in `layout.rs` that level the mask, from the first of these to the last.
+const LEVELLING: [&str; 2] = [
+    "    let applied = if skew_deg.abs() >= p.shear_min_deg {",
+    "    let (width, height) = (full_w, full_h);",
+];
+
 /// What the comparison needs of `layout.rs` that is private there. A later part adds its own lines here.
 const LAYOUT_WRAPPERS: &str = r#"
 pub fn compare_extent_through(ink: &[u8], width: usize, height: usize, vertical: bool) -> Vec<u16> {
@@ -61,6 +67,26 @@ impl Original {
         declared(module, &copy)
     }
 
+    /// A function of `segment`'s own lines that level the mask, word for word.
+    fn levelling(&self) -> String {
+        let text = fs::read_to_string(self.file("pixel/layout.rs")).expect("the original's file is read");
+        let from = text.find(LEVELLING[0]).expect("the first line of the levelling");
+        let end = text.find(LEVELLING[1]).expect("the last line of the levelling") + LEVELLING[1].len();
+        let lines = &text[from..end];
+        format!(
+            "
+pub fn compare_level(ink: Vec<u8>, width: usize, height: usize, skew_deg: f64, p: &LayoutParams) -> Layout {{
+{lines}
+    Layout {{
+        width, height, page_width, page_height, skew_deg: applied, shear, shear_x, xheight: 1.0, glyph_count: 0,
+        glyph_ink_pixels: 0, ink_pixels: 0, lines: Vec::new(), glyphs: Vec::new(), ink, blocks: Vec::new(),
+        rules: Vec::new(), graphics: Vec::new(), columns: Vec::new(),
+    }}
+}}
+"
+        )
+    }
+
     fn write(&self, name: &str, items: &[String]) {
         fs::write(self.out.join(name), items.concat()).expect("OUT_DIR takes a file");
     }
@@ -78,12 +104,13 @@ fn main() {
         std::env::var_os("PAGETRIAGE_SRC").map_or_else(|| here.join("../../../shared/docs/src"), PathBuf::from);
     let out = PathBuf::from(std::env::var("OUT_DIR").expect("cargo sets it"));
     let original = Original { source, out };
+    let wrappers = LAYOUT_WRAPPERS.to_owned() + &original.levelling();
     original.write("root.rs", &[original.unchanged("math", "math.rs")]);
     original.write(
         "pixel.rs",
         &[
             original.unchanged("components", "pixel/components.rs"),
-            original.with_wrappers("layout", "pixel/layout.rs", LAYOUT_WRAPPERS),
+            original.with_wrappers("layout", "pixel/layout.rs", &wrappers),
         ],
     );
 }

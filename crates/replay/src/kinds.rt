@@ -21,6 +21,7 @@ pub fn agrees(kind: u64, body: &[u8]) -> bool {
         7 => pairwise_sum(body),
         8 => validate(body),
         9 => masks::label(body),
+        10 => masks::extents(body),
         _ => false,
     }
 }

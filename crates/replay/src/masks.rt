@@ -1,7 +1,9 @@
-// The kinds of case that have a mask, and labelling by itself.
+// The kinds of case that have a mask: labelling and run extents called by themselves.
 ghost use Prim.Native.Nat.{_<_};
 use crate::text;
 use labelling::LabelAnswer;
+use sorting::Along;
+use sorting::ExtentsAnswer;
 
 // The most dots of a mask.
 const MOST_DOTS: usize = 1024;
@@ -147,4 +149,47 @@ pub fn label(body: &[u8]) -> bool {
     let mut labels = [0u32; MOST_DOTS];
     let capacity = text::whole(body, 2);
     label_mask(body, size, capacity, &mut mask[0..n], &mut labels[0..n])
+}
+
+// The extents of the mask that the digits spell, of as many dots as there are extents; compares with
+// the last word.
+fn extents_of_mask(body: &[u8], size: Size, along: Along, mask: &mut [u8], extents: &mut [u32]) -> bool {
+    let words = text::count(body);
+    if words < 4 {
+        return false;
+    }
+    if body.len() < MASK_FROM {
+        return false;
+    }
+    read_mask(&body[MASK_FROM..], mask);
+    let answer = sorting::run_extents(mask, size.width, size.height, along, extents);
+    match answer {
+        ExtentsAnswer::Done => hash(extents) == text::word(body, words - 1),
+        ExtentsAnswer::Refused(_) => false,
+    }
+}
+
+// 1 for the columns, else the rows.
+fn along_of(word: u32) -> Along {
+    if word == 1 { Along::Columns } else { Along::Rows }
+}
+
+// 0A: width, height, 1 for extents along the columns and 0 along the rows, the mask, 64 dots a word; the
+// hash of the extents.
+pub fn extents(body: &[u8]) -> bool {
+    let size = Size {
+        width: text::whole(body, 0),
+        height: text::whole(body, 1),
+    };
+    let n = dots(size.width, size.height);
+    if n > MOST_DOTS {
+        return false;
+    }
+    if text::count(body) != 4 + (n + 63) / 64 {
+        return false;
+    }
+    let mut mask = [0u8; MOST_DOTS];
+    let mut words = [0u32; MOST_DOTS];
+    let along = along_of(text::whole(body, 2));
+    extents_of_mask(body, size, along, &mut mask[0..n], &mut words[0..n])
 }

@@ -1,0 +1,4 @@
+-- what the word of a labelling tells of what the call leaves
+pub mod LabelAnswerLaws
+-- what the word of run extents tells of an outcome
+pub mod ExtentAnswerLaws
