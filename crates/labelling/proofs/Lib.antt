@@ -1,0 +1,44 @@
+-- a part of a slice that is lent and put back
+pub mod PartLaws
+-- a range of numbers, with one more
+pub mod RangeLaws
+-- `firsts` names each class by its first, and nothing else does
+pub mod FirstLaws
+-- union-find over any relation, number by number
+pub mod LinkLaws
+-- the parents meanwhile
+pub mod ParentLaws
+-- path halving keeps the roots
+pub mod HalvingLaws
+-- dots that touch, and runs that do
+pub mod TouchLaws
+-- from a naming of the runs to the labels of the dots
+pub mod TransferLaws
+-- the turns of a mask are its runs
+pub mod TurnLaws
+-- the labelling by runs: labels
+pub mod RunLabelLaws
+-- the labelling by runs: records
+pub mod RunComponentLaws
+-- a run absorbed at once
+pub mod AbsorbLaws
+-- a loop that writes the turns, and the room that they take
+pub mod ScanLaws
+-- runs linked row by row
+pub mod RunLinkLaws
+-- numbers in the place of parents
+pub mod NumberLaws
+-- turns written row by row
+pub mod ExtractLaws
+-- nine words
+pub mod NineLaws
+-- labels painted run by run
+pub mod PaintLaws
+-- records written run by run
+pub mod TallyLaws
+-- the records of the first k runs, and one run more
+pub mod RecordSweepLaws
+-- the stages one after the other
+pub mod StageLaws
+-- which number a call is refused with, and what it leaves
+pub mod EntryLaws

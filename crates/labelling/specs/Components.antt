@@ -1,5 +1,5 @@
 -- The record of a component, 01's piece: area, inclusive box, sums of x and y (01, part 2).
-use Prim.Native.Nat.{ℕ, _+_, min, max}
+use Prim.Native.Nat.{ℕ, zero, suc, _+_, _*_, min, max}
 use Rattle.labelling.specs.declared.rect.Rect.{Rect}
 use Rattle.labelling.specs.declared.component.Component.{Component}
 
@@ -18,6 +18,24 @@ absorbed c x y =
       y1 = max (c .y1) y;
       «sum_x» = c .«sum_x» + x;
       «sum_y» = c .«sum_y» + y;
+    }
+
+-- x + (x + 1) + .., d of them
+unfoldable pub columnSum : ℕ → ℕ → ℕ
+columnSum x zero = 0
+columnSum x (suc d) = columnSum x d + (x + d)
+
+-- the dots of row y from column x to column x + d more
+abbrev pub absorbedRun : Component → ℕ → ℕ → ℕ → Component
+absorbedRun c x d y =
+    record {
+      area = c .area + suc d;
+      x0 = min (c .x0) x;
+      y0 = min (c .y0) y;
+      x1 = max (c .x1) (x + d);
+      y1 = max (c .y1) y;
+      «sum_x» = c .«sum_x» + columnSum x (suc d);
+      «sum_y» = c .«sum_y» + suc d * y;
     }
 
 -- its box

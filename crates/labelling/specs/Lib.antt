@@ -8,3 +8,23 @@ pub mod Classes
 pub mod Chains
 -- the components of a mask and their labels
 pub mod Labels
+-- union-find: parents, and what they owe to a relation
+pub mod Forests
+-- runs of ink, and labels and components by runs
+pub mod InkRuns
+-- runs of small masks, by computation
+pub mod RunExamples
+-- what linking keeps and gives
+pub mod Linking
+-- what numbering gives
+pub mod Numbering
+-- what run extraction asks and gives
+pub mod Extraction
+-- a component's record as nine words
+pub mod RecordWords
+-- what painting asks and gives
+pub mod Painting
+-- the components' records, run by run
+pub mod Tallying
+-- what labelling called by itself answers and leaves
+pub mod Answer

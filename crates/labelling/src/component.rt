@@ -1,7 +1,7 @@
 // One component: its area, its box and the sums of its dots' coordinates (01's piece).
 ghost use mathlib.Core.Path.{_≡_};
-ghost use Prim.Native.Nat.{_+_, _≤_, _<_};
-ghost use Rattle.labelling.specs.Components.{noDots, absorbed, boxOf};
+ghost use Prim.Native.Nat.{_+_, _-_, _≤_, _<_, _^_};
+ghost use Rattle.labelling.specs.Components.{noDots, absorbed, absorbedRun, boxOf};
 use crate::rect::Rect;
 use crate::rect::greater;
 use crate::rect::lesser;
@@ -45,6 +45,28 @@ impl Component {
             y1: greater(self.y1, y),
             sum_x: self.sum_x + (x as u64),
             sum_y: self.sum_y + (y as u64),
+        }
+    }
+
+    // The component with the dots from column x0 to column x1 of row y more: its two end dots, and those between.
+    pub fn absorb_run(self, x0: u32, x1: u32, y: u32) -> Component
+        requires { ⌜ (x0 ≤ x1) × (x1 < 131072) × (y ≤ 2 ^ 30) × (self .area ≤ 2 ^ 30) × (self .«sum_x» ≤ 2 ^ 60) × (self .«sum_y» ≤ 2 ^ 60) ⌝ }
+        ensures { λ r. ⌜ r ≡ absorbedRun self x0 (x1 - x0) y ⌝ }
+    {
+        let first = self.absorb(x0, y);
+        if x0 == x1 {
+            return first;
+        }
+        let both = first.absorb(x1, y);
+        let between = x1 - x0 - 1;
+        Component {
+            area: both.area + between,
+            x0: both.x0,
+            y0: both.y0,
+            x1: both.x1,
+            y1: both.y1,
+            sum_x: both.sum_x + (between as u64) * ((x0 + x1) as u64) / 2,
+            sum_y: both.sum_y + (between as u64) * (y as u64),
         }
     }
 

@@ -1,7 +1,17 @@
 // Labelling: the 8-connected components of a mask, numbered by first dot (components.rs). Rect and Component are the records
 // that every crate above reads and makes, by value.
 mod component;
+mod entry;
+mod link;
+mod number;
+mod paint;
+mod record;
 mod rect;
+mod runs;
+mod tally;
+mod words;
 
 pub use component::Component;
+pub use entry::LabelAnswer;
+pub use entry::label;
 pub use rect::Rect;

@@ -1,0 +1,340 @@
+-- Turns written row by row: the turns of a row are those of the mask, counted from the row's first dot.
+use mathlib.Core.Path.{_≡_, refl, sym, ap, _∙_, subst}
+use mathlib.Core.List.{List, [], _∷_, _++_, map, append-assoc, append-nil}
+use mathlib.Core.Bool.{Bool, true, false, cond, _&&_, not}
+use Prim.Native.Nat.{ℕ, zero, suc, _+_, _-_, _*_, _/_, _%_, _≤_, _<_}
+use native.Mathlib.Nat.{le-refl, le-trans, not-suc-le-zero, suc-mul, mul-comm, mod-eq-of-lt, mod-self, mul-mod-left, mul-add-mod-self-right, mul-le-mul-right, mul-left-comm}
+use native.Mathlib.Numerals.{add-one}
+use native.Mathlib.Decide.{ℕ-discrete, decLt}
+use native.Mathlib.Omega.{arith}
+use borrow.Author.Tests.{eq-eqb, ne-eqb, lt-ltb, le-ltb}
+use lib.ListN.{getD, length, set, take, drop, length-set, length-map, length-append, length-drop}
+use lib.Seq.{getD-take, getD-drop, length-take-le, take-set-le, take-suc-set}
+use lib.Dec.{eqb, ltb}
+use Rattle.labelling.specs.Labels.{isInk}
+use Rattle.labelling.specs.InkRuns.{inkBefore, differ, appendIf, turns, runCount}
+use Rattle.labelling.specs.Extraction.{rowWords, rowTurns, RowRoom, RowExtracted, PlaneRoom, Extracted}
+use Rattle.labelling.proofs.TurnLaws.{bit, scanned}
+use Rattle.labelling.proofs.ScanLaws.{append-step, turns-inner, turns-last, inkBefore-inner, turns-room, turns-fit}
+use Rattle.labelling.proofs.RunLabelLaws.{inkBefore-row, turns-even}
+
+-- Within a row
+
+-- no dot up to w ends a row that is wider by one
+inner-wider : (w x : ℕ) → x < w → suc x % suc w ≡ 0 → ⊥
+inner-wider w x l e = let q : suc x % suc w ≡ suc x = mod-eq-of-lt (let h : suc x < suc w = omega arith in h) in omega arith
+
+inner-row : (w x : ℕ) → suc x < w → suc x % w ≡ 0 → ⊥
+inner-row w x l e = let q : suc x % w ≡ suc x = mod-eq-of-lt l in omega arith
+
+-- the turns before the row's end is looked at
+open-turns : (w : ℕ) (m : List ℕ) (x : ℕ) → x < w → (turns w m x ≡ turns (suc w) m x) × (inkBefore w m x ≡ inkBefore (suc w) m x)
+unfolding turns inkBefore
+open-turns w m zero l = (refl, refl)
+open-turns w m (suc x) l =
+    let ih = open-turns w m x (omega arith) in
+    let a = inner-row w x l in
+    let b = inner-wider w x (omega arith) in (
+      turns-inner w m x a ∙ (ap (λ t. appendIf (differ t (isInk m x)) x (turns w m x)) (ih .1) ∙ (ap (appendIf (differ (inkBefore (suc w) m x) (isInk m x)) x) (ih .0) ∙ sym (turns-inner (suc w) m x b))),
+      inkBefore-inner w m x a ∙ sym (inkBefore-inner (suc w) m x b),
+    )
+
+-- and with it
+pub closed-turns : (w : ℕ) (m : List ℕ) → 0 < w → turns w m w ≡ appendIf (inkBefore (suc w) m w) w (turns (suc w) m w)
+closed-turns zero m l = absurd (not-suc-le-zero l)
+closed-turns (suc w) m l =
+    let o = open-turns (suc w) m w (le-refl (suc w)) in
+    let b = inner-wider (suc w) w (le-refl (suc w)) in
+    turns-last (suc w) m w (mod-self (suc w))
+    ∙ (ap (λ t. appendIf (isInk m w) (suc w) (appendIf (differ t (isInk m w)) w (turns (suc w) m w))) (o .1)
+    ∙ (ap (λ t. appendIf (isInk m w) (suc w) (appendIf (differ (inkBefore (suc (suc w)) m w) (isInk m w)) w t)) (o .0)
+    ∙ (ap (appendIf (isInk m w) (suc w)) (sym (turns-inner (suc (suc w)) m w b)) ∙ ap (λ t. appendIf t (suc w) (turns (suc (suc w)) m (suc w))) (sym (inkBefore-inner (suc (suc w)) m w b)))))
+
+-- the turns from `base` on after those that stand
+append-map : (t : Bool) (base x : ℕ) (a l : List ℕ) → appendIf t (base + x) (a ++ map (λ i. base + i) l) ≡ a ++ map (λ i. base + i) (appendIf t x l)
+unfolding appendIf
+append-map false base x a l = refl
+append-map true base x a l = append-assoc a (map (λ i. base + i) l) ((base + x) ∷ []) ∙ ap (λ z. a ++ z) (sym (map-snoc l))
+  where
+    map-snoc : (l : List ℕ) → map (λ i. base + i) (l ++ (x ∷ [])) ≡ map (λ i. base + i) l ++ ((base + x) ∷ [])
+    map-snoc [] = refl
+    map-snoc (y ∷ l) = ap (λ z. (base + y) ∷ z) (map-snoc l)
+
+length-appendIf : (t : Bool) (x : ℕ) (l : List ℕ) → length (appendIf t x l) ≡ length l + bit t
+unfolding appendIf
+length-appendIf true x l = length-append l (x ∷ [])
+length-appendIf false x l = let e : length l ≡ length l + 0 = omega arith in e
+
+ink-bit : (m : List ℕ) (x : ℕ) → cond (eqb (getD m x 0) 0) 0 1 ≡ bit (isInk m x)
+unfolding isInk
+ink-bit m x = go (ℕ-discrete (getD m x 0) 0)
+  where
+    go : Dec (getD m x 0 ≡ 0) → cond (eqb (getD m x 0) 0) 0 1 ≡ bit (ltb 0 (getD m x 0))
+    go (yes e) = rw (eq-eqb (getD m x 0) 0 e, le-ltb 0 (getD m x 0) (let h : getD m x 0 ≤ 0 = omega arith in h)) refl
+    go (no n) = rw (ne-eqb (getD m x 0) 0 n, lt-ltb 0 (getD m x 0) (let h : 0 < getD m x 0 = omega arith in h)) refl
+
+pub turn-small : (t : Bool) → cond t 0 1 ≤ 1
+turn-small true = omega arith
+turn-small false = omega arith
+
+turn-bit : (p q : Bool) → cond (eqb (bit p) (bit q)) 0 1 ≡ bit (differ p q)
+unfolding differ
+turn-bit true true = refl
+turn-bit true false = refl
+turn-bit false true = refl
+turn-bit false false = refl
+
+-- the first x dots of a row are read: k is where the next turn goes, `before` whether the last dot was ink
+pub record RowScan (row : List ℕ) (base : ℕ) (s₀ s : List ℕ) (at k before x : ℕ) : Type 0 where
+  pub asks : RowRoom row base s₀ at
+  pub len : length s ≡ length s₀
+  pub upto : x ≤ length row
+  pub place : k ≡ at + length (turns (suc (length row)) row x)
+  pub ink : before ≡ bit (inkBefore (suc (length row)) row x)
+  pub words : take k s ≡ take at s₀ ++ map (λ i. base + i) (turns (suc (length row)) row x)
+
+pub scan-none : {row : List ℕ} {base : ℕ} {s : List ℕ} {at : ℕ} → RowRoom row base s at → RowScan row base s s at at 0 0
+unfolding turns inkBefore
+scan-none {row} {base} {s} {at} A =
+    record {
+      asks = A;
+      len = refl;
+      upto = omega arith;
+      place = omega arith;
+      ink = refl;
+      words = sym (append-nil (take at s));
+    }
+
+module _ {row : List ℕ} {base : ℕ} {s₀ s : List ℕ} {at k before x : ℕ} (S : RowScan row base s₀ s at k before x) where
+  w : ℕ
+  w = length row
+
+  pub scan-room : x < length row → k < length s
+  scan-room l =
+      let z : 0 * length row + x ≡ x = omega arith in
+      let o = ap length (sym (ap (turns (length row) row) z) ∙ refl) in
+      let r = turns-room (length row) row (S .asks .some) 1 0 x (le-refl 1) l in
+      let e = ap length (open-turns (length row) row x l .0) in
+      let p = S .place in
+      let h = S .asks .room in
+      let n = S .len in
+      let q = ap (λ y. length (turns (length row) row y)) z in
+      let one : 1 * ((length row + 1) / 2) ≡ (length row + 1) / 2 = omega arith in
+      omega arith
+
+  pub scan-more : x < length row → (here turn : ℕ) → here ≡ cond (eqb (getD row x 0) 0) 0 1 → turn ≡ cond (eqb before here) 0 1
+      → RowScan row base s₀ (set s k (base + x)) at (k + turn) here (x + 1)
+  scan-more l here turn eh et =
+      let W = suc (length row) in
+      let p = inkBefore W row x in
+      let q = isInk row x in
+      let d = differ p q in
+      let L = turns W row x in
+      let h : here ≡ bit q = eh ∙ ink-bit row x in
+      let t : turn ≡ bit d = et ∙ (ap (λ z. cond (eqb z here) 0 1) (S .ink) ∙ (ap (λ z. cond (eqb (bit p) z) 0 1) h ∙ turn-bit p q)) in
+      let b = inner-wider (length row) x l in
+      let T : turns W row (suc x) ≡ appendIf d x L = turns-inner W row x b in
+      record {
+        asks = S .asks;
+        len = length-set s k (base + x) ∙ S .len;
+        upto = omega arith;
+        place =
+            (let a = S .place in let e = length-appendIf d x L in let g : k + turn ≡ at + length (appendIf d x L) = omega arith in g)
+            ∙ ap (λ z. at + length z) (sym T ∙ ap (turns W row) (sym (add-one x)));
+        ink = h ∙ (ap bit (sym (inkBefore-inner W row x b)) ∙ ap (λ z. bit (inkBefore W row z)) (sym (add-one x)));
+        words =
+            ap (λ z. take (k + z) (set s k (base + x))) t
+            ∙ (append-step s (take k s) d k (base + x) refl (scan-room l)
+            ∙ (ap (appendIf d (base + x)) (S .words)
+            ∙ (append-map d base x (take at s₀) L
+            ∙ ap (λ z. take at s₀ ++ map (λ i. base + i) z) (sym T ∙ ap (turns W row) (sym (add-one x))))));
+      }
+
+  module _ (l : length row ≤ x) where
+    all-read : x ≡ length row
+    all-read = let h = S .upto in omega arith
+
+    last-ink : (t : Bool) → before ≡ bit t → inkBefore (suc (length row)) row (length row) ≡ t
+    last-ink t e = bit-one _ t (sym (S .ink ∙ ap (λ z. bit (inkBefore (suc (length row)) row z)) all-read) ∙ e)
+      where
+        bit-one : (a b : Bool) → bit a ≡ bit b → a ≡ b
+        bit-one true true e = refl
+        bit-one false false e = refl
+        bit-one true false e = absurd (omega arith)
+        bit-one false true e = absurd (omega arith)
+
+    closed : (t : Bool) → before ≡ bit t → turns (length row) row (length row) ≡ appendIf t (length row) (turns (suc (length row)) row x)
+    closed t e =
+        closed-turns (length row) row (S .asks .some)
+        ∙ (ap (λ z. appendIf z (length row) (turns (suc (length row)) row (length row))) (last-ink t e)
+        ∙ ap (λ z. appendIf t (length row) (turns (suc (length row)) row z)) (sym all-read))
+
+    pub scan-blank : before ≡ 0 → RowExtracted row base s₀ s at k
+    unfolding appendIf
+    scan-blank e =
+        let c = closed false e in
+        record {
+          len = S .len;
+          words = S .words ∙ ap (λ z. take at s₀ ++ map (λ i. base + i) z) (sym c);
+          upto = S .place ∙ (ap (λ z. at + length z) (sym c) ∙ ap (λ z. at + z) (sym (length-map (turns (length row) row (length row)) (λ i. base + i))));
+        }
+
+    ink-before : (before ≡ 0 → ⊥) → before ≡ bit true
+    ink-before n = go (inkBefore (suc (length row)) row x) (S .ink)
+      where
+        go : (t : Bool) → before ≡ bit t → before ≡ bit true
+        go true e = e
+        go false e = absurd (n e)
+
+    pub scan-room-end : (before ≡ 0 → ⊥) → k < length s
+    scan-room-end n =
+        let c = ap length (closed true (ink-before n)) in
+        let e = length-appendIf true (length row) (turns (suc (length row)) row x) in
+        let z : 1 * length row ≡ length row = omega arith in
+        let q = ap (λ y. length (turns (length row) row y)) z in
+        let f = turns-fit (length row) row (S .asks .some) 1 in
+        let one : 1 * ((length row + 1) / 2) ≡ (length row + 1) / 2 = omega arith in
+        let p = S .place in
+        let h = S .asks .room in
+        let m = S .len in
+        omega arith
+
+    pub scan-ink : (before ≡ 0 → ⊥) → RowExtracted row base s₀ (set s k (base + x)) at (k + 1)
+    scan-ink n =
+        let c = closed true (ink-before n) in
+        let L = turns (suc (length row)) row x in
+        let c' : turns (length row) row (length row) ≡ appendIf true x L = c ∙ ap (λ z. appendIf true z L) (sym all-read) in
+        record {
+          len = length-set s k (base + x) ∙ S .len;
+          words =
+              append-step s (take k s) true k (base + x) refl (scan-room-end n)
+              ∙ (ap (appendIf true (base + x)) (S .words) ∙ (append-map true base x (take at s₀) L ∙ ap (λ z. take at s₀ ++ map (λ i. base + i) z) (sym c')));
+          upto =
+              (let a = S .place in let e = length-appendIf true x L in let g : k + 1 ≡ at + length (appendIf true x L) = omega arith in g)
+              ∙ (ap (λ z. at + length z) (sym c') ∙ ap (λ z. at + z) (sym (length-map (turns (length row) row (length row)) (λ i. base + i))));
+        }
+
+-- Row by row
+
+module _ (w : ℕ) (m row : List ℕ) (y : ℕ) (hw : 0 < w) (same : (x : ℕ) → x < w → getD row x 0 ≡ getD m (y * w + x) 0) where
+  ink-same : (x : ℕ) → x < w → isInk m (y * w + x) ≡ isInk row x
+  unfolding isInk
+  ink-same x l = ap (ltb 0) (sym (same x l))
+
+  end-same : (x : ℕ) → suc (y * w + x) % w ≡ suc x % w
+  end-same x = ap (λ z. z % w) (let e : suc (y * w + x) ≡ y * w + suc x = omega arith in e) ∙ mul-add-mod-self-right y w (suc x)
+
+  before-same : (x : ℕ) → x < w → inkBefore w m (y * w + x) ≡ inkBefore w row x
+  unfolding inkBefore
+  before-same zero l = ap (inkBefore w m) (let e : y * w + 0 ≡ y * w = omega arith in e) ∙ inkBefore-row w m (y * w) (mul-mod-left y w)
+  before-same (suc x) l =
+      ap (inkBefore w m) (let e : y * w + suc x ≡ suc (y * w + x) = omega arith in e)
+      ∙ (ap (λ z. cond (eqb z 0) false (isInk m (y * w + x))) (end-same x) ∙ ap (λ t. cond (eqb (suc x % w) 0) false t) (ink-same x (omega arith)))
+
+  turns-from : (x : ℕ) → x ≤ w → turns w m (y * w + x) ≡ turns w m (y * w) ++ map (λ i. y * w + i) (turns w row x)
+  unfolding turns
+  turns-from zero l = ap (turns w m) (let e : y * w + 0 ≡ y * w = omega arith in e) ∙ sym (append-nil (turns w m (y * w)))
+  turns-from (suc x) l =
+      let b = y * w in
+      let A = turns w m b in
+      let L = turns w row x in
+      let i₁ = ink-same x l in
+      ap (turns w m) (let e : b + suc x ≡ suc (b + x) = omega arith in e)
+      ∙ (ap (λ t. appendIf (isInk m (b + x) && eqb (suc (b + x) % w) 0) (suc (b + x)) (appendIf (differ (inkBefore w m (b + x)) (isInk m (b + x))) (b + x) t)) (turns-from x (omega arith))
+      ∙ (ap (λ t. appendIf (isInk m (b + x) && eqb (suc (b + x) % w) 0) (suc (b + x)) (appendIf (differ t (isInk m (b + x))) (b + x) (A ++ map (λ i. b + i) L))) (before-same x l)
+      ∙ (ap (λ t. appendIf (t && eqb (suc (b + x) % w) 0) (suc (b + x)) (appendIf (differ (inkBefore w row x) t) (b + x) (A ++ map (λ i. b + i) L))) i₁
+      ∙ (ap (λ z. appendIf (isInk row x && eqb z 0) (suc (b + x)) (appendIf (differ (inkBefore w row x) (isInk row x)) (b + x) (A ++ map (λ i. b + i) L))) (end-same x)
+      ∙ (ap (appendIf (isInk row x && eqb (suc x % w) 0) (suc (b + x))) (append-map (differ (inkBefore w row x) (isInk row x)) b x A L)
+      ∙ (ap (λ z. appendIf (isInk row x && eqb (suc x % w) 0) z (A ++ map (λ i. b + i) (appendIf (differ (inkBefore w row x) (isInk row x)) x L))) (let e : suc (b + x) ≡ b + suc x = omega arith in e)
+      ∙ append-map (isInk row x && eqb (suc x % w) 0) b (suc x) A (appendIf (differ (inkBefore w row x) (isInk row x)) x L)))))))
+
+-- the rows before row y are read
+pub record PlaneScan (w h : ℕ) (m s₀ s : List ℕ) (k base y : ℕ) : Type 0 where
+  pub asks : PlaneRoom w h m s₀
+  pub len : length s ≡ length s₀
+  pub upto : y ≤ h
+  pub base-is : base ≡ y * w
+  pub words : take k s ≡ turns w m (y * w)
+  pub place : k ≡ length (turns w m (y * w))
+
+pub plane-none : {w h : ℕ} {m s : List ℕ} → PlaneRoom w h m s → PlaneScan w h m s s 0 0 0
+unfolding turns
+plane-none {w} {h} {m} {s} A =
+    let z : 0 * w ≡ 0 = omega arith in
+    record {
+      asks = A;
+      len = refl;
+      upto = omega arith;
+      base-is = sym z;
+      words = sym (ap (turns w m) z);
+      place = sym (ap (λ n. length (turns w m n)) z);
+    }
+
+module _ {w h : ℕ} {m s₀ s : List ℕ} {k base y : ℕ} (S : PlaneScan w h m s₀ s k base y) where
+  pub plane-inside : y < h → base + w ≤ length m
+  plane-inside l =
+      let e = S .base-is in
+      let n = S .asks .whole in
+      let c : w * h ≡ h * w = mul-comm w h in
+      let q : suc y * w ≤ h * w = mul-le-mul-right w l in
+      let r : suc y * w ≡ y * w + w = suc-mul y w in
+      omega arith
+
+  module _ (l : y < h) where
+    row-length : length (take (base + w - base) (drop base m)) ≡ w
+    row-length = let i = plane-inside l in let e : base + w - base ≡ w = omega arith in rw e (length-take-le w (drop base m) (simp length-drop (omega arith)))
+
+    pub plane-row : RowRoom (take (base + w - base) (drop base m)) base s k
+    plane-row =
+        let A = S .asks in
+        let e = row-length in
+        let i = plane-inside l in
+        let f = turns-fit w m (A .wide) y in
+        let r = A .room in
+        let q : suc y * ((w + 1) / 2) ≤ h * ((w + 1) / 2) = mul-le-mul-right ((w + 1) / 2) l in
+        let t : suc y * ((w + 1) / 2) ≡ y * ((w + 1) / 2) + (w + 1) / 2 = suc-mul y ((w + 1) / 2) in
+        let two : h * (2 * ((w + 1) / 2)) ≡ 2 * (h * ((w + 1) / 2)) = twice h ((w + 1) / 2) in
+        record {
+          some = let x = A .wide in omega arith;
+          dots = let d = A .dots in let n = A .whole in omega arith;
+          room = rw e (let p = S .place in let n = S .len in omega arith);
+        }
+      where
+        twice : (a b : ℕ) → a * (2 * b) ≡ 2 * (a * b)
+        twice a b = mul-left-comm a 2 b
+
+    pub plane-more : (s' : List ℕ) (r : ℕ) → RowExtracted (take (base + w - base) (drop base m)) base s s' k r → PlaneScan w h m s₀ s' r (base + w) (y + 1)
+    plane-more s' r X =
+        let row = take (base + w - base) (drop base m) in
+        let n : suc y * w ≡ y * w + w = suc-mul y w in
+        let b : base ≡ y * w = S .base-is in
+        let one : y * w + w ≡ (y + 1) * w = (let q : y * w + w ≡ suc y * w = omega arith in q) ∙ ap (λ z. z * w) (sym (add-one y)) in
+        let T : turns w m ((y + 1) * w) ≡ turns w m (y * w) ++ rowTurns row base =
+        ap (turns w m) (sym one)
+        ∙ (turns-from w m row y (S .asks .wide) at-row w (le-refl w)
+        ∙ (ap (λ z. turns w m (y * w) ++ map (λ i. z + i) (turns w row w)) (sym b)
+        ∙ ap (λ z. turns w m (y * w) ++ map (λ i. base + i) (turns z row z)) (sym row-length))) in
+        record {
+          asks = S .asks;
+          len = X .len ∙ S .len;
+          upto = omega arith;
+          base-is = (let q : base + w ≡ y * w + w = omega arith in q) ∙ one;
+          words = X .words ∙ (ap (λ z. z ++ rowTurns row base) (S .words) ∙ sym T);
+          place = X .upto ∙ ((ap (λ z. z + length (rowTurns row base)) (S .place) ∙ sym (length-append (turns w m (y * w)) (rowTurns row base))) ∙ ap length (sym T));
+        }
+      where
+        at-row : (x : ℕ) → x < w → getD (take (base + w - base) (drop base m)) x 0 ≡ getD m (y * w + x) 0
+        at-row x h = getD-take (base + w - base) (drop base m) x 0 (omega arith) ∙ (getD-drop base m x 0 ∙ ap (λ z. getD m (z + x) 0) (S .base-is))
+
+  pub plane-done : h ≤ y → Extracted w h m s₀ s (k / 2)
+  plane-done l =
+      let A = S .asks in
+      let e : y * w ≡ w * h = ap (λ z. z * w) (let u = S .upto in let q : y ≡ h = omega arith in q) ∙ mul-comm h w in
+      let t = turns-even w h m (A .wide) in
+      let p : k ≡ length (turns w m (w * h)) = S .place ∙ ap (λ z. length (turns w m z)) e in
+      let c : k / 2 ≡ runCount w m (w * h) = omega arith in
+      record {
+        len = S .len;
+        count = c;
+        runs = ap (λ z. take z s) (let q : 2 * (k / 2) ≡ k = omega arith in q) ∙ (S .words ∙ ap (turns w m) e);
+      }

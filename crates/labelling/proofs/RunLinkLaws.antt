@@ -1,0 +1,456 @@
+-- Runs linked row by row: which runs need no look, and what each step of the sweep keeps.
+use mathlib.Core.Path.{_≡_, refl, sym, ap, _∙_, subst}
+use mathlib.Core.List.{List, [], _++_}
+use mathlib.Core.Bool.{Bool, true, false, _&&_}
+use Prim.Native.Nat.{ℕ, zero, suc, _+_, _-_, _*_, _/_, _≤_, _<_}
+use native.Mathlib.Nat.{le-refl, not-suc-le-zero, suc-mul, mul-le-mul-right, div-add-mod', mul-add-div-right, div-eq-of-lt}
+use native.Mathlib.Numerals.{add-one}
+use native.Mathlib.Decide.{ℕ-discrete, decLt}
+use native.Mathlib.Omega.{arith}
+use borrow.Author.Tests.{le-leb, lt-leb, eq-eqb, ne-eqb}
+use lib.ListN.{getD, length, set, take, drop, length-append, length-take, length-drop, length-set}
+use lib.Seq.{getD-take, take-at, drop-at, length-take-le, take-set-le, drop-set-add}
+use lib.Dec.{eqb, leb}
+use Rattle.memory.specs.Limits.{maxMaskSide}
+use Rattle.labelling.specs.InkRuns.{startOf, endOf, touchRuns}
+use Rattle.labelling.specs.Forests.{Seen, Forest, United, joinF}
+use Rattle.labelling.specs.Linking.{touching, Order, RunList, Kept, Linked, Joining, Under, Linkable, Joinable, Skipped, LinkedOne, RowLinkable, LinkedTo, RowEnd, AllLinked, firstRun}
+use Rattle.labelling.proofs.LinkLaws.{seen-none, seen-skip, seen-join, seen-next, seen-all}
+use Rattle.labelling.proofs.TouchLaws.{row-rise}
+use Rattle.labelling.proofs.TransferLaws.{named-firsts}
+use Rattle.labelling.proofs.ParentLaws.{forest-new}
+
+and-off : (x : Bool) → (x && false) ≡ false
+and-off true = refl
+and-off false = refl
+
+module _ (w c : ℕ) (t : List ℕ) (o : Order c t) where
+  pub starts-up : (j k : ℕ) → j ≤ k → k < c → startOf t j ≤ startOf t k
+  starts-up j k l lk = go (ℕ-discrete j k)
+    where
+      go : Dec (j ≡ k) → startOf t j ≤ startOf t k
+      go (yes e) = rw e (le-refl (startOf t k))
+      go (no ne) = let h = o .some j (omega arith) in let h₂ = o .rising j k (omega arith) lk in omega arith
+
+  pub ends-up : (j k : ℕ) → j ≤ k → k < c → endOf t 0 j ≤ endOf t 0 k
+  ends-up j k l lk = go (ℕ-discrete j k)
+    where
+      go : Dec (j ≡ k) → endOf t 0 j ≤ endOf t 0 k
+      go (yes e) = rw e (le-refl (endOf t 0 k))
+      go (no ne) = let h = o .rising j k (omega arith) lk in let s = o .some k lk in omega arith
+
+  -- run b ends left of run j's columns, widened: no run up to b touches j or a later one
+  pub skip-left : (a b j k : ℕ) → a ≤ b → b < c → j ≤ k → k < c → endOf t 0 b + w < startOf t j → touching w t a k ≡ false
+  unfolding touchRuns
+  skip-left a b j k l₁ lb l₂ lk h =
+      rw (lt-leb (startOf t k) (endOf t 0 a + w) (let s = starts-up j k l₂ lk in let e = ends-up a b l₁ lb in omega arith))
+      (and-off (eqb (startOf t a / w + 1) (startOf t k / w) && leb (startOf t a + w) (endOf t 0 k)))
+
+  -- run a starts right of run j's columns, widened: no run from a on touches j
+  pub stop-right : (a b j : ℕ) → a ≤ b → b < c → endOf t 0 j < startOf t a + w → touching w t b j ≡ false
+  unfolding touchRuns
+  stop-right a b j l lb h =
+      rw (lt-leb (startOf t b + w) (endOf t 0 j) (let s = starts-up a b l lb in omega arith))
+      (off (eqb (startOf t b / w + 1) (startOf t j / w)) (leb (startOf t j) (endOf t 0 b + w)))
+    where
+      off : (x y : Bool) → (x && false && y) ≡ false
+      off true y = refl
+      off false y = refl
+
+pub other-row : (w : ℕ) (t : List ℕ) (a j : ℕ) → (startOf t a / w + 1 ≡ startOf t j / w → ⊥) → touching w t a j ≡ false
+unfolding touchRuns
+other-row w t a j ne = rw (ne-eqb (startOf t a / w + 1) (startOf t j / w) ne) refl
+
+pub touch-sure : (w : ℕ) (t : List ℕ) (a j : ℕ) → startOf t a / w + 1 ≡ startOf t j / w → startOf t a + w ≤ endOf t 0 j → startOf t j ≤ endOf t 0 a + w → touching w t a j ≡ true
+unfolding touchRuns
+touch-sure w t a j e l₁ l₂ =
+    rw (eq-eqb (startOf t a / w + 1) (startOf t j / w) e, le-leb (startOf t a + w) (endOf t 0 j) l₁, le-leb (startOf t j) (endOf t 0 a + w) l₂) refl
+
+-- The words of a run list
+
+pub kept-none : (c : ℕ) (s : List ℕ) → Kept c s s
+kept-none c s = record { len = refl; runs = refl }
+
+pub kept-trans : {c : ℕ} {s s' s'' : List ℕ} → Kept c s s' → Kept c s' s'' → Kept c s s''
+kept-trans k l = record { len = l .len ∙ k .len; runs = l .runs ∙ k .runs }
+
+-- a word of the runs, as it was
+pub kept-word : {c : ℕ} {s s' : List ℕ} → Kept c s s' → (i : ℕ) → i < 2 * c → getD s' i 0 ≡ getD (take (2 * c) s) i 0
+kept-word {c} {s} {s'} k i l = sym (getD-take (2 * c) s' i 0 l) ∙ ap (λ z. getD z i 0) (k .runs)
+
+pub kept-list : {w c : ℕ} {s s' : List ℕ} → Kept c s s' → RunList w c s → RunList w c s'
+kept-list {w} {c} k R = record { wide = R .wide; narrow = R .narrow; few = R .few; room = let e = k .len in let h = R .room in omega arith; order = subst (Order c) (sym (k .runs)) (R .order) }
+
+module _ {w c : ℕ} {s : List ℕ} (R : RunList w c s) where
+  front-length : length (take (2 * c) s) ≡ 2 * c
+  front-length = length-take-le (2 * c) s (let h = R .room in omega arith)
+
+  pub parents-long : (i : ℕ) → i < c → i < length (drop (2 * c) s)
+  parents-long i l = simp length-drop (let h = R .room in omega arith)
+
+  -- other parents
+  pub kept-parents : (p : List ℕ) → length p ≡ length (drop (2 * c) s) → Kept c s (take (2 * c) s ++ p)
+  kept-parents p e =
+      record {
+        len = length-append (take (2 * c) s) p ∙ (let a = front-length in let b = length-drop (2 * c) s in let h = R .room in omega arith);
+        runs = take-at (take (2 * c) s) p (2 * c) front-length;
+      }
+
+  pub new-parents : (p : List ℕ) → drop (2 * c) (take (2 * c) s ++ p) ≡ p
+  new-parents p = drop-at (take (2 * c) s) p (2 * c) front-length
+
+-- The sweep over the runs above run j: those below k are passed
+
+pub record Sweep (w c : ℕ) (s₀ s : List ℕ) (first to j k root : ℕ) : Type 0 where
+  pub list : RunList w c s₀
+  pub under : Under w c (take (2 * c) s₀) first to j
+  pub reach : first < to → startOf (take (2 * c) s₀) j ≤ endOf (take (2 * c) s₀) 0 first + w
+  pub kept : Kept c s₀ s
+  pub from : first ≤ k
+  pub upto : k ≤ to
+  pub joining : Joining w c (take (2 * c) s₀) (drop (2 * c) s) j k root
+
+module _ {w c first to j : ℕ} {s₀ s : List ℕ} {k root : ℕ} (S : Sweep w c s₀ s first to j k root) where
+  sweep-low : root ≤ j
+  sweep-low = let e = S .joining .own in let h = S .joining .seen .low j in omega arith
+
+  -- what `unite` asks
+  pub sweep-asks : k < to → (k < length (drop (2 * c) s)) × (root < length (drop (2 * c) s)) × (k < 4294967296) × (root < 4294967296) × ((i : ℕ) → i ≤ k → getD (drop (2 * c) s) i 0 ≤ i)
+  sweep-asks l =
+      let u₁ = S .under .mid in
+      let u₂ = S .under .high in
+      let h = sweep-low in
+      let f = S .list .few in
+      let L = kept-list (S .kept) (S .list) in
+      (parents-long L k (omega arith), parents-long L root (omega arith), omega arith, omega arith, λ i q. S .joining .forest .down i (omega arith))
+
+  pub sweep-more : k < to → startOf (take (2 * c) s₀) k + w ≤ endOf (take (2 * c) s₀) 0 j → (p : List ℕ) (r : ℕ) → United (drop (2 * c) s) p root k r
+      → Sweep w c s₀ (take (2 * c) s ++ p) first to j (k + 1) r
+  sweep-more l t p r U =
+      let u₁ = S .under .mid in
+      let u₂ = S .under .high in
+      let fr = S .from in
+      let L = kept-list (S .kept) (S .list) in
+      let t₀ = take (2 * c) s₀ in
+      let J = S .joining in
+      let lo = sweep-low in
+      let e₁ = S .reach (omega arith) in
+      let e₂ = ends-up w c t₀ (S .list .order) first k (S .from) (omega arith) in
+      let touch : touching w t₀ k j ≡ true = touch-sure w t₀ k j (S .under .above k (S .from) l) t (omega arith) in
+      let n : suc j ≤ length (drop (2 * c) s) = parents-long L j u₂ in
+      let F = U .joined (J .rep) (suc j) j (omega arith) (omega arith) n (J .seen .low) (J .seen .idem) (J .own) (J .forest) in
+      record {
+        list = S .list;
+        under = S .under;
+        reach = S .reach;
+        kept = kept-trans (S .kept) (kept-parents L p (U .len));
+        from = omega arith;
+        upto = omega arith;
+        joining =
+            record {
+              rep = joinF (J .rep) k j;
+              seen = rw (add-one k) (seen-join (touching w t₀) c (J .rep) j k (omega arith) u₂ touch (J .seen));
+              forest = rw (new-parents L p) (F .0);
+              own = sym (F .1);
+            };
+      }
+
+  -- run j touches none of those left
+  sweep-done : ((a : ℕ) → k ≤ a → a < j → touching w (take (2 * c) s₀) a j ≡ false) → LinkedTo w c s₀ s (suc j)
+  sweep-done h =
+      let u₁ = S .under .mid in
+      let u₂ = S .upto in
+      let J = S .joining in
+      record {
+        kept = S .kept;
+        linked =
+            record {
+              rep = J .rep;
+              seen = seen-next (touching w (take (2 * c) s₀)) c (J .rep) j (seen-skip (touching w (take (2 * c) s₀)) c (J .rep) j k j (omega arith) (J .seen) (λ a l₁ l₂ l₃. h a l₁ l₂));
+              forest = J .forest;
+            };
+      }
+
+  pub sweep-stop : endOf (take (2 * c) s₀) 0 j < startOf (take (2 * c) s₀) k + w → LinkedTo w c s₀ s (suc j)
+  sweep-stop h = sweep-done (λ a l₁ l₂. let u = S .under .high in stop-right w c (take (2 * c) s₀) (S .list .order) k a j l₁ (omega arith) h)
+
+  pub sweep-end : to ≤ k → LinkedTo w c s₀ s (suc j)
+  sweep-end h = sweep-done (λ a l₁ l₂. S .under .beside a (omega arith) l₂)
+
+-- One run
+
+module _ {w c i to j : ℕ} {s : List ℕ} (A : Linkable w c s i to j) where
+  own-kept : Kept c s (set s (2 * c + j) j)
+  own-kept = record { len = length-set s (2 * c + j) j; runs = take-set-le (2 * c) s (2 * c + j) j (omega arith) }
+
+  module _ (first start : ℕ) (K : Skipped w i to start (set s (2 * c + j) j) first) (e : start ≡ getD (set s (2 * c + j) j) (2 * j) 0) where
+    start-is : start ≡ startOf (take (2 * c) s) j
+    start-is = e ∙ kept-word own-kept (2 * j) (let h = A .under .high in omega arith)
+
+    passed : (a k : ℕ) → a < first → j ≤ k → k < c → touching w (take (2 * c) s) a k ≡ false
+    passed a k l l₂ l₃ = go (decLt a i)
+      where
+        go : Dec (a < i) → touching w (take (2 * c) s) a k ≡ false
+        go (yes q) = A .under .left a k q l₂ l₃
+        go (no q) =
+            let u = K .upto in
+            let v = A .under .mid in
+            let h = K .left a (omega arith) l in
+            let x = kept-word own-kept (2 * a + 1) (omega arith) in
+            let y = start-is in
+            skip-left w c (take (2 * c) s) (A .list .order) a a j k (le-refl a) (omega arith) l₂ l₃ (omega arith)
+
+    under-first : Under w c (take (2 * c) s) first to j
+    under-first =
+        record {
+          low = K .upto;
+          mid = A .under .mid;
+          high = A .under .high;
+          left = passed;
+          above = λ a l. let h = K .from in A .under .above a (omega arith);
+          beside = A .under .beside;
+        }
+
+    pub one-joinable : Joinable w c (set s (2 * c + j) j) first to j
+    one-joinable =
+        let t = take (2 * c) s in
+        let q = own-kept .runs in
+        let h = A .under .high in
+        let L = A .linked in
+        record {
+          list = kept-list own-kept (A .list);
+          under = rw q under-first;
+          reach = rw q (λ l. let u = A .under .mid in let x = K .here l in let y = start-is in let z = kept-word own-kept (2 * first + 1) (omega arith) in omega arith);
+          joining =
+              rw (q, drop-set-add (2 * c) s j j)
+              (record {
+                rep = L .rep;
+                seen = seen-skip (touching w t) c (L .rep) j 0 first (omega arith) (L .seen) (λ a l₁ l₂ l₃. passed a j l₂ (le-refl j) h);
+                forest = forest-new (L .rep) (drop (2 * c) s) j (L .forest) (L .seen .own refl) (parents-long (A .list) j h);
+                own = L .seen .own refl;
+              });
+        }
+
+    pub one-linked : (s' : List ℕ) → LinkedTo w c (set s (2 * c + j) j) s' (suc j) → LinkedOne w c s s' i to j first
+    one-linked s' l =
+        record {
+          kept = kept-trans own-kept (l .kept);
+          from = K .from;
+          upto = K .upto;
+          left = passed;
+          linked = subst (λ t. Linked w c t (drop (2 * c) s') (suc j)) (own-kept .runs) (l .linked);
+        }
+
+-- One row: the runs below j are linked, and those before i touch none from j on
+
+pub record RowSweep (w c : ℕ) (s₀ s : List ℕ) (above here next i j : ℕ) : Type 0 where
+  pub asks : RowLinkable w c s₀ above here next
+  pub kept : Kept c s₀ s
+  pub from : here ≤ j
+  pub upto : j ≤ next
+  pub low : above ≤ i
+  pub high : i ≤ here
+  pub left : (a k : ℕ) → a < i → j ≤ k → k < c → touching w (take (2 * c) s₀) a k ≡ false
+  pub linked : Linked w c (take (2 * c) s₀) (drop (2 * c) s) j
+
+pub row-none : {w c : ℕ} {s : List ℕ} {above here next : ℕ} → RowLinkable w c s above here next → RowSweep w c s s above here next above here
+row-none {w} {c} {s} {above} {here} {next} A =
+    record {
+      asks = A;
+      kept = kept-none c s;
+      from = le-refl here;
+      upto = A .rows .mid;
+      low = le-refl above;
+      high = A .rows .low;
+      left = A .rows .far;
+      linked = A .linked;
+    }
+
+module _ {w c : ℕ} {s₀ s : List ℕ} {above here next i j : ℕ} (S : RowSweep w c s₀ s above here next i j) where
+  pub row-linkable : j < next → Linkable w c s i here j
+  row-linkable l =
+      let R = S .asks .rows in
+      record {
+        list = kept-list (S .kept) (S .asks .list);
+        under =
+            rw (S .kept .runs)
+            (record {
+              low = S .high;
+              mid = S .from;
+              high = let h = R .high in omega arith;
+              left = S .left;
+              above = λ a l₁ l₂. let h = S .low in R .rows a j (omega arith) l₂ (S .from) l;
+              beside = λ a l₁ l₂. R .beside a j l₁ l₂ l;
+            });
+        linked = rw (S .kept .runs) (S .linked);
+      }
+
+  pub row-more : j < next → (s' : List ℕ) (r : ℕ) → LinkedOne w c s s' i here j r → RowSweep w c s₀ s' above here next r (j + 1)
+  row-more l s' r L =
+      let h₁ = S .from in
+      let h₂ = S .low in
+      let h₃ = L .from in
+      record {
+        asks = S .asks;
+        kept = kept-trans (S .kept) (L .kept);
+        from = omega arith;
+        upto = omega arith;
+        low = omega arith;
+        high = L .upto;
+        left = λ a k l₁ l₂ l₃. subst (λ t. touching w t a k ≡ false) (S .kept .runs) (L .left a k l₁ (omega arith) l₃);
+        linked = rw (add-one j) (subst (λ t. Linked w c t (drop (2 * c) s') (suc j)) (S .kept .runs) (L .linked));
+      }
+
+  pub row-done : next ≤ j → LinkedTo w c s₀ s next
+  row-done l = record { kept = S .kept; linked = subst (Linked w c (take (2 * c) s₀) (drop (2 * c) s)) (let h = S .upto in let e : j ≡ next = omega arith in e) (S .linked) }
+
+-- All rows: those before row y are linked, which starts at dot `base`
+
+pub row-at : (w base y s : ℕ) → 0 < w → base ≡ y * w → base ≤ s → s < base + w → s / w ≡ y
+row-at w base y s hw e l₁ l₂ =
+    let q : s ≡ y * w + (s - base) = omega arith in
+    let z : (s - base) / w ≡ 0 = div-eq-of-lt (let h : s - base < w = omega arith in h) in
+    ap (λ n. n / w) q ∙ (mul-add-div-right hw y (s - base) ∙ (let x : y + (s - base) / w ≡ y = omega arith in x))
+
+row-above : (w base y s : ℕ) → 0 < w → base ≡ y * w → base ≤ s + w → s < base → s / w + 1 ≡ y
+row-above w base zero s hw e l₁ l₂ = absurd (let z : zero * w ≡ 0 = omega arith in omega arith)
+row-above w base (suc y) s hw e l₁ l₂ =
+    let m : suc y * w ≡ y * w + w = suc-mul y w in
+    let q : s / w ≡ y = row-at w (y * w) y s hw refl (omega arith) (omega arith) in
+    omega arith
+
+row-far : (w base y a j : ℕ) → 0 < w → base ≡ y * w → a + w < base → base ≤ j → a / w + 1 ≡ j / w → ⊥
+row-far w base y a j hw e l₁ l₂ q =
+    let r : y * w / w ≤ j / w = row-rise w [] hw (y * w) j (omega arith) in
+    let r₂ : y * w / w ≡ y = row-at w (y * w) y (y * w) hw refl (le-refl _) (omega arith) in
+    let h : y * w ≤ j / w * w = mul-le-mul-right w (let x : y ≤ j / w = omega arith in x) in
+    let z : suc (a / w) ≡ j / w = omega arith in
+    let m : suc (a / w) * w ≡ a / w * w + w = suc-mul (a / w) w in
+    let n : suc (a / w) * w ≡ j / w * w = ap (λ k. k * w) z in
+    let d = div-add-mod' a w in
+    omega arith
+
+pub record PlaneSweep (w c h : ℕ) (s₀ s : List ℕ) (above here base y : ℕ) : Type 0 where
+  pub list : RunList w c s₀
+  pub tall : h ≤ maxMaskSide
+  pub inside : (k : ℕ) → k < c → startOf (take (2 * c) s₀) k < h * w
+  pub kept : Kept c s₀ s
+  pub base-is : base ≡ y * w
+  pub upto : y ≤ h
+  pub low : above ≤ here
+  pub high : here ≤ c
+  pub far : (a : ℕ) → a < above → startOf (take (2 * c) s₀) a + w < base
+  pub row-low : (a : ℕ) → above ≤ a → a < here → base ≤ startOf (take (2 * c) s₀) a + w
+  pub row-high : (a : ℕ) → a < here → startOf (take (2 * c) s₀) a < base
+  pub rest : (a : ℕ) → here ≤ a → a < c → base ≤ startOf (take (2 * c) s₀) a
+  pub linked : Linked w c (take (2 * c) s₀) (drop (2 * c) s) here
+
+pub plane-none : (w c h : ℕ) (s : List ℕ) → RunList w c s → h ≤ maxMaskSide → ((k : ℕ) → k < c → startOf s k < h * w) → PlaneSweep w c h s s 0 0 0 0
+plane-none w c h s R th ins =
+    record {
+      list = R;
+      tall = th;
+      inside = λ k l. let e = getD-take (2 * c) s (2 * k) 0 (omega arith) in let g = ins k l in omega arith;
+      kept = kept-none c s;
+      base-is = let z : 0 ≡ 0 * w = omega arith in z;
+      upto = omega arith;
+      low = le-refl 0;
+      high = omega arith;
+      far = λ a l. absurd (not-suc-le-zero l);
+      row-low = λ a l l₂. absurd (not-suc-le-zero l₂);
+      row-high = λ a l. absurd (not-suc-le-zero l);
+      rest = λ a l l₂. omega arith;
+      linked = record { rep = λ k. k; seen = seen-none (touching w (take (2 * c) s)) c; forest = record { down = λ j l. absurd (not-suc-le-zero l); same = λ j l. absurd (not-suc-le-zero l); root = λ j l. absurd (not-suc-le-zero l) } };
+    }
+
+module _ {w c h : ℕ} {s₀ s : List ℕ} {above here base y : ℕ} (S : PlaneSweep w c h s₀ s above here base y) where
+  hw : 0 < w
+  hw = S .list .wide
+
+  pub plane-small : base ≤ maxMaskSide * maxMaskSide
+  plane-small =
+      let e = S .base-is in
+      let u = S .upto in
+      let t = S .tall in
+      let n = S .list .narrow in
+      let h : y * w ≤ maxMaskSide * w = mul-le-mul-right w (let x : y ≤ maxMaskSide = omega arith in x) in
+      omega arith
+
+  module _ (next : ℕ) (E : RowEnd c here (base + w) s next) where
+    start-is-now : (a : ℕ) → a < c → startOf s a ≡ startOf (take (2 * c) s₀) a
+    start-is-now a l = kept-word (S .kept) (2 * a) (omega arith)
+
+    row-of-next : (a : ℕ) → here ≤ a → a < next → startOf (take (2 * c) s₀) a / w ≡ y
+    row-of-next a l₁ l₂ =
+        let u = E .upto in
+        let e = start-is-now a (omega arith) in
+        let i = E .inside a l₁ l₂ in
+        row-at w base y (startOf (take (2 * c) s₀) a) hw (S .base-is) (S .rest a l₁ (omega arith)) (omega arith)
+
+    pub plane-linkable : RowLinkable w c s above here next
+    plane-linkable =
+        record {
+          list = kept-list (S .kept) (S .list);
+          rows =
+              rw (S .kept .runs)
+              (record {
+                low = S .low;
+                mid = E .from;
+                high = E .upto;
+                far = λ a j l₁ l₂ l₃. other-row w (take (2 * c) s₀) a j (row-far w base y _ _ hw (S .base-is) (S .far a l₁) (S .rest j l₂ l₃));
+                rows = λ a j l₁ l₂ l₃ l₄. row-above w base y _ hw (S .base-is) (S .row-low a l₁ l₂) (S .row-high a l₂) ∙ sym (row-of-next j l₃ l₄);
+                beside = λ a j l₁ l₂ l₃.
+                    let p = row-of-next a l₁ (omega arith) in
+                    let q = row-of-next j (omega arith) l₃ in
+                    other-row w (take (2 * c) s₀) a j (λ e. omega arith);
+              });
+          linked = rw (S .kept .runs) (S .linked);
+        }
+
+    pub plane-more : y < h → (s' : List ℕ) → LinkedTo w c s s' next → PlaneSweep w c h s₀ s' here next (base + w) (y + 1)
+    plane-more l s' L =
+        let u = E .upto in
+        let f = E .from in
+        record {
+          list = S .list;
+          tall = S .tall;
+          inside = S .inside;
+          kept = kept-trans (S .kept) (L .kept);
+          base-is = let e = S .base-is in let m : suc y * w ≡ y * w + w = suc-mul y w in (let q : base + w ≡ suc y * w = omega arith in q) ∙ ap (λ z. z * w) (sym (add-one y));
+          upto = omega arith;
+          low = f;
+          high = u;
+          far = λ a l₁. let q = S .row-high a l₁ in omega arith;
+          row-low = λ a l₁ l₂. let q = S .rest a l₁ (omega arith) in omega arith;
+          row-high = λ a l₁. high-row a l₁ (decLt a here);
+          rest = λ a l₁ l₂. let e = start-is-now next (omega arith) in let g = E .past (omega arith) in let q = starts-up w c (take (2 * c) s₀) (S .list .order) next a l₁ l₂ in omega arith;
+          linked = subst (λ t. Linked w c t (drop (2 * c) s') next) (S .kept .runs) (L .linked);
+        }
+      where
+        high-row : (a : ℕ) → a < next → Dec (a < here) → startOf (take (2 * c) s₀) a < base + w
+        high-row a l₁ (yes q) = let z = S .row-high a q in omega arith
+        high-row a l₁ (no q) = let u = E .upto in let e = start-is-now a (omega arith) in let i = E .inside a (omega arith) l₁ in omega arith
+
+  pub plane-done : h ≤ y → AllLinked w c s₀ s
+  plane-done l = record { kept = S .kept; forest = forest-firsts (all (decLt here c)) }
+    where
+      all : Dec (here < c) → Linked w c (take (2 * c) s₀) (drop (2 * c) s) c
+      all (yes q) =
+          let a = S .rest here (le-refl here) q in
+          let b = S .inside here q in
+          let e = S .base-is in
+          let u = S .upto in
+          let z : h * w ≡ y * w = ap (λ k. k * w) (let x : h ≡ y = omega arith in x) in
+          absurd (omega arith)
+      all (no q) = subst (Linked w c (take (2 * c) s₀) (drop (2 * c) s)) (let u = S .high in let x : here ≡ c = omega arith in x) (S .linked)
+
+      forest-firsts : Linked w c (take (2 * c) s₀) (drop (2 * c) s) c → Forest (firstRun w c (take (2 * c) s₀)) (drop (2 * c) s) c
+      forest-firsts L =
+          let r = touching w (take (2 * c) s₀) in
+          let e = named-firsts r c (L .rep) (seen-all r c (L .rep) (L .seen)) in
+          let F = L .forest in
+          record {
+            down = F .down;
+            same = λ j lj. let d = F .down j lj in sym (e (getD (drop (2 * c) s) j 0) (omega arith)) ∙ (F .same j lj ∙ e j lj);
+            root = λ j lj q. sym (e j lj) ∙ F .root j lj q;
+          }

@@ -1,0 +1,60 @@
+use borrow.Author.Needs.{needs}
+use native.Mathlib.Omega.{arith}
+use Prim.Native.Nat.{_-_}
+use lib.ListN.{length-set}
+use Rattle.labelling.proofs.RunLinkLaws.{PlaneSweep, plane-none, plane-linkable, plane-small, plane-more, plane-done}
+use Rattle.labelling.proofs.link.link.Statement.{statement}
+use Rattle.labelling.proofs.link.link.Tie as tie
+
+abbrev Inv-loop : tie.InvT-loop
+Inv-loop words₀ c w h above₀ here₀ base₀ y₀ words above here base y = PlaneSweep w c h words₀ words above here base y
+
+abbrev μ-loop : tie.MeasureT-loop
+μ-loop words₀ c w h above₀ here₀ base₀ y₀ words above here base y = h - y
+
+loop-holds : tie.Need-loop-holds Inv-loop μ-loop
+loop-holds c = plane-none _ _ _ _ ((c .before) .pre .0) ((c .before) .pre .1) ((c .before) .pre .2)
+
+add-row-end : tie.Need-add-row-end Inv-loop μ-loop
+add-row-end c = let h = plane-small ((c .before .before .loop) .inv) in omega (arith, (c .before .before .before .before) .pre .0 .narrow)
+
+row-end-requires : tie.Need-row-end-requires Inv-loop μ-loop
+row-end-requires c κs = search needs
+
+link-row-requires : tie.Need-link-row-requires Inv-loop μ-loop
+link-row-requires c κs = plane-linkable ((c .before .before .before .before .loop) .inv) ((c .before .row-end) .result) ((c .before .row-end) .ensures)
+
+add-base : tie.Need-add-base Inv-loop μ-loop
+add-base c = let h = plane-small ((c .before .before .before .before .before .before .before .loop) .inv) in omega (arith, (c .before .before .before .before .before .before .before .before .before) .pre .0 .narrow)
+
+add-y : tie.Need-add-y Inv-loop μ-loop
+add-y c = search needs
+
+loop-less : tie.Need-loop-less Inv-loop μ-loop
+loop-less c = search needs
+
+loop-again : tie.Need-loop-again Inv-loop μ-loop
+loop-again c = plane-more ((c .before .before .before .before .before .before .before .loop) .inv) ((c .before .before .before .before .row-end) .result) ((c .before .before .before .before .row-end) .ensures) ((c .before .before .before .before .before .before .loop-test) .taken) ((c .before .before .link-row) .last .0) ((c .before .before .link-row) .ensures)
+
+same-length : tie.Need-same-length Inv-loop μ-loop
+same-length c = (c .before .loop) .inv .kept .len
+
+returns : tie.Need-returns Inv-loop μ-loop
+returns c = plane-done ((c .before .loop) .inv) ((c .loop-test) .left)
+
+pub link-spec : {M : Type 1} → statement M
+link-spec =
+    tie.close
+    (tie.spec
+    Inv-loop
+    μ-loop
+    loop-holds
+    add-row-end
+    row-end-requires
+    link-row-requires
+    add-base
+    add-y
+    loop-less
+    loop-again
+    same-length
+    returns)

@@ -1,0 +1,118 @@
+-- What linking keeps. A run list of c runs in the words s: the turns `take (2 * c) s`, then the parents `drop (2 * c) s`.
+use mathlib.Core.Path.{_≡_}
+use mathlib.Core.Bool.{Bool, false}
+use mathlib.Core.List.{List}
+use Prim.Native.Nat.{ℕ, suc, _+_, _*_, _/_, _≤_, _<_}
+use lib.ListN.{getD, length, take, drop}
+use Rattle.memory.specs.Limits.{maxMaskSide, maxMaskDots}
+use Rattle.labelling.specs.Classes.{firstOf, firsts}
+use Rattle.labelling.specs.Forests.{Seen, Forest}
+use Rattle.labelling.specs.InkRuns.{startOf, endOf, touchRuns}
+
+-- which runs of the turns t touch, in rows w wide
+abbrev pub touching : ℕ → List ℕ → ℕ → ℕ → Bool
+touching w t = touchRuns w (startOf t) (endOf t 0)
+
+-- the first run of the component of run k
+abbrev pub firstRun : ℕ → ℕ → List ℕ → ℕ → ℕ
+firstRun w c t = firstOf (firsts (touching w t) c)
+
+-- c runs one after the other
+pub record Order (c : ℕ) (t : List ℕ) : Type 0 where
+  pub some : (k : ℕ) → k < c → startOf t k < endOf t 0 k
+  pub rising : (j k : ℕ) → j < k → k < c → endOf t 0 j ≤ startOf t k
+
+-- a run list within the limits, with room for its parents
+pub record RunList (w c : ℕ) (s : List ℕ) : Type 0 where
+  pub wide : 0 < w
+  pub narrow : w ≤ maxMaskSide
+  pub few : c ≤ maxMaskDots
+  pub room : 3 * c ≤ length s
+  pub order : Order c (take (2 * c) s)
+
+-- the parents have changed and nothing else
+pub record Kept (c : ℕ) (s s' : List ℕ) : Type 0 where
+  pub len : length s' ≡ length s
+  pub runs : take (2 * c) s' ≡ take (2 * c) s
+
+-- the runs below j have parents, and are joined with those that they touch
+pub record Linked (w c : ℕ) (t p : List ℕ) (j : ℕ) : Type 0 where
+  pub rep : ℕ → ℕ
+  pub seen : Seen (touching w t) c rep j 0
+  pub forest : Forest rep p j
+
+-- run j has met those below k, and `root` is its root
+pub record Joining (w c : ℕ) (t p : List ℕ) (j k root : ℕ) : Type 0 where
+  pub rep : ℕ → ℕ
+  pub seen : Seen (touching w t) c rep j k
+  pub forest : Forest rep p (suc j)
+  pub own : rep j ≡ root
+
+-- run j stands under the runs from i up to `to`, and touches no other before it; those before i touch none from j on
+pub record Under (w c : ℕ) (t : List ℕ) (i to j : ℕ) : Type 0 where
+  pub low : i ≤ to
+  pub mid : to ≤ j
+  pub high : j < c
+  pub left : (a k : ℕ) → a < i → j ≤ k → k < c → touching w t a k ≡ false
+  pub above : (a : ℕ) → i ≤ a → a < to → startOf t a / w + 1 ≡ startOf t j / w
+  pub beside : (a : ℕ) → to ≤ a → a < j → touching w t a j ≡ false
+
+-- what linking run j asks
+pub record Linkable (w c : ℕ) (s : List ℕ) (i to j : ℕ) : Type 0 where
+  pub list : RunList w c s
+  pub under : Under w c (take (2 * c) s) i to j
+  pub linked : Linked w c (take (2 * c) s) (drop (2 * c) s) j
+
+-- what joining run j, its own parent so far, asks: the runs before `first` are passed, and it ends far enough right
+pub record Joinable (w c : ℕ) (s : List ℕ) (first to j : ℕ) : Type 0 where
+  pub list : RunList w c s
+  pub under : Under w c (take (2 * c) s) first to j
+  pub reach : first < to → startOf (take (2 * c) s) j ≤ endOf (take (2 * c) s) 0 first + w
+  pub joining : Joining w c (take (2 * c) s) (drop (2 * c) s) j first j
+
+-- r is the first run, from i up to `to`, that does not end left of the dot `start` in the row below
+pub record Skipped (w i to start : ℕ) (t : List ℕ) (r : ℕ) : Type 0 where
+  pub from : i ≤ r
+  pub upto : r ≤ to
+  pub left : (a : ℕ) → i ≤ a → a < r → endOf t 0 a + w < start
+  pub here : r < to → start ≤ endOf t 0 r + w
+
+-- run j is linked too, and the runs before r touch none from j on
+pub record LinkedOne (w c : ℕ) (s s' : List ℕ) (i to j r : ℕ) : Type 0 where
+  pub kept : Kept c s s'
+  pub from : i ≤ r
+  pub upto : r ≤ to
+  pub left : (a k : ℕ) → a < r → j ≤ k → k < c → touching w (take (2 * c) s) a k ≡ false
+  pub linked : Linked w c (take (2 * c) s) (drop (2 * c) s') (suc j)
+
+-- the runs of a row stand from `here` up to `next`, those of the row above from `above` up to `here`
+pub record Rows (w c : ℕ) (t : List ℕ) (above here next : ℕ) : Type 0 where
+  pub low : above ≤ here
+  pub mid : here ≤ next
+  pub high : next ≤ c
+  pub far : (a j : ℕ) → a < above → here ≤ j → j < c → touching w t a j ≡ false
+  pub rows : (a j : ℕ) → above ≤ a → a < here → here ≤ j → j < next → startOf t a / w + 1 ≡ startOf t j / w
+  pub beside : (a j : ℕ) → here ≤ a → a < j → j < next → touching w t a j ≡ false
+
+-- what linking a row asks
+pub record RowLinkable (w c : ℕ) (s : List ℕ) (above here next : ℕ) : Type 0 where
+  pub list : RunList w c s
+  pub rows : Rows w c (take (2 * c) s) above here next
+  pub linked : Linked w c (take (2 * c) s) (drop (2 * c) s) here
+
+-- the runs below j are linked
+pub record LinkedTo (w c : ℕ) (s s' : List ℕ) (j : ℕ) : Type 0 where
+  pub kept : Kept c s s'
+  pub linked : Linked w c (take (2 * c) s) (drop (2 * c) s') j
+
+-- r is the first run, from k on, that starts at dot `limit` or later
+pub record RowEnd (c k limit : ℕ) (t : List ℕ) (r : ℕ) : Type 0 where
+  pub from : k ≤ r
+  pub upto : r ≤ c
+  pub inside : (a : ℕ) → k ≤ a → a < r → startOf t a < limit
+  pub past : r < c → limit ≤ startOf t r
+
+-- each run's parents lead to the first run of its component
+pub record AllLinked (w c : ℕ) (s s' : List ℕ) : Type 0 where
+  pub kept : Kept c s s'
+  pub forest : Forest (firstRun w c (take (2 * c) s)) (drop (2 * c) s') c

@@ -1,0 +1,57 @@
+-- What the records of the components are made of, run by run.
+use mathlib.Core.Path.{_≡_}
+use mathlib.Core.Bool.{cond}
+use mathlib.Core.List.{List, _++_}
+use Prim.Native.Nat.{ℕ, suc, _+_, _-_, _*_, _/_, _%_, _^_, _≤_, _<_}
+use lib.ListN.{getD, length, take, drop}
+use lib.Dec.{ltb}
+use Rattle.memory.specs.Lists.{table, countIf}
+use Rattle.memory.specs.Records.{encoded}
+use Rattle.memory.specs.Limits.{maxMaskSide, maxMaskDots}
+use Rattle.labelling.specs.Components.{noDots, absorbedRun}
+use Rattle.labelling.specs.RecordWords.{recordWords, recordOf}
+use Rattle.labelling.specs.InkRuns.{startOf, endOf, isRoot, componentNumber, componentRuns}
+use Rattle.labelling.specs.Linking.{RunList, firstRun}
+use Rattle.labelling.specs.declared.component.Component.{Component}
+
+-- the record of a component so far, where `count` have one
+unfoldable pub heldRecord : List ℕ → ℕ → ℕ → Component
+heldRecord s number count = cond (ltb count number) noDots (recordOf (take 9 (drop ((number - 1) * 9) s)))
+
+-- the words with the run absorbed
+abbrev pub tallied : List ℕ → ℕ → ℕ → ℕ → ℕ → ℕ → List ℕ
+tallied s number count start end w =
+    take ((number - 1) * 9) s
+    ++ (recordWords (absorbedRun (heldRecord s number count) (start % w) (end - start - 1) (start / w)) ++ drop ((number - 1) * 9 + 9) s)
+
+-- a record whose numbers have room for a run more
+pub record Small (c : Component) : Type 0 where
+  pub area : c .area ≤ 2 ^ 30
+  pub sum-x : c .«sum_x» ≤ 2 ^ 60
+  pub sum-y : c .«sum_y» ≤ 2 ^ 60
+
+-- a run within a row, a number that has room, and a record that has
+pub record RunTallyable (s : List ℕ) (number count start end w : ℕ) : Type 0 where
+  pub counted : 0 < number
+  pub room : number * 9 ≤ length s
+  pub wide : 0 < w
+  pub narrow : w ≤ maxMaskSide
+  pub some : start < end
+  pub dots : end ≤ maxMaskDots
+  pub row : start % w + (end - start - 1) < w
+  pub small : Small (heldRecord s number count)
+
+-- the words of the components' records, of the first k of the c runs that the words s hold
+abbrev pub records : ℕ → ℕ → List ℕ → ℕ → List ℕ
+records w c s k =
+    encoded recordWords
+    (table (λ q. componentRuns w (startOf (take (2 * c) s)) (endOf (take (2 * c) s) 0) (firstRun w c (take (2 * c) s)) (suc q) k)
+    (countIf (isRoot (firstRun w c (take (2 * c) s))) k))
+
+-- runs within rows of w dots, with the numbers of their components, and room for a record of each
+pub record Tallyable (w c : ℕ) (s components : List ℕ) : Type 0 where
+  pub list : RunList w c s
+  pub within : (k : ℕ) → k < c → endOf (take (2 * c) s) 0 k ≤ maxMaskDots
+  pub row : (k i : ℕ) → k < c → startOf (take (2 * c) s) k ≤ i → i < endOf (take (2 * c) s) 0 k → i / w ≡ startOf (take (2 * c) s) k / w
+  pub numbers : (k : ℕ) → k < c → getD s (2 * c + k) 0 ≡ componentNumber (firstRun w c (take (2 * c) s)) k
+  pub room : countIf (isRoot (firstRun w c (take (2 * c) s))) c * 9 ≤ length components

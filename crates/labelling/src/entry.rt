@@ -1,0 +1,108 @@
+// Labelling called by itself (components.rs, label_8): the entry, what it refuses, and its stages in their order.
+ghost use mathlib.Core.Path.{_≡_};
+ghost use Prim.Native.Nat.{_*_, _≤_};
+ghost use lib.ListN.{length, drop};
+ghost use Rattle.memory.specs.Limits.{maxMaskDots, scratchWords};
+ghost use Rattle.labelling.specs.Answer.{sideRefusal, lentRefusal, Workable, worked, left, labelled};
+use crate::link::link;
+use crate::number::number;
+use crate::paint::paint;
+use crate::runs::extract;
+use crate::tally::tally;
+use crate::words::wide;
+use memory::refuse_if;
+
+// The count of components, or the number that the call is refused with.
+pub enum LabelAnswer {
+    Labelled(u32),
+    Refused(u32),
+}
+
+// Labels the 8-connected components of a mask, numbered by first dot, and writes their records, nine words each.
+pub fn label(
+    mask: &[u8],
+    width: u32,
+    height: u32,
+    capacity: u32,
+    labels: &mut [u32],
+    components: &mut [u32],
+    scratch: &mut [u32],
+) -> LabelAnswer
+    ensures { λ r. ⌜ left r (now (labels .exit)) (now (components .exit)) (length (now (scratch .exit))) (drop (scratchWords (width * height) capacity) (now (scratch .exit))) ≡ labelled width height (now (mask .entry)) capacity (now (labels .entry)) (now (components .entry)) (now (scratch .entry)) ⌝ }
+{
+    let sides = judge_sides(width, height);
+    if sides != 0 {
+        return LabelAnswer::Refused(sides);
+    }
+    let w = wide(width);
+    let h = wide(height);
+    let p = wide(capacity);
+    let dots = w * h;
+    let lent = judge_lent(
+        dots,
+        mask.len(),
+        p,
+        labels.len(),
+        components.len(),
+        scratch.len(),
+    );
+    if lent != 0 {
+        return LabelAnswer::Refused(lent);
+    }
+    let words = 4 * dots + 16 * p + 64;
+    label_runs(mask, w, h, p, labels, components, &mut scratch[..words])
+}
+
+// 1 where a side or the count of dots is outside its limit, else 0.
+fn judge_sides(width: u32, height: u32) -> u32
+    ensures { λ r. ⌜ r ≡ sideRefusal width height 0 ⌝ }
+{
+    let dots = wide(width) * wide(height);
+    let by_dots = refuse_if(1073741824 < dots, 1, 0);
+    let by_height = refuse_if(height == 0, 1, refuse_if(131072 < height, 1, by_dots));
+    refuse_if(width == 0, 1, refuse_if(131072 < width, 1, by_height))
+}
+
+// 2, 7 or 9 where the mask's length, the capacity or the memory lent is not as it must be, else 0.
+fn judge_lent(
+    dots: usize,
+    mask: usize,
+    capacity: usize,
+    labels: usize,
+    components: usize,
+    scratch: usize,
+) -> u32
+    requires { ⌜ (dots ≤ maxMaskDots) × (capacity ≤ 4294967295) ⌝ }
+    ensures { λ r. ⌜ r ≡ lentRefusal dots mask capacity labels components scratch 0 ⌝ }
+{
+    let by_scratch = refuse_if(scratch < 4 * dots + 16 * capacity + 64, 9, 0);
+    let by_records = refuse_if(components < 9 * capacity, 9, by_scratch);
+    let by_labels = refuse_if(labels < dots, 9, by_records);
+    let by_capacity = refuse_if(capacity == 0, 7, refuse_if(65535 < capacity, 7, by_labels));
+    refuse_if(mask != dots, 2, by_capacity)
+}
+
+// The stages: runs, their parents, their numbers; then, unless there are too many components, labels and records.
+fn label_runs(
+    mask: &[u8],
+    w: usize,
+    h: usize,
+    capacity: usize,
+    labels: &mut [u32],
+    components: &mut [u32],
+    words: &mut [u32],
+) -> LabelAnswer
+    requires { ⌜ Workable w h (now mask) capacity (now labels) (now components) (now words) ⌝ }
+    ensures { λ r. ⌜ worked r (now (labels .exit)) (now (components .exit)) w h (now (mask .entry)) capacity (now (labels .entry)) (now (components .entry)) ⌝ }
+{
+    let runs = extract(mask, w, h, words);
+    link(words, runs, w, h);
+    let parents = 2 * runs;
+    let count = number(&mut words[parents..], runs, capacity);
+    if capacity < count {
+        return LabelAnswer::Refused(20);
+    }
+    paint(&words[..], runs, labels, w * h);
+    tally(&words[..], runs, w, components);
+    LabelAnswer::Labelled(count as u32)
+}
