@@ -8,6 +8,7 @@ ghost use Rattle.rounding.specs.Rounding.{roundHalfAway, roundToUnsigned, round
 ghost use Rattle.rounding.specs.Sums.{pairwiseSum};
 ghost use Rattle.params.specs.Valid.{valid};
 ghost use Rattle.boundary.specs.Sheet.{sheetOf};
+
 mod masks;
 
 use params::LayoutParams;

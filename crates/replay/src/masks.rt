@@ -153,7 +153,13 @@ pub fn label(body: &[u8]) -> bool {
 
 // The extents of the mask that the digits spell, of as many dots as there are extents; compares with
 // the last word.
-fn extents_of_mask(body: &[u8], size: Size, along: Along, mask: &mut [u8], extents: &mut [u32]) -> bool {
+fn extents_of_mask(
+    body: &[u8],
+    size: Size,
+    along: Along,
+    mask: &mut [u8],
+    extents: &mut [u32],
+) -> bool {
     let words = text::count(body);
     if words < 4 {
         return false;
@@ -171,7 +177,11 @@ fn extents_of_mask(body: &[u8], size: Size, along: Along, mask: &mut [u8], exten
 
 // 1 for the columns, else the rows.
 fn along_of(word: u32) -> Along {
-    if word == 1 { Along::Columns } else { Along::Rows }
+    if word == 1 {
+        Along::Columns
+    } else {
+        Along::Rows
+    }
 }
 
 // 0A: width, height, 1 for extents along the columns and 0 along the rows, the mask, 64 dots a word; the
