@@ -17,6 +17,12 @@ toPage f x y =
 abbrev pub clamped : ℕ → ℤ → ℕ
 clamped n z = min (natural z) (n - 1)
 
+-- the page dot that a frame point maps to, moved onto the page, as a box
+unfoldable pub dotToPage : Frame → ℕ → ℕ → Rect
+dotToPage f x y =
+    let p = toPage f x y in
+    record { x0 = clamped (f .page-w) (p .x); y0 = clamped (f .page-h) (p .y); x1 = clamped (f .page-w) (p .x); y1 = clamped (f .page-h) (p .y) }
+
 -- the page box of a frame box: that of its four corners mapped back, moved onto the page
 unfoldable pub rectToPage : Frame → Rect → Rect
 rectToPage f r =

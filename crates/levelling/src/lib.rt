@@ -1,5 +1,17 @@
-// Levelling: the two shears that make text lines level, and the way back to the page (layout.rs). The functions come with their
-// proofs; what they must do is in specs/.
+// Levelling: the two shears that make text lines level, the frame they give, a page plane moved into it, and the way back to
+// the page (layout.rs).
+mod frame;
+mod mapping;
+mod plane;
+mod shears;
+
+pub use frame::FrameSize;
+pub use frame::fill_shears;
+pub use frame::frame_size;
+pub use mapping::rect_to_page;
+pub use mapping::to_page;
+pub use plane::level_plane;
+pub use shears::applied;
 
 // A point in page coordinates. It may lie outside the page, so its coordinates are signed.
 pub struct Point {

@@ -1,5 +1,11 @@
 -- a table and its entries; a loop that fills one
 pub mod TableLaws
+-- parts of a slice that are lent, and a table filled in by parts
+pub mod PartLaws
+-- lists counted by place; counts of numbers that pair one to one
+pub mod CountLaws
+-- the number of a dot in a plane
+pub mod PlaneLaws
 -- one more word copied
 pub mod CopyLaws
 -- records: one more, and one read back

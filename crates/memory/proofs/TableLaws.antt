@@ -1,13 +1,15 @@
 -- A table and its entries; a loop that fills one.
 use mathlib.Core.Path.{_≡_, refl, sym, ap, _∙_}
-use mathlib.Core.List.{List, [], _∷_, _++_}
+use mathlib.Core.List.{List, [], _∷_, _++_, append-nil}
 use Prim.Native.Nat.{ℕ, zero, suc, _+_, _≤_, _<_}
 use native.Mathlib.Nat.{not-suc-le-zero, le-refl}
+use native.Mathlib.Numerals.{add-one}
 use native.Mathlib.Decide.{ℕ-discrete}
 use native.Mathlib.Omega.{arith}
 use lib.ListN.{getD, length, set, drop, length-append, List·getD-append}
-use lib.Seq.{getD-at, set-at, drop-cons, append-snoc}
+use lib.Seq.{getD-at, set-at, drop-cons, append-snoc, drop-length}
 use Rattle.memory.specs.Lists.{table}
+use Rattle.memory.specs.Words.{over}
 
 pub length-table : {A : Type 0} (f : ℕ → A) (n : ℕ) → length (table f n) ≡ n
 unfolding table
@@ -34,3 +36,18 @@ unfolding table
 table-step f s i l =
     ap (λ r. set (table f i ++ r) i (f i)) (drop-cons s i 0 l)
     ∙ (set-at (table f i) (getD s i 0) (drop (suc i) s) (f i) i (length-table f i) ∙ sym (append-snoc (table f i) (f i) (drop (suc i) s)))
+
+-- the same, as a loop asks it of what its slice holds now
+pub table-more : (f : ℕ → ℕ) (s out : List ℕ) (i v : ℕ) → i < length s → out ≡ table f i ++ drop i s → v ≡ f i → set out i v ≡ table f (i + 1) ++ drop (i + 1) s
+table-more f s out i v l e q = (λ t. set (e t) i (q t)) ∙ (table-step f s i l ∙ ap (λ k. table f k ++ drop k s) (sym (add-one i)))
+
+-- the loop has filled in all n: the table lies over the front
+pub table-filled : (f : ℕ → ℕ) (s out v : List ℕ) (i n : ℕ) → out ≡ table f i ++ drop i s → i ≡ n → table f n ≡ v → out ≡ over v s
+table-filled f s out v i n e q t = e ∙ (ap (λ k. table f k ++ drop k s) q ∙ (λ k. t k ++ drop (lengths k) s))
+  where
+    lengths : n ≡ length v
+    lengths = sym (length-table f n) ∙ ap length t
+
+-- and where there is no more than n places, the table is all
+pub table-whole : (f : ℕ → ℕ) (s out : List ℕ) (i : ℕ) → out ≡ table f i ++ drop i s → i ≡ length s → out ≡ table f (length s)
+table-whole f s out i e q = e ∙ (ap (λ k. table f k ++ drop k s) q ∙ (ap (λ (z : List ℕ). table f (length s) ++ z) (drop-length s) ∙ append-nil (table f (length s))))

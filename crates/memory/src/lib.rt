@@ -11,4 +11,5 @@ pub use floats::put_float;
 pub use refusals::refuse_if;
 pub use words::copy_bytes;
 pub use words::copy_words;
+pub use words::fill_bytes;
 pub use words::word_at;

@@ -2,6 +2,7 @@
 ghost use mathlib.Core.Path.{_≡_};
 ghost use Prim.Native.Nat.{_≤_};
 ghost use lib.ListN.{length};
+ghost use Rattle.memory.specs.Lists.{table};
 ghost use Rattle.memory.specs.Words.{wordAt, over};
 
 // The word at k, 0 past the end: a header can be judged before its length is.
@@ -31,6 +32,17 @@ pub fn copy_bytes(dst: &mut [u8], src: &[u8])
     let mut i = 0;
     while i < src.len() {
         dst[i] = src[i];
+        i += 1;
+    }
+}
+
+// v in every place.
+pub fn fill_bytes(dst: &mut [u8], v: u8)
+    ensures { λ _. ⌜ now (dst .exit) ≡ table (λ _. v) (length (now (dst .entry))) ⌝ }
+{
+    let mut i = 0;
+    while i < dst.len() {
+        dst[i] = v;
         i += 1;
     }
 }

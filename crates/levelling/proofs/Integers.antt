@@ -1,0 +1,102 @@
+-- Differences of natural numbers as integers, and the lesser of two integers.
+use mathlib.Core.Path.{_≡_, refl, sym, ap, _∙_, subst}
+use mathlib.Core.Bool.{Bool, true, false, cond}
+use Prim.Native.Nat.{ℕ, zero, suc, _+_, _-_, _≤_, _<_, min, max}
+use native.Mathlib.Decide.{decLe}
+use native.Mathlib.Omega.{arith}
+use borrow.Author.Tests.{lt-ltb, le-ltb}
+use lib.Dec.{ltb}
+use lib.Signed.{mag}
+use mir.Syntax.{w64}
+use mir.Val.{SFits, toZ, ofZ}
+use mir.ValLaws.{toZ-pos, toZ-ofZ}
+use lib.IntN.{ℤ, pos, negsuc, subℕ, negℤ, natAbs, _-ℤ_, pos-ne-negsuc}
+use Rattle.levelling.specs.Shears.{lesserℤ, natural}
+
+-- ---- differences
+pub sub-at-least : (a b : ℕ) → b ≤ a → subℕ a b ≡ pos (a - b)
+sub-at-least a b l = rw (le-ltb a b l)
+
+pub sub-added : (c s : ℕ) → subℕ (c + s) s ≡ pos c
+sub-added c s = sub-at-least (c + s) s (omega arith) ∙ ap pos (let e : c + s - s ≡ c = omega arith in e)
+
+pub sub-is-pos : (a b n : ℕ) → subℕ a b ≡ pos n → (b ≤ a) × (a - b ≡ n)
+sub-is-pos a b n e = go (decLe b a)
+  where
+    go : Dec (b ≤ a) → (b ≤ a) × (a - b ≡ n)
+    go (yes l) = (l, ap natural (sym (sub-at-least a b l) ∙ e))
+    go (no l) = absurd (let z : negsuc (b - suc a) ≡ pos n = sym (rw (lt-ltb a b (omega arith))) ∙ e in pos-ne-negsuc n (b - suc a) (sym z))
+
+pub minus-zero : (a : ℕ) → natural (pos a -ℤ pos 0) ≡ a
+minus-zero a = let e : a + 0 ≡ a = omega arith in e
+
+pub minus-negated : (a b : ℕ) → a ≤ b → natural (negℤ (pos a) -ℤ negℤ (pos b)) ≡ b - a
+minus-negated zero zero l = refl
+minus-negated (suc a) zero l = absurd (omega arith)
+minus-negated zero (suc b) l = let e : 0 + suc b ≡ suc b - 0 = omega arith in e
+minus-negated (suc a) (suc b) l = ap natural (sub-at-least (suc b) (suc a) l)
+
+pub natAbs-negated : (z : ℤ) → natAbs (negℤ z) ≡ natAbs z
+natAbs-negated (pos zero) = refl
+natAbs-negated (pos (suc n)) = refl
+natAbs-negated (negsuc n) = refl
+
+-- ---- the lesser of two
+pub lesser-comm : (a b : ℤ) → lesserℤ a b ≡ lesserℤ b a
+lesser-comm (pos a) (pos b) = ap pos (let e : min a b ≡ min b a = omega arith in e)
+lesser-comm (pos a) (negsuc b) = refl
+lesser-comm (negsuc a) (pos b) = refl
+lesser-comm (negsuc a) (negsuc b) = ap negsuc (let e : max a b ≡ max b a = omega arith in e)
+
+pub lesser-assoc : (a b c : ℤ) → lesserℤ (lesserℤ a b) c ≡ lesserℤ a (lesserℤ b c)
+lesser-assoc (pos a) (pos b) (pos c) = ap pos (let e : min (min a b) c ≡ min a (min b c) = omega arith in e)
+lesser-assoc (pos a) (pos b) (negsuc c) = refl
+lesser-assoc (pos a) (negsuc b) (pos c) = refl
+lesser-assoc (pos a) (negsuc b) (negsuc c) = refl
+lesser-assoc (negsuc a) (pos b) (pos c) = refl
+lesser-assoc (negsuc a) (pos b) (negsuc c) = refl
+lesser-assoc (negsuc a) (negsuc b) (pos c) = refl
+lesser-assoc (negsuc a) (negsuc b) (negsuc c) = ap negsuc (let e : max (max a b) c ≡ max a (max b c) = omega arith in e)
+
+pub lesser-same : (a : ℤ) → lesserℤ a a ≡ a
+lesser-same (pos a) = ap pos (let e : min a a ≡ a = omega arith in e)
+lesser-same (negsuc a) = ap negsuc (let e : max a a ≡ a = omega arith in e)
+
+pub zero-lesser : (a : ℕ) → lesserℤ (pos a) (pos 0) ≡ pos 0
+zero-lesser a = ap pos (let e : min a 0 ≡ 0 = omega arith in e)
+
+pub negated-lesser : (a b : ℕ) → a ≤ b → lesserℤ (negℤ (pos a)) (negℤ (pos b)) ≡ negℤ (pos b)
+negated-lesser zero zero l = ap pos (let e : min 0 0 ≡ 0 = omega arith in e)
+negated-lesser (suc a) zero l = absurd (omega arith)
+negated-lesser zero (suc b) l = refl
+negated-lesser (suc a) (suc b) l = ap negsuc (let e : max a b ≡ b = omega arith in e)
+
+-- ---- a difference of two words, as the machine has it
+pub natural-sub : (a b : ℕ) → natural (subℕ a b) ≡ a - b
+natural-sub a b = go (decLe b a)
+  where
+    go : Dec (b ≤ a) → natural (subℕ a b) ≡ a - b
+    go (yes l) = ap natural (sub-at-least a b l)
+    go (no l) = rw (lt-ltb a b (omega arith)) (let e : 0 ≡ a - b = omega arith in e)
+
+minus-is-sub : (a b : ℕ) → pos a -ℤ pos b ≡ subℕ a b
+minus-is-sub a zero = (let e : a + 0 ≡ a - 0 = omega arith in ap pos e) ∙ sym (sub-at-least a 0 (omega arith))
+minus-is-sub a (suc b) = refl
+
+module _ (a b : ℕ) (A : a < 4294967296) (B : b < 4294967296) where
+  pub words-difference : toZ w64 a -ℤ toZ w64 b ≡ subℕ a b
+  words-difference = (λ i. toZ-pos w64 a (omega arith) i -ℤ toZ-pos w64 b (omega arith) i) ∙ minus-is-sub a b
+
+  small : mag (subℕ a b) < 9223372036854775808
+  small = go (ltb a b)
+    where
+      go : (t : Bool) → mag (cond t (negsuc (b - suc a)) (pos (a - b))) < 9223372036854775808
+      go true = omega arith
+      go false = omega arith
+
+  pub words-difference-fits : SFits w64 (toZ w64 a -ℤ toZ w64 b)
+  words-difference-fits = subst (SFits w64) (sym words-difference) (record { sfits = small })
+
+  -- kept in a field, it is the same
+  pub words-difference-kept : (z : ℤ) → z ≡ subℕ a b → toZ w64 (ofZ w64 z) ≡ subℕ a b
+  words-difference-kept z e = ap (λ v. toZ w64 (ofZ w64 v)) e ∙ toZ-ofZ w64 (subℕ a b) (record { sfits = small })

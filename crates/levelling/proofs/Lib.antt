@@ -1,0 +1,14 @@
+-- differences of natural numbers, the lesser of two integers
+pub mod Integers
+-- the shear of a table that runs one way, entry by entry
+pub mod ShearLaws
+-- a slope from -1 to 1 and its drifts, as the code computes them
+pub mod SlopeLaws
+-- the frame's sides and shears for a slope from -1 to 1
+pub mod FrameLaws
+-- levelling and mapping back are inverse; the frame has exactly the mask's ink
+pub mod InverseTheorems
+-- the frame row by row, as the code moves a plane into it
+pub mod RowLaws
+-- points and boxes back on the page, as the code maps them
+pub mod MappingLaws

@@ -1,0 +1,178 @@
+-- A frame row by its columns: added dots at both ends, and between them the page's columns, by stretches that move by the same number of rows.
+use mathlib.Core.Path.{_≡_, refl, sym, ap, _∙_, subst}
+use mathlib.Core.List.{List, _++_}
+use mathlib.Core.Bool.{Bool, true, false, cond, _&&_}
+use Prim.Native.Nat.{ℕ, zero, suc, _+_, _-_, _*_, _/_, _%_, _≤_, _<_, min}
+use native.Mathlib.Nat.{add-assoc, suc-mul, mul-comm}
+use native.Mathlib.Numerals.{add-one}
+use native.Mathlib.Decide.{decLt, decLe, ℕ-discrete}
+use native.Mathlib.Omega.{arith}
+use borrow.Author.Tests.{lt-ltb, le-ltb, lt-leb, le-leb}
+use lib.IntN.{pos, subℕ}
+use lib.ListN.{getD, length, take, drop, set}
+use lib.Seq.{getD-set-same, getD-set-other}
+use borrow.Rule.Slice.PartMut.{putMid}
+use lib.Dec.{ltb, leb}
+use Rattle.memory.specs.Lists.{table}
+use Rattle.memory.specs.Words.{over}
+use Rattle.memory.proofs.TableLaws.{length-table, table-ext, table-whole, table-filled}
+use Rattle.memory.proofs.PartLaws.{over-all, part-is-table, part-filled}
+use Rattle.memory.proofs.PlaneLaws.{row-end, dot-column, dot-row}
+use Rattle.levelling.specs.Shears.{natural}
+use Rattle.levelling.specs.Frames.{Frame, frameOf}
+use Rattle.levelling.specs.declared.Point.{Point}
+use Rattle.levelling.proofs.Integers.{sub-at-least}
+use Rattle.levelling.specs.Mapping.{toPage}
+use Rattle.levelling.specs.Planes.{within, columnAt, levelAt, levelled, Stretch, Stretches}
+
+-- ---- a column of a frame row
+column-above : (page : List ℕ) (fill w h r s c : ℕ) → r < s → columnAt page fill w h r s c ≡ fill
+unfolding columnAt
+column-above page fill w h r s c l = rw (lt-leb s r l)
+
+column-below : (page : List ℕ) (fill w h r s c : ℕ) → s ≤ r → h ≤ r - s → columnAt page fill w h r s c ≡ fill
+unfolding columnAt
+column-below page fill w h r s c l k = rw (le-leb s r l, le-ltb (r - s) h k)
+
+column-on-page : (page : List ℕ) (fill w h r s c : ℕ) → s ≤ r → r - s < h → columnAt page fill w h r s c ≡ getD page ((r - s) * w + c) fill
+unfolding columnAt
+column-on-page page fill w h r s c l k = rw (le-leb s r l, lt-ltb (r - s) h k)
+
+-- ---- a stretch: n columns from c on
+module _ (page : List ℕ) (fill w h r s c n : ℕ) where
+  pub stretch-above : r < s → table (λ _. fill) n ≡ table (λ i. columnAt page fill w h r s (c + i)) n
+  stretch-above l = table-ext (λ _. fill) _ n (λ i k. sym (column-above page fill w h r s (c + i) l))
+
+  pub stretch-below : s ≤ r → h ≤ r - s → table (λ _. fill) n ≡ table (λ i. columnAt page fill w h r s (c + i)) n
+  stretch-below l k = table-ext (λ _. fill) _ n (λ i q. sym (column-below page fill w h r s (c + i) l k))
+
+  -- where it lies in the page
+  pub stretch-inside : r - s < h → c + n ≤ w → length page ≡ w * h → (r - s) * w + c + n ≤ length page
+  stretch-inside k l e = let q = row-end w h (r - s) k in omega arith
+
+  pub stretch-copied : (out : List ℕ) → s ≤ r → r - s < h → c + n ≤ w → length page ≡ w * h → length out ≡ n
+      → over (take ((r - s) * w + c + n - ((r - s) * w + c)) (drop ((r - s) * w + c) page)) out ≡ table (λ i. columnAt page fill w h r s (c + i)) n
+  stretch-copied out l k q e o =
+      let a = (r - s) * w + c in
+      let m : a + n - a ≡ n = omega arith in
+      let part : take (a + n - a) (drop a page) ≡ table (λ i. columnAt page fill w h r s (c + i)) n =
+      ap (λ z. take z (drop a page)) m
+      ∙ (part-is-table page a n fill (stretch-inside k q e)
+      ∙ table-ext _ _ n (λ i j. ap (λ z. getD page z fill) (add-assoc ((r - s) * w) c i) ∙ sym (column-on-page page fill w h r s (c + i) l k))) in
+      over-all (take (a + n - a) (drop a page)) out (ap length part ∙ (length-table _ n ∙ sym o)) ∙ part
+
+-- ---- where the stretches end
+pub stretch-alone : (shear : List ℕ) (c : ℕ) → c < length shear → Stretch shear c (c + 1)
+stretch-alone shear c l = record { some = omega arith; inside = omega arith; level = λ k a b. ap (λ i. getD shear i 0) (let e : k ≡ c = omega arith in e) }
+
+pub stretch-longer : (shear : List ℕ) (c e : ℕ) → getD shear (c + 1) 0 ≡ getD shear c 0 → Stretch shear (c + 1) e → Stretch shear c e
+stretch-longer shear c e q S = record { some = (let s = S .some in omega arith); inside = S .inside; level = λ k a b. go k a b (decLt c k) }
+  where
+    go : (k : ℕ) → c ≤ k → k < e → Dec (c < k) → getD shear k 0 ≡ getD shear c 0
+    go k a b (yes l) = S .level k (omega arith) b ∙ q
+    go k a b (no l) = ap (λ i. getD shear i 0) (let e : k ≡ c = omega arith in e)
+
+pub stretches-more : (shear ends : List ℕ) (c e : ℕ) → c < length ends → Stretches shear ends (c + 1) → Stretch shear c e → Stretches shear (set ends c e) c
+stretches-more shear ends c e l S T k a b = go (ℕ-discrete k c)
+  where
+    go : Dec (k ≡ c) → Stretch shear k (getD (set ends c e) k 0)
+    go (yes q) = subst (λ i. Stretch shear i (getD (set ends c e) i 0)) (sym q) (subst (Stretch shear c) (sym (getD-set-same ends c e 0 l)) T)
+    go (no q) = subst (Stretch shear k) (sym (getD-set-other ends c k e 0 q)) (S k (omega arith) b)
+
+-- ---- the page's columns, one more stretch put in
+abbrev pub columnsAt : List ℕ → ℕ → ℕ → ℕ → List ℕ → ℕ → ℕ → ℕ
+columnsAt page fill w h shear r c = columnAt page fill w h r (getD shear c 0) c
+
+pub stretch-put : (page : List ℕ) (fill w h : ℕ) (shear : List ℕ) (r c e n : ℕ) (s out v : List ℕ) → Stretch shear c e → n ≡ e - c → out ≡ table (columnsAt page fill w h shear r) c ++ drop c s
+    → v ≡ table (λ i. columnAt page fill w h r (getD shear c 0) (c + i)) n → putMid c (e - c) out v ≡ table (columnsAt page fill w h shear r) e ++ drop e s
+stretch-put page fill w h shear r c e n s out v S m o q =
+    part-filled (columnsAt page fill w h shear r) s out v c (e - c) o
+    (q ∙ ap (table _) m ∙ table-ext _ _ (e - c) (λ i l. ap (λ z. columnAt page fill w h r z (c + i)) (sym (S .level (c + i) (omega arith) (omega arith)))))
+    ∙ ap (λ z. table (columnsAt page fill w h shear r) z ++ drop z s) (let k : c + (e - c) ≡ e = (let l = S .some in omega arith) in k)
+
+-- ---- a frame row
+module _ (f : Frame) (fill : ℕ) (page : List ℕ) (r : ℕ) where
+  abbrev left : ℕ
+  left = getD (f .shear-x) r 0
+
+  pub levelAt-left : (x : ℕ) → x < left → levelAt f fill page x r ≡ fill
+  unfolding levelAt toPage
+  levelAt-left x l = rw (lt-ltb x left l)
+
+  pub levelAt-right : (x : ℕ) → left + f .page-w ≤ x → levelAt f fill page x r ≡ fill
+  unfolding levelAt toPage
+  levelAt-right x l = rw (le-ltb x left (omega arith), le-ltb (x - left) (f .page-w) (omega arith))
+
+  mapped : (i : ℕ) → i < f .page-w → toPage f (left + i) r ≡ record { x = pos i; y = subℕ r (getD (f .shear) i 0) }
+  unfolding toPage
+  mapped i l =
+      let a : left + i - left ≡ i = omega arith in
+      let m : min (left + i - left) (f .page-w - 1) ≡ i = omega arith in
+      λ t. record { x = (sub-at-least (left + i) left (omega arith) ∙ ap pos a) t; y = subℕ r (getD (f .shear) (m t) 0) }
+
+  pub levelAt-column : (i : ℕ) → i < f .page-w → levelAt f fill page (left + i) r ≡ columnsAt page fill (f .page-w) (f .page-h) (f .shear) r i
+  unfolding levelAt columnAt
+  levelAt-column i l =
+      ap (λ (p : Point). cond (within (f .page-w) (p .x) && within (f .page-h) (p .y)) (getD page (natural (p .y) * f .page-w + natural (p .x)) fill) fill) (mapped i l)
+      ∙ go (getD (f .shear) i 0) (decLe (getD (f .shear) i 0) r)
+    where
+      go : (s : ℕ) → Dec (s ≤ r)
+          → cond (ltb i (f .page-w) && within (f .page-h) (subℕ r s)) (getD page (natural (subℕ r s) * f .page-w + i) fill) fill
+          ≡ cond (leb s r && ltb (r - s) (f .page-h)) (getD page ((r - s) * f .page-w + i) fill) fill
+      go s (yes k) = rw (lt-ltb i (f .page-w) l, le-ltb r s k, le-leb s r k)
+      go s (no k) = rw (lt-ltb i (f .page-w) l, lt-ltb r s (omega arith), lt-leb s r (omega arith))
+
+  abbrev row : ℕ → ℕ
+  row x = levelAt f fill page x r
+
+  -- the row as the code puts it together: added dots, the page's columns, added dots
+  pub row-put : (s a b c : List ℕ) → left + f .page-w ≤ length s → a ≡ table (λ _. fill) left → b ≡ table (columnsAt page fill (f .page-w) (f .page-h) (f .shear) r) (f .page-w)
+      → c ≡ table (λ _. fill) (length s - (left + f .page-w))
+      → putMid (left + f .page-w) (length s - (left + f .page-w)) (putMid left (f .page-w) (putMid 0 left s a) b) c ≡ table row (length s)
+  row-put s a b c k ea eb ec =
+      let w = f .page-w in
+      let n = length s - (left + w) in
+      let one : putMid 0 left s a ≡ table row left ++ drop left s =
+      part-filled row s s a 0 left (unfold table in refl) (ea ∙ table-ext _ _ left (λ i l. sym (levelAt-left (0 + i) (omega arith))))
+      ∙ ap (λ z. table row z ++ drop z s) (let e : 0 + left ≡ left = omega arith in e) in
+      let two : putMid left w (putMid 0 left s a) b ≡ table row (left + w) ++ drop (left + w) s =
+      part-filled row s (putMid 0 left s a) b left w one (eb ∙ table-ext _ _ w (λ i l. sym (levelAt-column i l))) in
+      let three : putMid (left + w) n (putMid left w (putMid 0 left s a) b) c ≡ table row (left + w + n) ++ drop (left + w + n) s =
+      part-filled row s (putMid left w (putMid 0 left s a) b) c (left + w) n two (ec ∙ table-ext _ _ n (λ i l. sym (levelAt-right (left + w + i) (omega arith)))) in
+      table-whole row s _ (left + w + n) three (omega arith)
+
+  -- the same, with the parts' lengths as the code has them
+  pub row-put-by : (s a b c : List ℕ) (la lc n₁ n₂ n₃ : ℕ) → a ≡ table (λ _. fill) la → b ≡ table (columnsAt page fill (f .page-w) (f .page-h) (f .shear) r) (f .page-w) → c ≡ table (λ _. fill) lc
+      → left + f .page-w ≤ length s → la ≡ left → lc ≡ length s - (left + f .page-w)
+      → n₁ ≡ left → n₂ ≡ f .page-w → n₃ ≡ length s - (left + f .page-w)
+      → putMid (left + f .page-w) n₃ (putMid left n₂ (putMid 0 n₁ s a) b) c ≡ table row (length s)
+  row-put-by s a b c la lc n₁ n₂ n₃ ea eb ec k qa qc e₁ e₂ e₃ =
+      (λ t. putMid (left + f .page-w) (e₃ t) (putMid left (e₂ t) (putMid 0 (e₁ t) s a) b) c)
+      ∙ row-put s a b c k (ea ∙ ap (table (λ _. fill)) qa) eb (ec ∙ ap (table (λ _. fill)) qc)
+
+-- ---- row by row
+abbrev pub planeAt : Frame → ℕ → List ℕ → ℕ → ℕ
+planeAt f fill page i = levelAt f fill page (i % f .w) (i / f .w)
+
+-- what lies in the frame does not go by its sides
+levelAt-any-sides : (page-w page-h : ℕ) (shear shear-x : List ℕ) (w h w' h' fill : ℕ) (page : List ℕ) (x r : ℕ)
+    → levelAt (frameOf page-w page-h shear shear-x w' h') fill page x r ≡ levelAt (frameOf page-w page-h shear shear-x w h) fill page x r
+unfolding levelAt toPage
+levelAt-any-sides page-w page-h shear shear-x w h w' h' fill page x r = refl
+
+-- one more row put in, n dots long
+pub rows-put : (page-w page-h : ℕ) (shear shear-x : List ℕ) (w h h' fill : ℕ) (page s out v : List ℕ) (r m n : ℕ)
+    → out ≡ table (planeAt (frameOf page-w page-h shear shear-x w h) fill page) (r * w) ++ drop (r * w) s
+    → v ≡ table (λ x. levelAt (frameOf page-w page-h shear shear-x m h') fill page x r) m → m ≡ w → n ≡ w
+    → putMid (r * w) n out v ≡ table (planeAt (frameOf page-w page-h shear shear-x w h) fill page) ((r + 1) * w) ++ drop ((r + 1) * w) s
+rows-put page-w page-h shear shear-x w h h' fill page s out v r m n o q k e =
+    let f = frameOf page-w page-h shear shear-x w h in
+    (λ t. putMid (r * w) (e t) out v)
+    ∙ (part-filled (planeAt f fill page) s out v (r * w) w o
+    (q ∙ (ap (table _) k ∙ table-ext _ _ w (λ i l. levelAt-any-sides page-w page-h shear shear-x w h m h' fill page i r ∙ (λ t. levelAt f fill page (sym (dot-column w i r l) t) (sym (dot-row w i r l) t)))))
+    ∙ ap (λ z. table (planeAt f fill page) z ++ drop z s) (sym (suc-mul r w) ∙ ap (λ z. z * w) (sym (add-one r))))
+
+pub rows-all : (f : Frame) (fill : ℕ) (page s out : List ℕ) (r : ℕ) → out ≡ table (planeAt f fill page) (r * f .w) ++ drop (r * f .w) s → r ≡ f .h → out ≡ over (levelled f fill page) s
+unfolding levelled
+rows-all f fill page s out r o e =
+    table-filled (planeAt f fill page) s out (levelled f fill page) (r * f .w) (f .w * f .h) o (ap (λ z. z * f .w) e ∙ mul-comm (f .h) (f .w)) refl

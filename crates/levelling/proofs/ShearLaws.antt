@@ -1,0 +1,154 @@
+-- The shear of a table that runs one way from 0: its entries in closed form, its greatest entry, its steps.
+use mathlib.Core.Path.{_≡_, refl, sym, ap, _∙_, subst}
+use mathlib.Core.List.{List, [], _∷_, map}
+use mathlib.Core.Bool.{Bool, true, false, cond}
+use Prim.Native.Nat.{ℕ, zero, suc, _+_, _-_, _≤_, _<_, max}
+use native.Mathlib.Nat.{not-suc-le-zero, le-of-suc-le-suc, le-refl}
+use native.Mathlib.Omega.{arith}
+use lib.IntN.{ℤ, pos, negℤ, _-ℤ_}
+use lib.ListN.{getD, length, length-map}
+use lib.Seq.{ext-getD}
+use Rattle.memory.specs.Lists.{table, greatest}
+use Rattle.memory.proofs.TableLaws.{length-table, getD-table}
+use Rattle.rounding.proofs.DriftLaws.{signed}
+use Rattle.levelling.specs.Shears.{lesserℤ, natural, leastEntry, shearOf}
+use Rattle.levelling.proofs.Integers.{minus-zero, minus-negated, lesser-comm, lesser-assoc, lesser-same, zero-lesser, negated-lesser}
+
+-- ---- the least entry
+least-bounds : (d : ℤ) (t : List ℤ) (k : ℕ) → k < suc (length t) → lesserℤ (leastEntry d t) (getD (d ∷ t) k d) ≡ leastEntry d t
+unfolding leastEntry
+least-bounds d [] zero l = lesser-same d
+least-bounds d [] (suc k) l = absurd (not-suc-le-zero (le-of-suc-le-suc l))
+least-bounds d (e ∷ t) zero l = lesser-assoc e (leastEntry d t) d ∙ ap (lesserℤ e) (least-bounds d t zero (omega arith))
+least-bounds d (e ∷ t) (suc zero) l =
+    lesser-comm (lesserℤ e (leastEntry d t)) e ∙ (sym (lesser-assoc e e (leastEntry d t)) ∙ ap (λ z. lesserℤ z (leastEntry d t)) (lesser-same e))
+least-bounds d (e ∷ t) (suc (suc k)) l = lesser-assoc e (leastEntry d t) (getD t k d) ∙ ap (lesserℤ e) (least-bounds d t (suc k) (le-of-suc-le-suc l))
+
+least-at-least : (d : ℤ) (t : List ℤ) (m : ℤ) → ((k : ℕ) → k < suc (length t) → lesserℤ (getD (d ∷ t) k d) m ≡ m) → lesserℤ (leastEntry d t) m ≡ m
+unfolding leastEntry
+least-at-least d [] m h = h zero (le-refl 1)
+least-at-least d (e ∷ t) m h = lesser-assoc e (leastEntry d t) m ∙ (ap (lesserℤ e) (least-at-least d t m others) ∙ h 1 (omega arith))
+  where
+    others : (k : ℕ) → k < suc (length t) → lesserℤ (getD (d ∷ t) k d) m ≡ m
+    others zero l = h zero (omega arith)
+    others (suc k) l = h (suc (suc k)) (omega arith)
+
+-- ---- the shear of any list
+getD-map-inside : {A B : Type 0} (f : A → B) (l : List A) (i : ℕ) (a : A) (b : B) → i < length l → getD (map f l) i b ≡ f (getD l i a)
+getD-map-inside f [] i a b l = absurd (not-suc-le-zero l)
+getD-map-inside f (x ∷ t) zero a b l = refl
+getD-map-inside f (x ∷ t) (suc i) a b l = getD-map-inside f t i a b (le-of-suc-le-suc l)
+
+pub length-shear : (l : List ℤ) → length (shearOf l) ≡ length l
+unfolding shearOf
+length-shear [] = refl
+length-shear (d ∷ t) = length-map (d ∷ t) _
+
+-- m is the least entry: it is the one at k, and no entry is less
+shear-at : (l : List ℤ) (m a : ℤ) (k : ℕ) → k < length l → getD l k a ≡ m → ((i : ℕ) → i < length l → lesserℤ (getD l i a) m ≡ m)
+    → (i : ℕ) → i < length l → getD (shearOf l) i 0 ≡ natural (getD l i a -ℤ m)
+unfolding shearOf
+shear-at [] m a k kl e h i l = absurd (not-suc-le-zero l)
+shear-at (d ∷ t) m a k kl e h i l = getD-map-inside (λ v. natural (v -ℤ leastEntry d t)) (d ∷ t) i a 0 l ∙ ap (λ v. natural (getD (d ∷ t) i a -ℤ v)) least
+  where
+    default : (l : List ℤ) (i : ℕ) → i < length l → getD l i d ≡ getD l i a
+    default [] i l = absurd (not-suc-le-zero l)
+    default (x ∷ t) zero l = refl
+    default (x ∷ t) (suc i) l = default t i (le-of-suc-le-suc l)
+
+    least : leastEntry d t ≡ m
+    least =
+        sym (least-bounds d t k kl) ∙ (ap (lesserℤ (leastEntry d t)) (default (d ∷ t) k kl ∙ e)
+        ∙ least-at-least d t m (λ j q. ap (λ z. lesserℤ z m) (default (d ∷ t) j q) ∙ h j q))
+
+-- ---- the shear of a table that runs one way
+-- entry c of the shear of n drifts of these sizes: a falling table (s is true) is least at its last entry, a rising one at its first
+abbrev pub shearEntry : Bool → (ℕ → ℕ) → ℕ → ℕ → ℕ
+shearEntry s size n c = cond s (size (n - 1) - size c) (size c)
+
+-- n drifts by size and sign: the sizes rise from 0
+pub record OneWay (d : ℕ → ℤ) (s : Bool) (size : ℕ → ℕ) (n : ℕ) : Type 0 where
+  pub some : 0 < n
+  pub first : size 0 ≡ 0
+  pub last : (c : ℕ) → c < n → size c ≤ size (n - 1)
+  pub entries : (c : ℕ) → c < n → d c ≡ signed s (size c)
+
+pub shear-one-way : (d : ℕ → ℤ) (s : Bool) (size : ℕ → ℕ) (n : ℕ) → OneWay d s size n → shearOf (table d n) ≡ table (shearEntry s size n) n
+shear-one-way d s size n W =
+    ext-getD 0 (shearOf (table d n)) (table (shearEntry s size n) n) (lengths ∙ sym (length-table (shearEntry s size n) n))
+    (λ i l. (let k : i < n = omega (arith, lengths) in at s (W .entries) i k ∙ sym (getD-table (shearEntry s size n) n i 0 k)))
+  where
+    lengths : length (shearOf (table d n)) ≡ n
+    lengths = length-shear (table d n) ∙ length-table d n
+
+    entry : (i : ℕ) → i < n → getD (table d n) i (pos 0) ≡ d i
+    entry i l = getD-table d n i (pos 0) l
+
+    inside : (i : ℕ) → i < length (table d n) → i < n
+    inside i l = omega (arith, length-table d n)
+
+    inside' : (i : ℕ) → i < n → i < length (table d n)
+    inside' i l = omega (arith, length-table d n)
+
+    at : (s : Bool) → ((c : ℕ) → c < n → d c ≡ signed s (size c)) → (i : ℕ) → i < n → getD (shearOf (table d n)) i 0 ≡ shearEntry s size n i
+    at false E i l =
+        shear-at (table d n) (pos 0) (pos 0) 0 (inside' 0 (W .some)) (entry 0 (W .some) ∙ (E 0 (W .some) ∙ ap pos (W .first)))
+        (λ j q. ap (λ z. lesserℤ z (pos 0)) (entry j (inside j q) ∙ E j (inside j q)) ∙ zero-lesser (size j)) i (inside' i l)
+        ∙ (ap (λ z. natural (z -ℤ pos 0)) (entry i l ∙ E i l) ∙ minus-zero (size i))
+    at true E i l =
+        let z = size (n - 1) in
+        let q : n - 1 < n = omega (arith, W .some) in
+        shear-at (table d n) (negℤ (pos z)) (pos 0) (n - 1) (inside' (n - 1) q) (entry (n - 1) q ∙ E (n - 1) q)
+        (λ j k. ap (λ v. lesserℤ v (negℤ (pos z))) (entry j (inside j k) ∙ E j (inside j k)) ∙ negated-lesser (size j) z (W .last j (inside j k))) i (inside' i l)
+        ∙ (ap (λ v. natural (v -ℤ negℤ (pos z))) (entry i l ∙ E i l) ∙ minus-negated (size i) z (W .last i l))
+
+-- ---- the greatest entry
+pub greatest-bounds : (l : List ℕ) (i : ℕ) → getD l i 0 ≤ greatest l
+unfolding greatest
+greatest-bounds [] i = le-refl 0
+greatest-bounds (a ∷ l) zero = let e : a ≤ max a (greatest l) = omega arith in e
+greatest-bounds (a ∷ l) (suc i) = let e = greatest-bounds l i in omega arith
+
+greatest-at-most : (l : List ℕ) (b : ℕ) → ((i : ℕ) → i < length l → getD l i 0 ≤ b) → greatest l ≤ b
+unfolding greatest
+greatest-at-most [] b h = omega arith
+greatest-at-most (a ∷ l) b h = let e = greatest-at-most l b (λ i k. h (suc i) (omega arith)) in let f = h 0 (omega arith) in omega arith
+
+greatest-table : (g : ℕ → ℕ) (n k : ℕ) → k < n → ((i : ℕ) → i < n → g i ≤ g k) → greatest (table g n) ≡ g k
+greatest-table g n k l h =
+    let low : g k ≤ greatest (table g n) = subst (λ v. v ≤ greatest (table g n)) (getD-table g n k 0 l) (greatest-bounds (table g n) k) in
+    let high : greatest (table g n) ≤ g k = greatest-at-most (table g n) (g k) (λ i q. (let j : i < n = omega (arith, length-table g n) in subst (λ v. v ≤ g k) (sym (getD-table g n i 0 j)) (h i j))) in
+    omega arith
+
+-- it is the last entry of a rising shear and the first of a falling one: the last drift's size
+pub greatest-one-way : (d : ℕ → ℤ) (s : Bool) (size : ℕ → ℕ) (n : ℕ) → OneWay d s size n → greatest (shearOf (table d n)) ≡ size (n - 1)
+greatest-one-way d s size n W = ap greatest (shear-one-way d s size n W) ∙ go s
+  where
+    go : (s : Bool) → greatest (table (shearEntry s size n) n) ≡ size (n - 1)
+    go false = greatest-table size n (n - 1) (omega (arith, W .some)) (W .last)
+    go true =
+        greatest-table (λ c. size (n - 1) - size c) n 0 (W .some) (λ i l. (let f = W .first in omega arith))
+        ∙ (let f = W .first in let e : size (n - 1) - size 0 ≡ size (n - 1) = omega arith in e)
+
+-- ---- from entry to entry
+-- the entries run one way, down where s is true, else up, and by at most one
+abbrev pub Steps : Bool → List ℕ → Type 0
+Steps false l = (i : ℕ) → suc i < length l → (getD l i 0 ≤ getD l (suc i) 0) × (getD l (suc i) 0 ≤ suc (getD l i 0))
+Steps true l = (i : ℕ) → suc i < length l → (getD l (suc i) 0 ≤ getD l i 0) × (getD l i 0 ≤ suc (getD l (suc i) 0))
+
+pub steps-one-way : (s : Bool) (size : ℕ → ℕ) (n : ℕ) → ((c : ℕ) → c < n → size c ≤ size (n - 1)) → ((c : ℕ) → suc c < n → (size c ≤ size (suc c)) × (size (suc c) ≤ suc (size c)))
+    → Steps s (table (shearEntry s size n) n)
+steps-one-way false size n last step = λ i l.
+    let k : suc i < n = omega (arith, length-table size n) in
+    let a = getD-table size n i 0 (omega arith) in
+    let b = getD-table size n (suc i) 0 k in
+    let s = step i k in
+    (omega arith, omega arith)
+steps-one-way true size n last step = λ i l.
+    let g : ℕ → ℕ = λ c. size (n - 1) - size c in
+    let k : suc i < n = omega (arith, length-table g n) in
+    let a = getD-table g n i 0 (omega arith) in
+    let b = getD-table g n (suc i) 0 k in
+    let s = step i k in
+    let t = last (suc i) k in
+    (omega arith, omega arith)
