@@ -11,6 +11,9 @@ const TIME: Duration = Duration::from_millis(1500);
 pub struct Bench;
 
 impl Bench {
+    /// No side of a stage is called more often.
+    pub const MOST_CALLS: usize = MOST_TURNS as usize + 1;
+
     /// Memory that is given back is kept from now on, and none is asked of the system afresh: the original allocates in
     /// every call, and is to find pages that were touched before, as the memory that we are lent was.
     pub fn new() -> Self {

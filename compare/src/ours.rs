@@ -54,6 +54,30 @@ mod c {
             extents: *mut u32,
             extents_length: usize,
         ) -> u64;
+        pub fn novlizeb_applied(least: f64, skew: f64, value: f64) -> f64;
+        pub fn novlizeb_frame_size(page_width: u32, page_height: u32, slope: f64) -> u64;
+        pub fn novlizeb_level_plane(
+            page: *const u8,
+            page_length: usize,
+            fill: u8,
+            page_width: u32,
+            page_height: u32,
+            slope: f64,
+            shears: *mut u32,
+            shears_length: usize,
+            out: *mut u8,
+            out_length: usize,
+        ) -> u8;
+        pub fn novlizeb_to_page_x(shears: *const u32, shears_length: usize, page_width: u32, x: u32, y: u32) -> i64;
+        pub fn novlizeb_to_page_y(shears: *const u32, shears_length: usize, page_width: u32, x: u32, y: u32) -> i64;
+        pub fn novlizeb_rect_to_page(
+            shears: *const u32,
+            shears_length: usize,
+            page_width: u32,
+            page_height: u32,
+            corners: *mut u32,
+            corners_length: usize,
+        ) -> u8;
     }
 }
 
@@ -168,6 +192,71 @@ pub fn run_extents(mask: &[u8], width: u32, height: u32, columns: bool, extents:
             extents.len(),
         )
     })
+}
+
+/// The value where the skew is applied, else 0.
+pub fn applied(least: f64, skew: f64, value: f64) -> f64 {
+    unsafe { c::novlizeb_applied(least, skew, value) }
+}
+
+/// The frame's width and height; both 0 where the sides or the slope are outside their limits.
+pub fn frame_size(page_width: u32, page_height: u32, slope: f64) -> (u32, u32) {
+    let word = unsafe { c::novlizeb_frame_size(page_width, page_height, slope) };
+    (word as u32, (word >> 32) as u32)
+}
+
+/// A page plane moved into its frame, both shears beside it; false where something is outside its limits or too short.
+pub fn level_plane(
+    page: &[u8],
+    fill: u8,
+    page_width: u32,
+    page_height: u32,
+    slope: f64,
+    shears: &mut [u32],
+    out: &mut [u8],
+) -> bool {
+    flag(unsafe {
+        c::novlizeb_level_plane(
+            page.as_ptr(),
+            page.len(),
+            fill,
+            page_width,
+            page_height,
+            slope,
+            shears.as_mut_ptr(),
+            shears.len(),
+            out.as_mut_ptr(),
+            out.len(),
+        )
+    })
+}
+
+/// A frame point in page coordinates.
+pub fn to_page(shears: &[u32], page_width: u32, x: u32, y: u32) -> (i64, i64) {
+    let (from, length) = (shears.as_ptr(), shears.len());
+    unsafe {
+        (
+            c::novlizeb_to_page_x(from, length, page_width, x, y),
+            c::novlizeb_to_page_y(from, length, page_width, x, y),
+        )
+    }
+}
+
+/// The page box of a frame box, both as x0, y0, x1, y1.
+pub fn rect_to_page(shears: &[u32], page_width: u32, page_height: u32, mut corners: [u32; 4]) -> [u32; 4] {
+    let (from, length) = (shears.as_ptr(), shears.len());
+    let done = flag(unsafe {
+        c::novlizeb_rect_to_page(
+            from,
+            length,
+            page_width,
+            page_height,
+            corners.as_mut_ptr(),
+            corners.len(),
+        )
+    });
+    assert!(done, "a box of the frame is mapped");
+    corners
 }
 
 /// A bool of C.

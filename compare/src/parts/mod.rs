@@ -30,5 +30,6 @@ parts! {
     sums,
     validate,
     labelling,
+    levelling,
     extents,
 }

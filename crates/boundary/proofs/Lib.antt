@@ -2,3 +2,5 @@
 pub mod LabelAnswerLaws
 -- what the word of run extents tells of an outcome
 pub mod ExtentAnswerLaws
+-- what the limits of levelling give, and that a frame's own shears fit it
+pub mod LevelLaws

@@ -6,3 +6,5 @@ pub mod Answers
 pub mod LabelAnswers
 -- run extents called by themselves
 pub mod ExtentAnswers
+-- levelling and the way back
+pub mod Levels

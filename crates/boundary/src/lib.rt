@@ -9,6 +9,7 @@ ghost use Rattle.rounding.specs.Sums.{pairwiseSum};
 ghost use Rattle.params.specs.Valid.{valid};
 ghost use Rattle.boundary.specs.Sheet.{sheetOf};
 
+mod levels;
 mod masks;
 
 use params::LayoutParams;
