@@ -70,14 +70,26 @@ mod c {
         ) -> u8;
         pub fn novlizeb_to_page_x(shears: *const u32, shears_length: usize, page_width: u32, x: u32, y: u32) -> i64;
         pub fn novlizeb_to_page_y(shears: *const u32, shears_length: usize, page_width: u32, x: u32, y: u32) -> i64;
-        pub fn novlizeb_rect_to_page(
+        pub fn novlizeb_rect_to_page_start(
             shears: *const u32,
             shears_length: usize,
             page_width: u32,
             page_height: u32,
-            corners: *mut u32,
-            corners_length: usize,
-        ) -> u8;
+            x0: u32,
+            y0: u32,
+            x1: u32,
+            y1: u32,
+        ) -> u64;
+        pub fn novlizeb_rect_to_page_end(
+            shears: *const u32,
+            shears_length: usize,
+            page_width: u32,
+            page_height: u32,
+            x0: u32,
+            y0: u32,
+            x1: u32,
+            y1: u32,
+        ) -> u64;
     }
 }
 
@@ -243,20 +255,16 @@ pub fn to_page(shears: &[u32], page_width: u32, x: u32, y: u32) -> (i64, i64) {
 }
 
 /// The page box of a frame box, both as x0, y0, x1, y1.
-pub fn rect_to_page(shears: &[u32], page_width: u32, page_height: u32, mut corners: [u32; 4]) -> [u32; 4] {
+pub fn rect_to_page(shears: &[u32], page_width: u32, page_height: u32, corners: [u32; 4]) -> [u32; 4] {
     let (from, length) = (shears.as_ptr(), shears.len());
-    let done = flag(unsafe {
-        c::novlizeb_rect_to_page(
-            from,
-            length,
-            page_width,
-            page_height,
-            corners.as_mut_ptr(),
-            corners.len(),
+    let [x0, y0, x1, y1] = corners;
+    let (start, end) = unsafe {
+        (
+            c::novlizeb_rect_to_page_start(from, length, page_width, page_height, x0, y0, x1, y1),
+            c::novlizeb_rect_to_page_end(from, length, page_width, page_height, x0, y0, x1, y1),
         )
-    });
-    assert!(done, "a box of the frame is mapped");
-    corners
+    };
+    [start as u32, (start >> 32) as u32, end as u32, (end >> 32) as u32]
 }
 
 /// A bool of C.

@@ -20,7 +20,7 @@ use Rattle.levelling.proofs.ShearLaws.{greatest-bounds}
 use Rattle.levelling.proofs.FrameLaws.{length-shears}
 use Rattle.boundary.specs.Levels.{inLimits, frameWord, lentFits, isLevelled, PlaneTold}
 
-split : (a b : Bool) → T (a && b) → T a × T b
+pub split : (a b : Bool) → T (a && b) → T a × T b
 split true true t = (tt, tt)
 split true false t = absurd t
 split false b t = absurd t
@@ -100,11 +100,11 @@ behind a b s m n e f =
     ap (λ (l : List ℕ). take n (drop m l)) (append-assoc a b r) ∙ ap (take n) (drop-at a (b ++ r) m e) ∙ take-at b r n f
 
 -- ---- tests of the code: b is what the code was told, and it asks for `not b`
-is-true : (b : Bool) → not b ≡ false → b ≡ true
+pub is-true : (b : Bool) → not b ≡ false → b ≡ true
 is-true true e = refl
 is-true false e = sym e
 
-is-false : (b : Bool) → not b ≡ true → b ≡ false
+pub is-false : (b : Bool) → not b ≡ true → b ≡ false
 is-false true e = sym e
 is-false false e = refl
 
@@ -193,7 +193,7 @@ parts-are w h slope words s fw fh l e p q =
     let n = length-shears w h slope (l .sides) (l .one) in
     let a : take (w - 0) words ≡ f .shear = ap (λ (k : ℕ). take k words) (all w) ∙ ap (take w) e ∙ front (f .shear) (f .shear-x) s w (n .0) in
     let b : take (w + fh - w) (drop w words) ≡ f .shear-x =
-        ap (λ (k : ℕ). take k (drop w words)) (rest w fh) ∙ ap (λ (k : List ℕ). take fh (drop w k)) e ∙ behind (f .shear) (f .shear-x) s w fh (n .0) (n .1 ∙ sym q) in
+    ap (λ (k : ℕ). take k (drop w words)) (rest w fh) ∙ ap (λ (k : List ℕ). take fh (drop w k)) e ∙ behind (f .shear) (f .shear-x) s w fh (n .0) (n .1 ∙ sym q) in
     ap (λ (k : List ℕ). frameOf w h k (take (w + fh - w) (drop w words)) fw fh) a
     ∙ ap (λ (k : List ℕ). frameOf w h (f .shear) k fw fh) b
     ∙ ap (λ (k : ℕ). frameOf w h (f .shear) (f .shear-x) k fh) p
@@ -202,6 +202,7 @@ parts-are w h slope words s fw fh l e p q =
   where
     all : (w : ℕ) → w - 0 ≡ w
     all w = omega arith
+
     rest : (w n : ℕ) → w + n - w ≡ n
     rest w n = omega arith
 

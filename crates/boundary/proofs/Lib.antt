@@ -4,3 +4,5 @@ pub mod LabelAnswerLaws
 pub mod ExtentAnswerLaws
 -- what the limits of levelling give, and that a frame's own shears fit it
 pub mod LevelLaws
+-- the way back by the words that hold both shears
+pub mod MapLaws

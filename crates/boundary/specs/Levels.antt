@@ -6,11 +6,14 @@ use Prim.Native.Nat.{ℕ, _+_, _*_}
 use lib.Dec.{eqb, ltb, leb}
 use lib.IntN.{pos}
 use lib.Ieee.{Float, fin, le}
-use lib.ListN.{length}
+use lib.ListN.{length, take, drop}
 use Rattle.memory.specs.Limits.{maxPageSide}
 use Rattle.memory.specs.Words.{over}
-use Rattle.levelling.specs.Frames.{frame}
+use Rattle.labelling.specs.declared.rect.Rect.{Rect}
+use Rattle.levelling.specs.Frames.{Frame, frame, frameOf}
+use Rattle.levelling.specs.Mapping.{toPage, rectToPage}
 use Rattle.levelling.specs.Planes.{levelled}
+use Rattle.levelling.specs.declared.Point.{Point}
 
 -- page sides from 1 to 8192, a slope from -1 to 1
 unfoldable pub inLimits : ℕ → ℕ → Float → Bool
@@ -34,3 +37,24 @@ pub record PlaneTold (done : Bool) (w h : ℕ) (slope : Float) (fill : ℕ) (pag
   pub answer : r ≡ done
   pub sheared : shears' ≡ cond done (over (frame w h slope .shear ++ frame w h slope .shear-x) shears) shears
   pub plane : out' ≡ cond done (over (levelled (frame w h slope) fill page) out) out
+
+-- the words are those of a page w wide and of frame rows up to y at least
+unfoldable pub holdsRow : ℕ → ℕ → ℕ → Bool
+holdsRow length w y = ltb 0 w && ltb (w + y) length
+
+-- the frame whose shears the words s are, for a page w wide and h high; mapping back asks nothing else of it
+abbrev pub frameIn : List ℕ → ℕ → ℕ → Frame
+frameIn s w h = frameOf w h (take w s) (drop w s) 0 0
+
+-- frame point (x, y) on the page; (0, 0) where there is no such row
+unfoldable pub pointIn : List ℕ → ℕ → ℕ → ℕ → Point
+pointIn s w x y = cond (holdsRow (length s) w y) (toPage (frameIn s w 0) x y) (record { x = pos 0; y = pos 0 })
+
+-- a frame box on the page; all 0 where there are no such rows, or the page has none
+unfoldable pub rectIn : List ℕ → ℕ → ℕ → Rect → Rect
+rectIn s w h r =
+    cond (holdsRow (length s) w (r .y0) && holdsRow (length s) w (r .y1) && ltb 0 h) (rectToPage (frameIn s w h) r) (record { x0 = 0; y0 = 0; x1 = 0; y1 = 0 })
+
+-- a corner: its row times 2^32, and its column
+abbrev pub cornerWord : ℕ → ℕ → ℕ
+cornerWord x y = y * 4294967296 + x

@@ -9,7 +9,9 @@ ghost use Rattle.rounding.proofs.DriftLaws.{WithinOne};
 ghost use Rattle.levelling.specs.Shears as Shears;
 ghost use Rattle.levelling.specs.Frames.{PageSides, frame};
 ghost use Rattle.levelling.specs.Planes.{levelled};
-ghost use Rattle.boundary.specs.Levels.{inLimits, frameWord, lentFits, isLevelled, PlaneTold};
+ghost use Rattle.boundary.specs.Levels.{inLimits, frameWord, lentFits, isLevelled, PlaneTold, holdsRow, pointIn, rectIn, cornerWord};
+use labelling::Rect;
+use levelling::Point;
 
 // The value where the skew is applied, else 0.
 #[no_mangle]
@@ -123,4 +125,100 @@ pub extern "C" fn novlizeb_level_plane(
     }
     level(page, fill, page_w, page_h, slope, w, h, shears, out);
     true
+}
+
+// Whether the words hold the shears of a page's columns and of the frame's rows up to y.
+fn holds_row(length: usize, page_w: u32, y: u32) -> bool
+    ensures { λ r. ⌜ r ≡ holdsRow length «page_w» y ⌝ }
+{
+    (0 < page_w) & (page_w as usize + (y as usize) < length)
+}
+
+// Frame point (x, y) on the page.
+fn point(shears: &[u32], page_w: u32, x: u32, y: u32) -> Point
+    ensures { λ r. ⌜ r ≡ pointIn (now (shears .entry)) «page_w» x y ⌝ }
+{
+    if !holds_row(shears.len(), page_w, y) {
+        return Point { x: 0, y: 0 };
+    }
+    let pw = page_w as usize;
+    levelling::to_page(&shears[0..pw], &shears[pw..], page_w, x, y)
+}
+
+// The page column of frame point (x, y), by the shears that levelling wrote.
+#[no_mangle]
+pub extern "C" fn novlizeb_to_page_x(shears: &[u32], page_w: u32, x: u32, y: u32) -> i64
+    ensures { λ r. ⌜ r ≡ pointIn (now (shears .entry)) «page_w» x y .x ⌝ }
+{
+    let p = point(shears, page_w, x, y);
+    p.x
+}
+
+// Its page row.
+#[no_mangle]
+pub extern "C" fn novlizeb_to_page_y(shears: &[u32], page_w: u32, x: u32, y: u32) -> i64
+    ensures { λ r. ⌜ r ≡ pointIn (now (shears .entry)) «page_w» x y .y ⌝ }
+{
+    let p = point(shears, page_w, x, y);
+    p.y
+}
+
+// A frame box on the page.
+fn page_rect(shears: &[u32], page_w: u32, page_h: u32, r: Rect) -> Rect
+    ensures { λ b. ⌜ b ≡ rectIn (now (shears .entry)) «page_w» «page_h» r ⌝ }
+{
+    let above = holds_row(shears.len(), page_w, r.y0);
+    let below = holds_row(shears.len(), page_w, r.y1);
+    if !(above & below & (0 < page_h)) {
+        return Rect {
+            x0: 0,
+            y0: 0,
+            x1: 0,
+            y1: 0,
+        };
+    }
+    let pw = page_w as usize;
+    levelling::rect_to_page(&shears[0..pw], &shears[pw..], page_w, page_h, r)
+}
+
+// A corner of a page box: its row times 2^32, and its column.
+fn corner(x: u32, y: u32) -> u64
+    ensures { λ r. ⌜ r ≡ cornerWord x y ⌝ }
+{
+    y as u64 * 4294967296 + x as u64
+}
+
+// The first corner of the page box of a frame box, by the shears that levelling wrote: its row times 2^32,
+// and its column.
+#[no_mangle]
+pub extern "C" fn novlizeb_rect_to_page_start(
+    shears: &[u32],
+    page_w: u32,
+    page_h: u32,
+    x0: u32,
+    y0: u32,
+    x1: u32,
+    y1: u32,
+) -> u64
+    ensures { λ r. ⌜ r ≡ cornerWord (rectIn (now (shears .entry)) «page_w» «page_h» (record { x0 = x0; y0 = y0; x1 = x1; y1 = y1 }) .x0) (rectIn (now (shears .entry)) «page_w» «page_h» (record { x0 = x0; y0 = y0; x1 = x1; y1 = y1 }) .y0) ⌝ }
+{
+    let b = page_rect(shears, page_w, page_h, Rect { x0, y0, x1, y1 });
+    corner(b.x0, b.y0)
+}
+
+// Its last corner.
+#[no_mangle]
+pub extern "C" fn novlizeb_rect_to_page_end(
+    shears: &[u32],
+    page_w: u32,
+    page_h: u32,
+    x0: u32,
+    y0: u32,
+    x1: u32,
+    y1: u32,
+) -> u64
+    ensures { λ r. ⌜ r ≡ cornerWord (rectIn (now (shears .entry)) «page_w» «page_h» (record { x0 = x0; y0 = y0; x1 = x1; y1 = y1 }) .x1) (rectIn (now (shears .entry)) «page_w» «page_h» (record { x0 = x0; y0 = y0; x1 = x1; y1 = y1 }) .y1) ⌝ }
+{
+    let b = page_rect(shears, page_w, page_h, Rect { x0, y0, x1, y1 });
+    corner(b.x1, b.y1)
 }

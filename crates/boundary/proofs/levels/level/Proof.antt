@@ -56,10 +56,11 @@ returns c =
     let p = c .before .before .before .before .before .before .before .before .before .before .before .before .before .before in
     let l : Limits (p .args .page-w) (p .args .page-h) (p .args .slope) = record { sides = p .pre .0; one = p .pre .1 .0 } in
     let e = p .pre .1 .1 .0 in
-    let s = c .before .before .before .before .before .before .before .before .before .fill-shears .ensures in
-    (s,
+    let s = c .before .before .before .before .before .before .before .before .before .fill-shears .ensures in (
+      s,
       c .before .before .level-plane .ensures
-      ∙ ap (λ (f : Frame). over (levelled f (p .args .fill) (p .args .page .now)) (p .args .out .now)) (parts-are _ _ _ _ _ _ _ l s (e .0) (e .1)))
+          ∙ ap (λ (f : Frame). over (levelled f (p .args .fill) (p .args .page .now)) (p .args .out .now)) (parts-are _ _ _ _ _ _ _ l s (e .0) (e .1)),
+    )
 
 pub level-spec : {M : Type 1} → statement M
 level-spec =
