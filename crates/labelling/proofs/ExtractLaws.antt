@@ -3,7 +3,7 @@ use mathlib.Core.Path.{_≡_, refl, sym, ap, _∙_, subst}
 use mathlib.Core.List.{List, [], _∷_, _++_, map, append-assoc, append-nil}
 use mathlib.Core.Bool.{Bool, true, false, cond, _&&_, not}
 use Prim.Native.Nat.{ℕ, zero, suc, _+_, _-_, _*_, _/_, _%_, _≤_, _<_}
-use native.Mathlib.Nat.{le-refl, le-trans, not-suc-le-zero, suc-mul, mul-comm, mod-eq-of-lt, mod-self, mul-mod-left, mul-add-mod-self-right, mul-le-mul-right, mul-left-comm}
+use native.Mathlib.Nat.{le-refl, le-trans, not-suc-le-zero, suc-mul, mul-comm, mod-eq-of-lt, mod-self, mul-mod-left, mul-add-mod-self-right, mul-le-mul-right, mul-left-comm, mul-one, mul-zero}
 use native.Mathlib.Numerals.{add-one}
 use native.Mathlib.Decide.{ℕ-discrete, decLt}
 use native.Mathlib.Omega.{arith}
@@ -11,11 +11,13 @@ use borrow.Author.Tests.{eq-eqb, ne-eqb, lt-ltb, le-ltb}
 use lib.ListN.{getD, length, set, take, drop, length-set, length-map, length-append, length-drop}
 use lib.Seq.{getD-take, getD-drop, length-take-le, take-set-le, take-suc-set}
 use lib.Dec.{eqb, ltb}
+use Rattle.memory.specs.Lists.{countIf}
 use Rattle.labelling.specs.Labels.{isInk}
 use Rattle.labelling.specs.InkRuns.{inkBefore, differ, appendIf, turns, runCount}
-use Rattle.labelling.specs.Extraction.{rowWords, rowTurns, RowRoom, RowExtracted, PlaneRoom, Extracted}
+use Rattle.labelling.specs.Extraction.{rowWords, rowTurns, RowRoom, RowScan, ScanRoom, Scanned, RowExtracted, PlaneRoom, Extracted}
+use Rattle.labelling.proofs.CountLaws.{count-zero, count-full}
 use Rattle.labelling.proofs.TurnLaws.{bit, scanned}
-use Rattle.labelling.proofs.ScanLaws.{append-step, turns-inner, turns-last, inkBefore-inner, turns-room, turns-fit}
+use Rattle.labelling.proofs.ScanLaws.{turns-still, append-step, turns-inner, turns-last, inkBefore-inner, turns-room, turns-fit}
 use Rattle.labelling.proofs.RunLabelLaws.{inkBefore-row, turns-even}
 
 -- Within a row
@@ -65,7 +67,7 @@ unfolding appendIf
 length-appendIf true x l = length-append l (x ∷ [])
 length-appendIf false x l = let e : length l ≡ length l + 0 = omega arith in e
 
-ink-bit : (m : List ℕ) (x : ℕ) → cond (eqb (getD m x 0) 0) 0 1 ≡ bit (isInk m x)
+pub ink-bit : (m : List ℕ) (x : ℕ) → cond (eqb (getD m x 0) 0) 0 1 ≡ bit (isInk m x)
 unfolding isInk
 ink-bit m x = go (ℕ-discrete (getD m x 0) 0)
   where
@@ -84,16 +86,7 @@ turn-bit true false = refl
 turn-bit false true = refl
 turn-bit false false = refl
 
--- the first x dots of a row are read: k is where the next turn goes, `before` whether the last dot was ink
-pub record RowScan (row : List ℕ) (base : ℕ) (s₀ s : List ℕ) (at k before x : ℕ) : Type 0 where
-  pub asks : RowRoom row base s₀ at
-  pub len : length s ≡ length s₀
-  pub upto : x ≤ length row
-  pub place : k ≡ at + length (turns (suc (length row)) row x)
-  pub ink : before ≡ bit (inkBefore (suc (length row)) row x)
-  pub words : take k s ≡ take at s₀ ++ map (λ i. base + i) (turns (suc (length row)) row x)
-
-pub scan-none : {row : List ℕ} {base : ℕ} {s : List ℕ} {at : ℕ} → RowRoom row base s at → RowScan row base s s at at 0 0
+scan-none : {row : List ℕ} {base : ℕ} {s : List ℕ} {at : ℕ} → RowRoom row base s at → RowScan row base s s at at 0 0
 unfolding turns inkBefore
 scan-none {row} {base} {s} {at} A =
     record {
@@ -105,10 +98,10 @@ scan-none {row} {base} {s} {at} A =
       words = sym (append-nil (take at s));
     }
 
-module _ {row : List ℕ} {base : ℕ} {s₀ s : List ℕ} {at k before x : ℕ} (S : RowScan row base s₀ s at k before x) where
-  w : ℕ
-  w = length row
+pub scan-start : {row : List ℕ} {base : ℕ} {s : List ℕ} {at : ℕ} → RowRoom row base s at → RowScan row base s s at at (at % 2) 0
+scan-start {row} {base} {s} {at} A = subst (λ z. RowScan row base s s at at z 0) (sym (A .even)) (scan-none A)
 
+module _ {row : List ℕ} {base : ℕ} {s₀ s : List ℕ} {at k before x : ℕ} (S : RowScan row base s₀ s at k before x) where
   pub scan-room : x < length row → k < length s
   scan-room l =
       let z : 0 * length row + x ≡ x = omega arith in
@@ -214,6 +207,132 @@ module _ {row : List ℕ} {base : ℕ} {s₀ s : List ℕ} {at k before x : ℕ}
               ∙ (ap (λ z. at + length z) (sym c') ∙ ap (λ z. at + z) (sym (length-map (turns (length row) row (length row)) (λ i. base + i))));
         }
 
+-- Dots read in blocks
+
+pub ink-none : (m : List ℕ) → 0 ≡ countIf (isInk m) 0
+unfolding countIf
+ink-none m = refl
+
+pub ink-more : (m : List ℕ) (i count b : ℕ) → count ≡ countIf (isInk m) i → b ≡ cond (eqb (getD m i 0) 0) 0 1 → count + b ≡ countIf (isInk m) (i + 1)
+unfolding countIf
+ink-more m i count b e h = ap (λ z. z + b) e ∙ (ap (λ z. countIf (isInk m) i + z) (h ∙ ink-bit m i) ∙ ap (countIf (isInk m)) (sym (add-one i)))
+
+ink-of-part : (row : List ℕ) (x d i : ℕ) → i < d → isInk (take d (drop x row)) i ≡ isInk row (x + i)
+unfolding isInk
+ink-of-part row x d i h = ap (ltb 0) (getD-take d (drop x row) i 0 h ∙ getD-drop x row i 0)
+
+bit-small : (t : Bool) → bit t ≤ 1
+bit-small true = le-refl 1
+bit-small false = omega arith
+
+-- a turn at each dot, at most
+turns-short : (w : ℕ) (m : List ℕ) (x : ℕ) → x ≤ w → length (turns (suc w) m x) ≤ x
+unfolding turns
+turns-short w m zero l = le-refl 0
+turns-short w m (suc x) l =
+    let ih = turns-short w m x (omega arith) in
+    let d = differ (inkBefore (suc w) m x) (isInk m x) in
+    let e = ap length (turns-inner (suc w) m x (inner-wider w x l)) in
+    let f = length-appendIf d x (turns (suc w) m x) in
+    let b = bit-small d in
+    omega arith
+
+module _ {row : List ℕ} {base : ℕ} {s₀ s : List ℕ} {at k before x : ℕ} (S : RowScan row base s₀ s at k before x) where
+  -- an odd place is that of a run's end
+  pub scan-parity : k % 2 ≡ before
+  scan-parity =
+      let z = scanned (suc (length row)) row (omega arith) x .0 in
+      let b = bit-small (inkBefore (suc (length row)) row x) in
+      let e = S .ink in
+      let p = S .place in
+      let a = S .asks .even in
+      omega arith
+
+  pub scan-asks : (to : ℕ) → x ≤ to → to ≤ length row → ScanRoom row x to base s k
+  scan-asks to l h =
+      let t = turns-short (length row) row x (S .upto) in
+      let p = S .place in
+      let r = S .asks .room in
+      let d = S .asks .dots in
+      let n = S .len in
+      record { low = l; high = h; dots = omega arith; room = omega arith }
+
+  still-at : (v : Bool) → inkBefore (suc (length row)) row x ≡ v → (d : ℕ) → x + d ≤ length row → ((i : ℕ) → i < d → isInk row (x + i) ≡ v)
+      → RowScan row base s₀ s at k before (x + d)
+  still-at v e d l h =
+      let T = turns-still (suc (length row)) row v x d e
+      (λ i a b. subst (λ z. isInk row z ≡ v) (let q : x + (i - x) ≡ i = omega arith in q) (h (i - x) (omega arith)))
+      (λ i a b z. let q : i % suc (length row) ≡ i = mod-eq-of-lt (let y : i < suc (length row) = omega arith in y) in omega arith) in
+      record {
+        asks = S .asks;
+        len = S .len;
+        upto = l;
+        place = S .place ∙ ap (λ z. at + length z) (sym (T .0));
+        ink = S .ink ∙ ap bit (e ∙ sym (T .1));
+        words = S .words ∙ ap (λ z. take at s₀ ++ map (λ i. base + i) z) (sym (T .0));
+      }
+
+  -- a block whose dots are all as the one before has no turns
+  pub scan-still : (d : ℕ) → x + d ≤ length row → countIf (isInk (take d (drop x row))) d ≡ d * before → RowScan row base s₀ s at k before (x + d)
+  scan-still d l e = go (inkBefore (suc (length row)) row x) refl
+    where
+      ink-in : (i : ℕ) → i < d → isInk (take d (drop x row)) i ≡ isInk row (x + i)
+      ink-in i h = ink-of-part row x d i h
+
+      go : (v : Bool) → inkBefore (suc (length row)) row x ≡ v → RowScan row base s₀ s at k before (x + d)
+      go true q = still-at true q d l (λ i h. sym (ink-in i h) ∙ count-full (isInk (take d (drop x row))) d (e ∙ (ap (λ z. d * z) (S .ink ∙ ap bit q) ∙ mul-one d)) i h)
+      go false q = still-at false q d l (λ i h. sym (ink-in i h) ∙ count-zero (isInk (take d (drop x row))) d (e ∙ (ap (λ z. d * z) (S .ink ∙ ap bit q) ∙ mul-zero d)) i h)
+
+-- the dots from `from` up to x are read
+pub record ScanSweep (row : List ℕ) (from to base : ℕ) (s₀ s : List ℕ) (at k before x : ℕ) : Type 0 where
+  pub asks : ScanRoom row from to base s₀ at
+  pub len : length s ≡ length s₀
+  pub low : from ≤ x
+  pub high : x ≤ to
+  pub short : k ≤ at + (x - from)
+  pub read : (s₁ : List ℕ) (start : ℕ) → RowScan row base s₁ s₀ start at (at % 2) from → RowScan row base s₁ s start k before x
+
+pub sweep-none : {row : List ℕ} {from to base : ℕ} {s : List ℕ} {at : ℕ} → ScanRoom row from to base s at → ScanSweep row from to base s s at at (at % 2) from
+sweep-none A = record { asks = A; len = refl; low = le-refl _; high = A .low; short = omega arith; read = λ s₁ start S. S }
+
+module _ {row : List ℕ} {from to base : ℕ} {s₀ s : List ℕ} {at k before x : ℕ} (S : ScanSweep row from to base s₀ s at k before x) where
+  pub sweep-room : x < to → k < length s
+  sweep-room l = let a = S .asks .room in let b = S .short in let n = S .len in let o = S .low in omega arith
+
+  pub sweep-more : x < to → (here turn : ℕ) → here ≡ cond (eqb (getD row x 0) 0) 0 1 → turn ≡ cond (eqb before here) 0 1
+      → ScanSweep row from to base s₀ (set s k (base + x)) at (k + turn) here (x + 1)
+  sweep-more l here turn eh et =
+      record {
+        asks = S .asks;
+        len = length-set s k (base + x) ∙ S .len;
+        low = let o = S .low in omega arith;
+        high = omega arith;
+        short = let b = S .short in let o = S .low in let t = turn-small (eqb before here) in omega arith;
+        read = λ s₁ start R. scan-more (S .read s₁ start R) (let h = S .asks .high in omega arith) here turn eh et;
+      }
+
+  pub sweep-done : to ≤ x → Scanned row from to base s₀ s at k
+  sweep-done l =
+      record {
+        len = S .len;
+        read = λ s₁ start R.
+            let Q = S .read s₁ start R in
+            subst (λ z. RowScan row base s₁ s start k (k % 2) z) (let h = S .high in let e : x ≡ to = omega arith in e)
+            (subst (λ z. RowScan row base s₁ s start k z x) (sym (scan-parity Q)) Q);
+      }
+
+pub block-long : (row : List ℕ) (from : ℕ) → from + 32 ≤ length row → length (take (from + 32 - from) (drop from row)) ≡ 32
+block-long row from l = let e : from + 32 - from ≡ 32 = omega arith in rw e (length-take-le 32 (drop from row) (simp length-drop (omega arith)))
+
+-- a block that is passed over
+pub block-still : (row : List ℕ) (from base : ℕ) (s : List ℕ) (at count : ℕ) → ScanRoom row from (from + 32) base s at
+    → count ≡ countIf (isInk (take (from + 32 - from) (drop from row))) 32 → count ≡ 32 * (at % 2) → Scanned row from (from + 32) base s s at at
+block-still row from base s at count A e c =
+    record {
+      len = refl;
+      read = λ s₁ start R. scan-still R 32 (A .high) (ap (λ z. countIf (isInk (take z (drop from row))) 32) (let q : 32 ≡ from + 32 - from = omega arith in q) ∙ (sym e ∙ c));
+    }
+
 -- Row by row
 
 module _ (w : ℕ) (m row : List ℕ) (y : ℕ) (hw : 0 < w) (same : (x : ℕ) → x < w → getD row x 0 ≡ getD m (y * w + x) 0) where
@@ -297,6 +416,7 @@ module _ {w h : ℕ} {m s₀ s : List ℕ} {k base y : ℕ} (S : PlaneScan w h m
         record {
           some = let x = A .wide in omega arith;
           dots = let d = A .dots in let n = A .whole in omega arith;
+          even = let p = S .place in let z = scanned w m (A .wide) (y * w) .0 in let o = ap bit (inkBefore-row w m (y * w) (mul-mod-left y w)) in omega arith;
           room = rw e (let p = S .place in let n = S .len in omega arith);
         }
       where

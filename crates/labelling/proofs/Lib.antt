@@ -1,5 +1,9 @@
 -- a part of a slice that is lent and put back
 pub mod PartLaws
+-- counting the numbers that pass a test
+pub mod CountLaws
+-- the least or the greatest of some numbers
+pub mod ExtremeLaws
 -- a range of numbers, with one more
 pub mod RangeLaws
 -- `firsts` names each class by its first, and nothing else does
@@ -42,3 +46,5 @@ pub mod RecordSweepLaws
 pub mod StageLaws
 -- which number a call is refused with, and what it leaves
 pub mod EntryLaws
+-- what a reader wants to know of the labelling
+pub mod Theorems

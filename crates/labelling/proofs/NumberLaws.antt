@@ -13,25 +13,9 @@ use Rattle.memory.specs.Lists.{countIf}
 use Rattle.labelling.specs.Forests.{Forest}
 use Rattle.labelling.specs.InkRuns.{isRoot, componentNumber}
 use Rattle.labelling.specs.Numbering.{NumberedOne, Numbered}
+use Rattle.labelling.proofs.CountLaws.{count-up}
 use Rattle.labelling.proofs.ParentLaws.{forest-root}
 use Rattle.labelling.proofs.RunLabelLaws.{number-new, number-old, names-new, names-old}
-
-pub count-up : (p : ℕ → Bool) (a b : ℕ) → a ≤ b → countIf p a ≤ countIf p b
-unfolding countIf
-count-up p a zero l = subst (λ z. countIf p z ≤ 0) (let e : 0 ≡ a = omega arith in e) (le-refl 0)
-count-up p a (suc b) l = go (ℕ-discrete a (suc b)) (count-up p a b)
-  where
-    go : Dec (a ≡ suc b) → (a ≤ b → countIf p a ≤ countIf p b) → countIf p a ≤ countIf p b + cond (p b) 1 0
-    go (yes e) ih = subst (λ z. countIf p z ≤ countIf p b + cond (p b) 1 0) (sym e) (le-refl _)
-    go (no ne) ih = let h = ih (omega arith) in omega arith
-
-pub count-step : (p : ℕ → Bool) (n : ℕ) → countIf p (suc n) ≤ countIf p n + 1
-unfolding countIf
-count-step p n = go (p n)
-  where
-    go : (t : Bool) → countIf p n + cond t 1 0 ≤ countIf p n + 1
-    go true = le-refl _
-    go false = omega arith
 
 pub record NumberSweep (c capacity : ℕ) (p₀ p : List ℕ) (k count : ℕ) : Type 0 where
   pub room : c ≤ length p₀

@@ -26,7 +26,7 @@ use Rattle.labelling.specs.Tallying.{heldRecord, tallied, Small, RunTall
 use Rattle.labelling.specs.declared.component.Component.{Component}
 use Rattle.labelling.proofs.FirstLaws.{firsts-right, along}
 use Rattle.labelling.proofs.RunLabelLaws.{number-new, names-new, names-old}
-use Rattle.labelling.proofs.NumberLaws.{count-up, count-step}
+use Rattle.labelling.proofs.CountLaws.{count-up, count-step}
 use Rattle.labelling.proofs.AbsorbLaws.{column-on, absorb-run}
 use Rattle.labelling.proofs.TallyLaws.{record-put, record-append, table-put, record-read}
 

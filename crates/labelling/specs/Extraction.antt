@@ -1,10 +1,11 @@
 -- What run extraction asks and gives.
 use mathlib.Core.Path.{_≡_}
+use mathlib.Core.Bool.{cond}
 use mathlib.Core.List.{List, _++_, map}
-use Prim.Native.Nat.{ℕ, _+_, _*_, _/_, _≤_, _<_}
+use Prim.Native.Nat.{ℕ, suc, _+_, _-_, _*_, _/_, _%_, _≤_, _<_}
 use lib.ListN.{length, take}
 use Rattle.memory.specs.Limits.{maxMaskSide, maxMaskDots}
-use Rattle.labelling.specs.InkRuns.{turns, runCount}
+use Rattle.labelling.specs.InkRuns.{inkBefore, turns, runCount}
 
 -- the words that the turns of a row w wide may take
 abbrev pub rowWords : ℕ → ℕ
@@ -14,11 +15,34 @@ rowWords w = 2 * ((w + 1) / 2)
 abbrev pub rowTurns : List ℕ → ℕ → List ℕ
 rowTurns row base = map (λ i. base + i) (turns (length row) row (length row))
 
--- a row has a dot and lies within the limits, and there is room for its turns
+-- a row has a dot and lies within the limits, and there is room for its turns, from an even place on
 pub record RowRoom (row : List ℕ) (base : ℕ) (s : List ℕ) (at : ℕ) : Type 0 where
   pub some : 0 < length row
   pub dots : base + length row ≤ maxMaskDots
+  pub even : at % 2 ≡ 0
   pub room : at + rowWords (length row) ≤ length s
+
+-- the first x dots of a row are read: k is where the next turn goes, `before` whether the last dot was ink. The row's end is not
+-- looked at yet: its turns are those of a row that is one dot wider
+pub record RowScan (row : List ℕ) (base : ℕ) (s₀ s : List ℕ) (at k before x : ℕ) : Type 0 where
+  pub asks : RowRoom row base s₀ at
+  pub len : length s ≡ length s₀
+  pub upto : x ≤ length row
+  pub place : k ≡ at + length (turns (suc (length row)) row x)
+  pub ink : before ≡ cond (inkBefore (suc (length row)) row x) 1 0
+  pub words : take k s ≡ take at s₀ ++ map (λ i. base + i) (turns (suc (length row)) row x)
+
+-- dots of a row, and room for a turn at each
+pub record ScanRoom (row : List ℕ) (from to base : ℕ) (s : List ℕ) (at : ℕ) : Type 0 where
+  pub low : from ≤ to
+  pub high : to ≤ length row
+  pub dots : base + to ≤ maxMaskDots
+  pub room : at + (to - from) ≤ length s
+
+-- they are read
+pub record Scanned (row : List ℕ) (from to base : ℕ) (s s' : List ℕ) (at r : ℕ) : Type 0 where
+  pub len : length s' ≡ length s
+  pub read : (s₀ : List ℕ) (start : ℕ) → RowScan row base s₀ s start at (at % 2) from → RowScan row base s₀ s' start r (r % 2) to
 
 -- the row's turns stand after what stood before `at`, up to r
 pub record RowExtracted (row : List ℕ) (base : ℕ) (s s' : List ℕ) (at r : ℕ) : Type 0 where

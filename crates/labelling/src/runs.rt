@@ -1,14 +1,22 @@
 // Runs of ink, row by row: for each run the dot where it starts and the dot after its last, as two words; the end of a row ends a run.
 ghost use mathlib.Core.Path.{_≡_};
 ghost use mathlib.Core.Bool.{cond};
-ghost use Prim.Native.Nat.{_+_, _*_, _/_, _≤_, _<_};
-ghost use lib.ListN.{length, getD};
+ghost use Prim.Native.Nat.{_+_};
+ghost use lib.ListN.{length};
 ghost use lib.Dec.{eqb};
+ghost use Rattle.memory.specs.Lists.{countIf};
 ghost use Rattle.labelling.specs.Labels.{isInk};
-ghost use Rattle.labelling.specs.Extraction.{RowRoom, RowExtracted, PlaneRoom, Extracted};
+ghost use Rattle.labelling.specs.Extraction.{ScanRoom, Scanned, RowRoom, RowExtracted, PlaneRoom, Extracted};
 
 // 1 where a byte is ink, any but 0; else 0.
 fn ink_of(byte: u8) -> usize
+    ensures { λ r. ⌜ r ≡ cond (eqb byte 0) 0 1 ⌝ }
+{
+    if byte == 0 { 0 } else { 1 }
+}
+
+// The same in a byte.
+fn ink_bit(byte: u8) -> u8
     ensures { λ r. ⌜ r ≡ cond (eqb byte 0) 0 1 ⌝ }
 {
     if byte == 0 { 0 } else { 1 }
@@ -21,26 +29,67 @@ fn turn_of(before: usize, here: usize) -> usize
     if before == here { 0 } else { 1 }
 }
 
-// Writes the turns of a row whose first dot is `base` to the words from `at` on, and answers where they end. A word is stored at every
-// dot and counts only at a turn.
-fn extract_row(row: &[u8], base: usize, words: &mut [u32], at: usize) -> usize
-    requires { ⌜ RowRoom (now row) base (now words) at ⌝ }
-    ensures { λ r. ⌜ RowExtracted (now (row .entry)) base (now (words .entry)) (now (words .exit)) at r ⌝ }
+// How many of a block's dots are ink.
+fn ink_count(block: &[u8]) -> u8
+    requires { ⌜ length (now block) ≡ 32 ⌝ }
+    ensures { λ r. ⌜ r ≡ countIf (isInk (now (block .entry))) 32 ⌝ }
+{
+    let mut count = 0;
+    let mut i = 0;
+    while i < 32 {
+        count += ink_bit(block[i]);
+        i += 1;
+    }
+    count
+}
+
+// Writes the turns among the dots `from` up to `to` of a row to the words from `at` on, and answers where they end. An odd place is
+// that of a run's end: there the last dot was ink. A word is stored at every dot and counts only at a turn.
+fn scan(row: &[u8], from: usize, to: usize, base: usize, words: &mut [u32], at: usize) -> usize
+    requires { ⌜ ScanRoom (now row) from to base (now words) at ⌝ }
+    ensures { λ r. ⌜ Scanned (now (row .entry)) from to base (now (words .entry)) (now (words .exit)) at r ⌝ }
 {
     let mut k = at;
-    let mut before = 0;
-    let mut x = 0;
-    while x < row.len() {
+    let mut before = at % 2;
+    let mut x = from;
+    while x < to {
         let here = ink_of(row[x]);
         words[k] = (base + x) as u32;
         k += turn_of(before, here);
         before = here;
         x += 1;
     }
-    if before == 0 {
+    k
+}
+
+// The same for a block of 32 dots, which has no turns where its dots are all as the one before.
+fn scan_block(row: &[u8], from: usize, base: usize, words: &mut [u32], at: usize) -> usize
+    requires { ⌜ ScanRoom (now row) from (from + 32) base (now words) at ⌝ }
+    ensures { λ r. ⌜ Scanned (now (row .entry)) from (from + 32) base (now (words .entry)) (now (words .exit)) at r ⌝ }
+{
+    let to = from + 32;
+    if ink_count(&row[from..to]) as usize == 32 * (at % 2) {
+        return at;
+    }
+    scan(row, from, to, base, words, at)
+}
+
+// Writes the turns of a row whose first dot is `base` to the words from `at` on, and answers where they end.
+fn extract_row(row: &[u8], base: usize, words: &mut [u32], at: usize) -> usize
+    requires { ⌜ RowRoom (now row) base (now words) at ⌝ }
+    ensures { λ r. ⌜ RowExtracted (now (row .entry)) base (now (words .entry)) (now (words .exit)) at r ⌝ }
+{
+    let mut k = at;
+    let mut x = 0;
+    while 32 <= row.len() - x {
+        k = scan_block(row, x, base, words, k);
+        x += 32;
+    }
+    k = scan(row, x, row.len(), base, words, k);
+    if k % 2 == 0 {
         return k;
     }
-    words[k] = (base + x) as u32;
+    words[k] = (base + row.len()) as u32;
     k + 1
 }
 

@@ -1,0 +1,14 @@
+use borrow.Author.Needs.{needs}
+use native.Mathlib.Omega.{arith}
+use borrow.Author.Tests.{eq-eqb, ne-eqb}
+use Rattle.labelling.proofs.runs.ink_bit.Statement.{statement}
+use Rattle.labelling.proofs.runs.ink_bit.Tie as tie
+
+returns : tie.Need-returns
+returns c = simp (eq-eqb _ _ ((c .if1) .taken))
+
+returns-2 : tie.Need-returns-2
+returns-2 c = simp (ne-eqb _ _ ((c .if1) .left))
+
+pub ink-bit-spec : {M : Type 1} → statement M
+ink-bit-spec = tie.close (tie.spec returns returns-2)

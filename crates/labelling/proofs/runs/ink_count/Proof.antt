@@ -1,0 +1,56 @@
+use borrow.Author.Needs.{needs}
+use native.Mathlib.Omega.{arith}
+use lib.ListN.{getD}
+use lib.Dec.{eqb}
+use mathlib.Core.Path.{_≡_, refl, sym, ap, _∙_}
+use Prim.Native.Nat.{_-_, _≤_, _+_}
+use Rattle.memory.specs.Lists.{countIf}
+use Rattle.labelling.specs.Labels.{isInk}
+use Rattle.labelling.proofs.ExtractLaws.{ink-none, ink-more, turn-small}
+use Rattle.labelling.proofs.runs.ink_count.Statement.{statement}
+use Rattle.labelling.proofs.runs.ink_count.Tie as tie
+
+abbrev Inv-loop : tie.InvT-loop
+Inv-loop block count₀ i₀ count i = (i ≤ 32) × (count ≤ i) × (count ≡ countIf (isInk block) i)
+
+abbrev μ-loop : tie.MeasureT-loop
+μ-loop block count₀ i₀ count i = 32 - i
+
+loop-holds : tie.Need-loop-holds Inv-loop μ-loop
+loop-holds c = (omega arith, omega arith, ink-none _)
+
+shared-slice-read-ink-bit : tie.Need-shared-slice-read-ink-bit Inv-loop μ-loop
+shared-slice-read-ink-bit c = omega (arith, (c .before .before .before .before) .pre, (c .before .loop-test) .taken)
+
+ink-bit-requires : tie.Need-ink-bit-requires Inv-loop μ-loop
+ink-bit-requires c κs = search needs
+
+add-count : tie.Need-add-count Inv-loop μ-loop
+add-count c = let t = turn-small (eqb (getD ((c .before .before .before .before .before) .args .block .now) ((c .before .before .before .loop) .i) 0) 0) in omega (arith, (c .ink-bit) .ensures)
+
+add-i : tie.Need-add-i Inv-loop μ-loop
+add-i c = search needs
+
+loop-less : tie.Need-loop-less Inv-loop μ-loop
+loop-less c = search needs
+
+loop-again : tie.Need-loop-again Inv-loop μ-loop
+loop-again c = let t = turn-small (eqb (getD ((c .before .before .before .before .before) .args .block .now) ((c .before .before .before .loop) .i) 0) 0) in (omega arith, omega (arith, (c .ink-bit) .ensures), ink-more ((c .before .before .before .before .before) .args .block .now) ((c .before .before .before .loop) .i) ((c .before .before .before .loop) .count) ((c .ink-bit) .result) ((c .before .before .before .loop) .inv .2) ((c .ink-bit) .ensures))
+
+returns : tie.Need-returns Inv-loop μ-loop
+returns c = (c .before .loop) .inv .2 ∙ ap (countIf (isInk ((c .before .before .before) .args .block .now))) (let l = (c .loop-test) .left in let u = (c .before .loop) .inv .0 in let e : (c .before .loop) .i ≡ 32 = omega arith in e)
+
+pub ink-count-spec : {M : Type 1} → statement M
+ink-count-spec =
+    tie.close
+    (tie.spec
+    Inv-loop
+    μ-loop
+    loop-holds
+    shared-slice-read-ink-bit
+    ink-bit-requires
+    add-count
+    add-i
+    loop-less
+    loop-again
+    returns)
