@@ -10,16 +10,18 @@ use borrow.Author.Tests.{lt-ltb, le-ltb, ltb-true}
 use lib.ListN.{length, getD, take, drop, set, replicate, length-replicate, getD-replicate, List·getD-eq-default}
 use lib.Dec.{ltb, lit<}
 use borrow.Rule.Slice.PartMut.{putMid}
+use mir.Val.{boolByte}
 use Rattle.memory.specs.Lists.{table}
 use Rattle.memory.specs.Words.{over}
 use Rattle.memory.proofs.TableLaws.{length-table, getD-table}
 use Rattle.memory.specs.Limits.{maxExtent}
 use Rattle.labelling.specs.Labels.{isInk}
 use Rattle.sorting.specs.Extents.{inkAt, behind, ahead, runThrough, extent}
-use Rattle.sorting.specs.Scans.{ScannedTo, countDown, columnExtent, rowExtent}
+use Rattle.sorting.specs.Scans.{ScannedTo, Starts, clear, blank, countDown, columnExtent, rowExtent}
 use Rattle.sorting.proofs.MaskLaws.{inkAt-dot, dot-column, dot-row}
-use Rattle.sorting.proofs.OverLaws.{until, until-below, until-from, getD-part, length-part, length-over, over-at, over-unique, over-up, over-down, over-part}
-use Rattle.sorting.proofs.RunLaws.{Starts, clear, blank, behind-off, behind-le, ahead-off, runThrough-ends, runThrough-off, runThrough-next, runThrough-counted, starts-run}
+use Rattle.sorting.proofs.OverLaws.{until-below, until-from, getD-part, length-part, length-over, over-at, over-unique, over-up, over-down, over-part}
+use Rattle.sorting.specs.Scans.{until}
+use Rattle.sorting.proofs.RunLaws.{behind-off, behind-le, ahead-off, runThrough-ends, runThrough-off, runThrough-next, runThrough-counted, starts-run}
 
 pub product-fits : (a b : ℕ) → a < 2 ^ 32 → b < 2 ^ 32 → a * b < 2 ^ 64
 product-fits a b ha hb = lt-of-le-of-lt (mul-le-mul (le-pred-of-lt ha) (le-pred-of-lt hb)) (lit< tt)
@@ -169,20 +171,26 @@ module _ (w : ℕ) (m : List ℕ) (wide : 0 < w) where
 
 -- Loops
 
-pub count-none : (m : List ℕ) (i c : ℕ) → getD m i 0 ≡ 0 → 0 ≡ cond (isInk m i) c 0
-count-none m i c e = rw (ink-zero m i e)
+-- a bit times a number, and a choice by a bit: the code has no branch
+pub bit-times : (t : Bool) (a : ℕ) → boolByte t * a ≡ cond t a 0
+bit-times true a = omega arith
+bit-times false a = omega arith
 
-pub count-first : (m : List ℕ) (i w c : ℕ) → (getD m i 0 ≡ 0 → ⊥) → i < w → 1 ≡ cond (isInk m i) (cond (ltb i w) 0 c + 1) 0
-count-first m i w c n l = rw (ink-nonzero m i n, lt-ltb i w l)
+pub bit-times-le : (t : Bool) (a : ℕ) → boolByte t * a ≤ a
+bit-times-le true a = omega arith
+bit-times-le false a = omega arith
 
-pub count-next : (m : List ℕ) (i w c : ℕ) → (getD m i 0 ≡ 0 → ⊥) → w ≤ i → c + 1 ≡ cond (isInk m i) (cond (ltb i w) 0 c + 1) 0
-count-next m i w c n l = rw (ink-nonzero m i n, le-ltb i w l)
+pub bit-le : (t : Bool) → boolByte t ≤ 1
+bit-le true = omega arith
+bit-le false = omega arith
 
-pub extent-below : (m : List ℕ) (i j a b : ℕ) → (getD m i 0 ≡ 0 → ⊥) → (getD m j 0 ≡ 0 → ⊥) → a ≡ cond (isInk m i) (cond (isInk m j) a b) 0
-extent-below m i j a b n k = rw (ink-nonzero m i n, ink-nonzero m j k)
+pub rest-times-le : (t : Bool) (a : ℕ) → (1 - boolByte t) * a ≤ a
+rest-times-le true a = omega arith
+rest-times-le false a = omega arith
 
-pub extent-own : (m : List ℕ) (i j a b : ℕ) → (getD m i 0 ≡ 0 → ⊥) → isInk m j ≡ false → b ≡ cond (isInk m i) (cond (isInk m j) a b) 0
-extent-own m i j a b n k = rw (ink-nonzero m i n, k)
+pub bit-choice : (t : Bool) (a b : ℕ) → boolByte t * a + (1 - boolByte t) * b ≡ cond t a b
+bit-choice true a b = omega arith
+bit-choice false a b = omega arith
 
 module _ (w : ℕ) (m s e : List ℕ) (i : ℕ) (wide : 0 < w) (inside : i < length m) (room : length m ≤ length s)
     (held : e ≡ over (table (until i (countDown w m) (λ k. getD s k 0)) (length m)) s) where
@@ -195,47 +203,53 @@ module _ (w : ℕ) (m s e : List ℕ) (i : ℕ) (wide : 0 < w) (inside : i < len
   count-bound l = let a = above l in let b = count-le w m wide (i - w) in let d = div-le-self (i - w) w in omega arith
 
   -- one dot more, going down
-  pub count-loop : (v : ℕ) → v ≡ cond (isInk m i) (cond (ltb i w) 0 (getD e (i - w) 0) + 1) 0
+  pub count-loop : (c v : ℕ) → c ≡ cond (ltb i w) 0 (getD e (i - w) 0) → v ≡ cond (ltb 0 (getD m i 0)) (c + 1) 0
       → set e i v ≡ over (table (until (i + 1) (countDown w m) (λ k. getD s k 0)) (length m)) s
-  count-loop v q =
+  unfolding isInk
+  count-loop c v z q =
       ap (λ t. set t i v) held
-      ∙ over-up (countDown w m) (λ k. getD s k 0) (length m) s i v room inside (q ∙ (ap (λ c. cond (isInk m i) (c + 1) 0) (go (decLt i w)) ∙ sym (count-step w m wide i)))
+      ∙ over-up (countDown w m) (λ k. getD s k 0) (length m) s i v room inside (q ∙ (ap (λ c. cond (isInk m i) (c + 1) 0) (z ∙ go (decLt i w)) ∙ sym (count-step w m wide i)))
     where
       go : Dec (i < w) → cond (ltb i w) 0 (getD e (i - w) 0) ≡ cond (ltb i w) 0 (countDown w m (i - w))
       go (yes l) = rw (lt-ltb i w l)
       go (no l) = rw (le-ltb i w (omega arith)) (above (omega arith))
 
--- before the way up: the counts are there
-pub extent-first : (w h : ℕ) (m s : List ℕ) → length m ≡ w * h → length m ≤ length s → ((k : ℕ) → k < length m → getD s k 0 ≡ countDown w m k)
-    → s ≡ over (table (until (w * h) (countDown w m) (columnExtent w h m)) (w * h)) s
-extent-first w h m s q l held =
-    over-unique (until (w * h) (countDown w m) (columnExtent w h m)) (w * h) s s (omega arith) refl
-    (λ k b. held k (omega arith) ∙ sym (until-below (w * h) (countDown w m) (columnExtent w h m) k b)) (λ k b. refl)
+pub column-extent-le : (w h : ℕ) (m : List ℕ) (i : ℕ) → columnExtent w h m i ≤ 65534
+unfolding extent
+column-extent-le w h m i = omega arith
 
--- one dot more, going up
-pub extent-loop : (w h : ℕ) (m s e : List ℕ) (i v : ℕ) → 0 < w → length m ≡ w * h → w * h ≤ length s → 0 < i → i ≤ w * h
-    → e ≡ over (table (until i (countDown w m) (columnExtent w h m)) (w * h)) s
-    → v ≡ cond (isInk m (i - 1)) (cond (isInk m (i - 1 + w)) (getD e (i - 1 + w) 0) (min (getD e (i - 1) 0) maxExtent)) 0
-    → set e (i - 1) v ≡ over (table (until (i - 1) (countDown w m) (columnExtent w h m)) (w * h)) s
-extent-loop w h m s e i v wide q room pos l held r =
-    let z : i - 1 + 1 ≡ i = omega arith in
-    ap (λ t. set t (i - 1) v) (held ∙ ap (λ k. over (table (until k (countDown w m) (columnExtent w h m)) (w * h)) s) (sym z))
-    ∙ over-down (countDown w m) (columnExtent w h m) (w * h) s (i - 1) v room (omega arith) (r ∙ (go (isInk m (i - 1 + w)) refl ∙ sym (extent-step w m wide h q (i - 1) (omega arith))))
+-- the last row, below which nothing lies
+pub last-row : (w h : ℕ) (m : List ℕ) → 0 < w → length m ≡ w * h → (i : ℕ) → i < w * h → w * h ≤ i + w → min (countDown w m i) maxExtent ≡ columnExtent w h m i
+unfolding behind
+last-row w h m wide q i l k = sym (extent-step w m wide h q i l ∙ rw (ink-past m (i + w) (omega arith)) (go (isInk m i) refl))
   where
-    at : (k : ℕ) → k < w * h → getD e k 0 ≡ until i (countDown w m) (columnExtent w h m) k
-    at k b = ap (λ t. getD t k 0) held ∙ over-at (until i (countDown w m) (columnExtent w h m)) (w * h) s k b
+    go : (b : Bool) → isInk m i ≡ b → cond b (min (countDown w m i) maxExtent) 0 ≡ min (countDown w m i) maxExtent
+    go true e = refl
+    go false e = let z : countDown w m i ≡ 0 = count-step w m wide i ∙ rw e refl in omega arith
 
-    own : getD e (i - 1) 0 ≡ countDown w m (i - 1)
-    own = at (i - 1) (omega arith) ∙ until-below i (countDown w m) (columnExtent w h m) (i - 1) (omega arith)
+module _ (w h at : ℕ) (m s : List ℕ) (wide : 0 < w) (size : length m ≡ w * h) (low : at + w + w ≤ w * h) (room : w * h ≤ length s)
+    (counts : (k : ℕ) → at ≤ k → k < at + w → getD s k 0 ≡ countDown w m k) where
+  -- one dot more of a row, going up
+  pub take-loop : (e : List ℕ) (i v : ℕ) → at < i → i ≤ at + w → e ≡ over (table (until i (λ k. getD s k 0) (columnExtent w h m)) (w * h)) s
+      → v ≡ cond (ltb 0 (getD m (i - 1) 0)) (cond (ltb 0 (getD m (i - 1 + w) 0)) (getD e (i - 1 + w) 0) (min (getD e (i - 1) 0) maxExtent)) 0
+      → set e (i - 1) v ≡ over (table (until (i - 1) (λ k. getD s k 0) (columnExtent w h m)) (w * h)) s
+  unfolding isInk
+  take-loop e i v a b held r =
+      let z : i - 1 + 1 ≡ i = omega arith in
+      let below : getD e (i - 1 + w) 0 ≡ columnExtent w h m (i - 1 + w) = at-place (i - 1 + w) (omega arith) ∙ until-from i (λ k. getD s k 0) (columnExtent w h m) (i - 1 + w) (omega arith) in
+      let own : getD e (i - 1) 0 ≡ countDown w m (i - 1) = at-place (i - 1) (omega arith) ∙ (until-below i (λ k. getD s k 0) (columnExtent w h m) (i - 1) (omega arith) ∙ counts (i - 1) (omega arith) (omega arith)) in
+      ap (λ t. set t (i - 1) v) (held ∙ ap (λ k. over (table (until k (λ k. getD s k 0) (columnExtent w h m)) (w * h)) s) (sym z))
+      ∙ over-down (λ k. getD s k 0) (columnExtent w h m) (w * h) s (i - 1) v room (omega arith)
+      (r ∙ ((λ j. cond (isInk m (i - 1)) (cond (isInk m (i - 1 + w)) (below j) (min (own j) maxExtent)) 0) ∙ sym (extent-step w m wide h size (i - 1) (omega arith))))
+    where
+      at-place : (k : ℕ) → k < w * h → getD e k 0 ≡ until i (λ k. getD s k 0) (columnExtent w h m) k
+      at-place k c = ap (λ t. getD t k 0) held ∙ over-at (until i (λ k. getD s k 0) (columnExtent w h m)) (w * h) s k c
 
-    go : (b : Bool) → isInk m (i - 1 + w) ≡ b
-        → cond (isInk m (i - 1)) (cond (isInk m (i - 1 + w)) (getD e (i - 1 + w) 0) (min (getD e (i - 1) 0) maxExtent)) 0
-        ≡ cond (isInk m (i - 1)) (cond (isInk m (i - 1 + w)) (columnExtent w h m (i - 1 + w)) (min (countDown w m (i - 1)) maxExtent)) 0
-    go true f =
-        let u : i - 1 + w < w * h = (let y = ink-inside m (i - 1 + w) f in omega arith) in
-        let g : getD e (i - 1 + w) 0 ≡ columnExtent w h m (i - 1 + w) = at (i - 1 + w) u ∙ until-from i (countDown w m) (columnExtent w h m) (i - 1 + w) (omega arith) in
-        (λ j. cond (isInk m (i - 1)) (cond (isInk m (i - 1 + w)) (g j) (min (own j) maxExtent)) 0)
-    go false f = rw f (λ j. cond (isInk m (i - 1)) (min (own j) maxExtent) 0)
+  pub take-below-le : (e : List ℕ) (i : ℕ) → at < i → i ≤ at + w → e ≡ over (table (until i (λ k. getD s k 0) (columnExtent w h m)) (w * h)) s → getD e (i - 1 + w) 0 ≤ 65534
+  take-below-le e i a b held =
+      let q = ap (λ t. getD t (i - 1 + w) 0) held ∙ (over-at (until i (λ k. getD s k 0) (columnExtent w h m)) (w * h) s (i - 1 + w) (omega arith) ∙ until-from i (λ k. getD s k 0) (columnExtent w h m) (i - 1 + w) (omega arith)) in
+      let z = column-extent-le w h m (i - 1 + w) in
+      omega arith
 
 -- one stretch of a row with one value
 pub stretch-filled : (f g : ℕ → ℕ) (n : ℕ) (s e t : List ℕ) (x y v : ℕ) → n ≤ length s → x ≤ y → y ≤ n → e ≡ over (table (until x f g) n) s
@@ -289,3 +303,40 @@ rows-loop w h y m s e t wide l q room held r =
     ∙ (over-part (rowExtent w m) (λ k. getD s k 0) (w * h) s (y * w) (y * w + w) t room (omega arith) b (ap length c ∙ length-table f (y * w + w - y * w))
     (λ k u. ap (λ o. getD o k 0) c ∙ (getD-table f (y * w + w - y * w) k 0 u ∙ row-part w y m wide (omega arith) k (omega arith)))
     ∙ ap (λ k. over (table (until k (rowExtent w m) (λ k. getD s k 0)) (w * h)) s) (row-next w y))
+
+-- Rows one after the other
+
+pub row-from : (w y : ℕ) → 1 ≤ y → w ≤ y * w
+row-from w y l = let a : 1 * w ≤ y * w = mul-le-mul-right w l in omega arith
+
+pub row-before : (w y : ℕ) → 0 < y → (y - 1) * w + w ≡ y * w
+row-before w y l = row-next w (y - 1) ∙ ap (λ k. k * w) (let z : y - 1 + 1 ≡ y = omega arith in z)
+
+-- what a plane holds while it is filled
+pub held-below : (f g : ℕ → ℕ) (n b : ℕ) (s e : List ℕ) → e ≡ over (table (until b f g) n) s → b ≤ n → (k : ℕ) → k < b → getD e k 0 ≡ f k
+held-below f g n b s e held h k l = ap (λ t. getD t k 0) held ∙ (over-at (until b f g) n s k (omega arith) ∙ until-below b f g k l)
+
+pub held-from : (f g : ℕ → ℕ) (n b : ℕ) (s e : List ℕ) → e ≡ over (table (until b f g) n) s → (k : ℕ) → b ≤ k → k < n → getD e k 0 ≡ g k
+held-from f g n b s e held k l h = ap (λ t. getD t k 0) held ∙ (over-at (until b f g) n s k h ∙ until-from b f g k l)
+
+-- the last row is capped
+pub capped-last : (w h : ℕ) (m s e : List ℕ) → 0 < w → 0 < h → length m ≡ w * h → w * h ≤ length s → ((k : ℕ) → k < w * h → getD s k 0 ≡ countDown w m k)
+    → e ≡ over (table (until ((h - 1) * w) (λ k. getD s k 0) (λ k. min (getD s k 0) maxExtent)) (length m)) s
+    → e ≡ over (table (until ((h - 1) * w) (countDown w m) (columnExtent w h m)) (w * h)) e
+capped-last w h m s e wide high q room counts held =
+    over-unique (until ((h - 1) * w) (countDown w m) (columnExtent w h m)) (w * h) e e (omega (arith, size)) refl (λ k l. go k l (decLt k ((h - 1) * w))) (λ k l. refl)
+  where
+    size : length e ≡ length s
+    size = ap length held ∙ length-over _ (length m) s (omega arith)
+
+    bottom : (h - 1) * w + w ≡ w * h
+    bottom = row-before w h high ∙ mul-comm h w
+
+    go : (k : ℕ) → k < w * h → Dec (k < (h - 1) * w) → getD e k 0 ≡ until ((h - 1) * w) (countDown w m) (columnExtent w h m) k
+    go k l (yes b) =
+        held-below (λ k. getD s k 0) (λ k. min (getD s k 0) maxExtent) (length m) ((h - 1) * w) s e held (omega (arith, bottom)) k b
+        ∙ (counts k l ∙ sym (until-below ((h - 1) * w) (countDown w m) (columnExtent w h m) k b))
+    go k l (no b) =
+        held-from (λ k. getD s k 0) (λ k. min (getD s k 0) maxExtent) (length m) ((h - 1) * w) s e held k (omega arith) (omega arith)
+        ∙ (ap (λ t. min t maxExtent) (counts k l)
+        ∙ (last-row w h m wide q k l (omega (arith, bottom)) ∙ sym (until-from ((h - 1) * w) (countDown w m) (columnExtent w h m) k (omega arith))))

@@ -12,5 +12,9 @@ pub mod RunLaws
 pub mod ExtentLaws
 -- run extents called by themselves: refused, or done
 pub mod AnswerLaws
+-- rows or columns walked alike: marks, runs from probes, extents kept
+pub mod SweepLaws
+-- the median by counts
+pub mod Medians
 -- each dot has one kind, and the five counts add up
 pub mod KindLaws

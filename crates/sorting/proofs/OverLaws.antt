@@ -1,22 +1,17 @@
 -- A table over the front of a list, while a loop fills it: one entry stored, or a part of it.
 use mathlib.Core.Path.{_≡_, refl, sym, ap, _∙_}
-use mathlib.Core.Bool.{cond}
 use mathlib.Core.List.{List, _++_, append-nil}
 use Prim.Native.Nat.{ℕ, _+_, _-_, _≤_, _<_}
 use native.Mathlib.Decide.{ℕ-discrete, decLt}
 use native.Mathlib.Omega.{arith}
 use borrow.Author.Tests.{lt-ltb, le-ltb}
 use borrow.Rule.Slice.PartMut.{putMid}
-use lib.ListN.{length, getD, take, drop, set, length-set, length-append, length-drop, List·getD-append}
+use lib.ListN.{length, getD, take, drop, set, replicate, length-replicate, getD-replicate, length-set, length-append, length-drop, List·getD-append}
 use lib.Seq.{getD-set-same, getD-set-other, getD-append-add, getD-take, getD-drop, ext-getD, length-take-le, drop-length}
-use lib.Dec.{ltb}
 use Rattle.memory.specs.Lists.{table}
 use Rattle.memory.specs.Words.{over}
+use Rattle.sorting.specs.Scans.{until}
 use Rattle.memory.proofs.TableLaws.{length-table, getD-table}
-
--- f below i, g from i on
-unfoldable pub until : ℕ → (ℕ → ℕ) → (ℕ → ℕ) → ℕ → ℕ
-until i f g k = cond (ltb k i) (f k) (g k)
 
 pub until-below : (i : ℕ) (f g : ℕ → ℕ) (k : ℕ) → k < i → until i f g k ≡ f k
 unfolding until
@@ -175,3 +170,57 @@ over-over f g n s t l e =
 -- a table over all of a list
 pub over-whole : (f : ℕ → ℕ) (n : ℕ) (s : List ℕ) → n ≡ length s → over (table f n) s ≡ table f n
 over-whole f n s e = ap (λ k. table f n ++ drop k s) (length-table f n ∙ e) ∙ (ap (λ r. table f n ++ r) (drop-length s) ∙ append-nil (table f n))
+
+-- the first n entries are one value
+pub front-filled : (n v : ℕ) (s t : List ℕ) → n ≤ length s → t ≡ replicate (length (take (n - 0) (drop 0 s))) v
+    → (length (putMid 0 (n - 0) s t) ≡ length s) × ((k : ℕ) → k < n → getD (putMid 0 (n - 0) s t) k 0 ≡ v) × ((k : ℕ) → n ≤ k → getD (putMid 0 (n - 0) s t) k 0 ≡ getD s k 0)
+front-filled n v s t h e =
+    let z : length (take (n - 0) (drop 0 s)) ≡ n - 0 = length-part 0 n s (omega arith) h in
+    let q : t ≡ replicate (n - 0) v = e ∙ ap (λ k. replicate k v) z in
+    let l : length t ≡ n - 0 = ap length q ∙ length-replicate (n - 0) v in (
+      length-put 0 n s t (omega arith) h l,
+      λ k b. getD-put 0 n s t (omega arith) h l k .1 (omega arith) b ∙ (ap (λ o. getD o (k - 0) 0) q ∙ getD-replicate (n - 0) (k - 0) v 0 (omega arith)),
+      λ k b. getD-put 0 n s t (omega arith) h l k .2 b,
+    )
+
+-- the first a entries are stored already
+pub over-begun : (f : ℕ → ℕ) (n a : ℕ) (s : List ℕ) → n ≤ length s → ((k : ℕ) → k < a → getD s k 0 ≡ f k) → s ≡ over (table (until a f (λ k. getD s k 0)) n) s
+over-begun f n a s l h = over-unique (until a f (λ k. getD s k 0)) n s s l refl (λ i b. go i (decLt i a)) (λ i b. refl)
+  where
+    go : (i : ℕ) → Dec (i < a) → getD s i 0 ≡ until a f (λ k. getD s k 0) i
+    go i (yes b) = h i b ∙ sym (until-below a f (λ k. getD s k 0) i b)
+    go i (no b) = sym (until-from a f (λ k. getD s k 0) i (omega arith))
+
+-- or those from a on
+pub over-ended : (g : ℕ → ℕ) (n a : ℕ) (s : List ℕ) → n ≤ length s → ((k : ℕ) → a ≤ k → k < n → getD s k 0 ≡ g k) → s ≡ over (table (until a (λ k. getD s k 0) g) n) s
+over-ended g n a s l h = over-unique (until a (λ k. getD s k 0) g) n s s l refl (λ i b. go i b (decLt i a)) (λ i b. refl)
+  where
+    go : (i : ℕ) → i < n → Dec (i < a) → getD s i 0 ≡ until a (λ k. getD s k 0) g i
+    go i b (yes c) = sym (until-below a (λ k. getD s k 0) g i c)
+    go i b (no c) = h i (omega arith) b ∙ sym (until-from a (λ k. getD s k 0) g i (omega arith))
+
+-- up to a, then on to b
+pub over-chain : (f : ℕ → ℕ) (n a b : ℕ) (s e : List ℕ) → n ≤ length s → a ≤ b → e ≡ over (table (until a f (λ k. getD s k 0)) n) s
+    → over (table (until b f (λ k. getD e k 0)) n) e ≡ over (table (until b f (λ k. getD s k 0)) n) s
+over-chain f n a b s e l h held =
+    over-over (until b f (λ k. getD e k 0)) (until a f (λ k. getD s k 0)) n s e l held
+    ∙ over-ext (until b f (λ k. getD e k 0)) (until b f (λ k. getD s k 0)) n s l (λ i c. go i c (decLt i b))
+  where
+    go : (i : ℕ) → i < n → Dec (i < b) → until b f (λ k. getD e k 0) i ≡ until b f (λ k. getD s k 0) i
+    go i c (yes d) = until-below b f (λ k. getD e k 0) i d ∙ sym (until-below b f (λ k. getD s k 0) i d)
+    go i c (no d) =
+        until-from b f (λ k. getD e k 0) i (omega arith)
+        ∙ (ap (λ t. getD t i 0) held
+        ∙ (over-at (until a f (λ k. getD s k 0)) n s i c ∙ (until-from a f (λ k. getD s k 0) i (omega arith) ∙ sym (until-from b f (λ k. getD s k 0) i (omega arith)))))
+
+-- from b on, then from a on
+pub over-chain-down : (f g : ℕ → ℕ) (n a b : ℕ) (s e : List ℕ) → n ≤ length s → a ≤ b → e ≡ over (table (until b f g) n) s
+    → over (table (until a (λ k. getD e k 0) g) n) e ≡ over (table (until a f g) n) s
+over-chain-down f g n a b s e l h held =
+    over-over (until a (λ k. getD e k 0) g) (until b f g) n s e l held ∙ over-ext (until a (λ k. getD e k 0) g) (until a f g) n s l (λ i c. go i c (decLt i a))
+  where
+    go : (i : ℕ) → i < n → Dec (i < a) → until a (λ k. getD e k 0) g i ≡ until a f g i
+    go i c (yes d) =
+        until-below a (λ k. getD e k 0) g i d
+        ∙ (ap (λ t. getD t i 0) held ∙ (over-at (until b f g) n s i c ∙ (until-below b f g i (omega arith) ∙ sym (until-below a f g i d))))
+    go i c (no d) = until-from a (λ k. getD e k 0) g i (omega arith) ∙ sym (until-from a f g i (omega arith))

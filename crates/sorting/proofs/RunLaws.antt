@@ -1,12 +1,12 @@
 -- Runs of places that pass a test: their lengths by counters, from their ends, and their bounds.
 use mathlib.Core.Path.{_≡_, refl, sym, ap, _∙_}
 use mathlib.Core.Bool.{Bool, true, false, cond, true≢false}
-use Prim.Native.Nat.{ℕ, zero, suc, _+_, _-_, _≤_, _<_, min}
+use Prim.Native.Nat.{ℕ, zero, suc, _+_, _-_, _≤_, _<_}
 use native.Mathlib.Nat.{le-refl}
 use native.Mathlib.Decide.{decLe}
 use native.Mathlib.Omega.{arith}
-use Rattle.memory.specs.Limits.{maxExtent}
-use Rattle.sorting.specs.Extents.{behind, ahead, runThrough, extent}
+use Rattle.sorting.specs.Extents.{behind, ahead, runThrough}
+use Rattle.sorting.specs.Scans.{Starts, clear, blank}
 
 -- the counter: one more after a place that passes, 0 after another
 pub behind-on : (p : ℕ → Bool) (x : ℕ) → p x ≡ true → behind p (suc x) ≡ suc (behind p x)
@@ -77,11 +77,6 @@ runThrough-ends p n s e le z₁ z₂ h x a b =
     let f₁ : behind p x ≡ x - s = ap (behind p) (sym e₁) ∙ behind-run p s (x - s) z₁ (λ k c d. h k c (omega arith)) in
     let f₂ : ahead p x (n - x) ≡ e - x = ap (ahead p x) (sym e₃) ∙ ahead-run p x (e - x) (n - e) (ap (λ k. ahead p k (n - e)) e₂ ∙ z₂) (λ k c d. h k (omega arith) (omega arith)) in
     runThrough-on p n x (h x a b) ∙ omega (arith, f₁, f₂)
-
--- a place is a start: none passes just before it, or it does not pass itself
-pub data Starts (p : ℕ → Bool) (x : ℕ) : Type 0 where
-  clear : behind p x ≡ 0 → Starts p x
-  blank : p x ≡ false → Starts p x
 
 pub starts-zero : (p : ℕ → Bool) → Starts p 0
 unfolding behind

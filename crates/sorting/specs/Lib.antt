@@ -14,3 +14,5 @@ pub mod Kinds
 pub mod Sorted
 -- what the functions hand on to each other
 pub mod Scans
+-- rows or columns walked alike
+pub mod Sweeps

@@ -1,9 +1,10 @@
 -- Thin rulings (01, part 4).
 use Prim.Native.Nat.{ℕ, _+_, _-_, max}
-use mathlib.Core.Bool.{Bool, _&&_, _||_, not}
+use mathlib.Core.Bool.{Bool, cond, _&&_, _||_, not}
 use mathlib.Core.List.{List}
 use lib.Ieee.{Float}
 use lib.Dec.{leb}
+use Rattle.labelling.specs.Labels.{isInk}
 use Rattle.params.specs.declared.LayoutParams.{LayoutParams}
 use Rattle.sorting.specs.Lengths.{_·_, dots}
 use Rattle.sorting.specs.Extents.{Plane, inkAt, maskOf, runThrough, extent}
@@ -40,3 +41,8 @@ cutVertical run-min thick-max w h m = maskOf w h (transposed (inThinRuling (tran
 -- the ink after the cut: what is in neither cut mask
 unfoldable pub afterCut : ℕ → ℕ → List ℕ → List ℕ → List ℕ → List ℕ
 afterCut w h horizontal vertical m = maskOf w h (λ x y. inkAt w m x y && not (inkAt w horizontal x y || inkAt w vertical x y))
+
+-- the mark of dot i: 1 in the horizontal cut mask, 2 in the vertical one, 3 in both
+unfoldable pub cutMark : ℕ → ℕ → ℕ → ℕ → List ℕ → ℕ → ℕ
+cutMark run-min thick-max w h m i =
+    cond (isInk (cutHorizontal run-min thick-max w h m) i) 1 0 + cond (isInk (cutVertical run-min thick-max w h m) i) 2 0

@@ -1,9 +1,13 @@
 -- What the functions hand on to each other: a scan along a row, counts down the columns, sides and lengths that fit.
 use mathlib.Core.Path.{_≡_}
-use mathlib.Core.Bool.{Bool, not}
+use mathlib.Core.Bool.{Bool, false, cond, not}
 use mathlib.Core.List.{List}
-use Prim.Native.Nat.{ℕ, suc, _*_, _/_, _%_, _≤_, _<_}
+use lib.ListN.{getD, length}
+use lib.Dec.{ltb}
+use Prim.Native.Nat.{ℕ, suc, _+_, _*_, _/_, _%_, _≤_, _<_}
+use Rattle.memory.specs.Lists.{occurs}
 use Rattle.memory.specs.Limits.{maxMaskSide, maxMaskDots}
+use Rattle.labelling.specs.declared.component.Component.{Component}
 use Rattle.sorting.specs.Extents.{inkAt, behind, extent}
 
 -- r is the first place from x on, of n, where the test gives other than b
@@ -12,6 +16,15 @@ pub record ScannedTo (p : ℕ → Bool) (b : Bool) (x n r : ℕ) : Type 0 where
   pub high : r ≤ n
   pub all : (k : ℕ) → x ≤ k → k < r → p k ≡ b
   pub stop : r < n → p r ≡ not b
+
+-- a place is a start: none passes just before it, or it does not pass itself
+pub data Starts (p : ℕ → Bool) (x : ℕ) : Type 0 where
+  clear : behind p x ≡ 0 → Starts p x
+  blank : p x ≡ false → Starts p x
+
+-- f below i, g from i on
+unfoldable pub until : ℕ → (ℕ → ℕ) → (ℕ → ℕ) → ℕ → ℕ
+until i f g k = cond (ltb k i) (f k) (g k)
 
 -- how many ink dots in a row, down its column, end at dot i
 abbrev pub countDown : ℕ → List ℕ → ℕ → ℕ
@@ -34,3 +47,15 @@ pub record PlaneFits (w h mask-length words : ℕ) : Type 0 where
   pub few : w * h ≤ maxMaskDots
   pub dots : mask-length ≡ w * h
   pub room : w * h ≤ words
+
+-- counts by value of the n entries of a list
+pub record CountsOf (counts : List ℕ) (n : ℕ) (l : List ℕ) : Type 0 where
+  pub size : length l ≡ n
+  pub each : (v : ℕ) → getD counts v 0 ≡ occurs v l
+
+-- a component with a dot, whose sides fit a word
+pub record BoxFits (c : Component) : Type 0 where
+  pub columns : c .x0 ≤ c .x1
+  pub wide : c .x1 + 1 ≤ 4294967295
+  pub rows : c .y0 ≤ c .y1
+  pub high : c .y1 + 1 ≤ 4294967295

@@ -10,7 +10,7 @@ ghost use Rattle.memory.specs.Limits.{maxExtent};
 ghost use Rattle.labelling.specs.Labels.{isInk};
 ghost use Rattle.sorting.specs.Extents.{extent, rowExtents, columnExtents};
 ghost use Rattle.sorting.specs.Answers.{extentsRefusal, isMaskSide, extentsOutcome, runExtents};
-ghost use Rattle.sorting.specs.Scans.{ScannedTo, PlaneFits, countDown, columnExtent};
+ghost use Rattle.sorting.specs.Scans.{ScannedTo, PlaneFits, countDown, columnExtent, until};
 use memory::refuse_if;
 
 // The longest side of a mask, the most dots, and the greatest extent told.
@@ -76,7 +76,7 @@ fn is_mask_side(n: u32) -> bool
 }
 
 // The product of two numbers of 32 bits, which 64 bits hold.
-fn area(width: u32, height: u32) -> usize
+pub fn area(width: u32, height: u32) -> usize
     ensures { λ r. ⌜ r ≡ width * height ⌝ }
 {
     (width as usize) * (height as usize)
@@ -144,7 +144,7 @@ fn ink_end(row: &[u8], x: usize) -> usize
 }
 
 // A length as an extent.
-fn capped(length: usize) -> u32
+pub fn capped(length: usize) -> u32
     ensures { λ r. ⌜ r ≡ min length maxExtent ⌝ }
 {
     if length <= 65534 {
@@ -155,7 +155,7 @@ fn capped(length: usize) -> u32
 }
 
 // v in every word.
-fn fill(words: &mut [u32], v: u32)
+pub fn fill(words: &mut [u32], v: u32)
     ensures { λ _. ⌜ now (words .exit) ≡ replicate (length (now (words .entry))) v ⌝ }
 {
     let mut i: usize = 0;
@@ -165,67 +165,117 @@ fn fill(words: &mut [u32], v: u32)
     }
 }
 
-// Along the columns: down, each dot counts the ink that ends at it; up again, each dot takes what the dot below has.
+// Along the columns: down, each dot counts the ink that ends at it; up again, each dot takes what the dot below has. Row by row,
+// so that a row's dots are independent.
 fn column_extents(mask: &[u8], width: u32, height: u32, extents: &mut [u32])
     requires { ⌜ PlaneFits width height (length (now mask)) (length (now extents)) ⌝ }
     ensures { λ _. ⌜ now (extents .exit) ≡ over (columnExtents width height (now (mask .entry))) (now (extents .entry)) ⌝ }
 {
     let w = width as usize;
-    count_down(mask, w, extents);
     let h = height as usize;
+    count_down(mask, w, h, extents);
     take_up(mask, w, h, extents);
 }
 
-fn count_down(mask: &[u8], w: usize, extents: &mut [u32])
-    requires { ⌜ (0 < w) × (length (now mask) ≤ 1073741824) × (length (now mask) ≤ length (now extents)) ⌝ }
-    ensures { λ _. ⌜ now (extents .exit) ≡ over (table (countDown w (now (mask .entry))) (length (now (mask .entry)))) (now (extents .entry)) ⌝ }
+fn count_down(mask: &[u8], w: usize, h: usize, extents: &mut [u32])
+    requires { ⌜ PlaneFits w h (length (now mask)) (length (now extents)) ⌝ }
+    ensures { λ _. ⌜ now (extents .exit) ≡ over (table (countDown w (now (mask .entry))) (w * h)) (now (extents .entry)) ⌝ }
+{
+    count_first_row(mask, w, extents);
+    let mut y: usize = 1;
+    while y < h {
+        count_row(mask, w, y * w, extents);
+        y += 1;
+    }
+}
+
+fn count_first_row(mask: &[u8], w: usize, extents: &mut [u32])
+    requires { ⌜ (0 < w) × (w ≤ length (now mask)) × (length (now mask) ≤ length (now extents)) ⌝ }
+    ensures { λ _. ⌜ now (extents .exit) ≡ over (table (until w (countDown w (now (mask .entry))) (λ k. getD (now (extents .entry)) k 0)) (length (now (mask .entry)))) (now (extents .entry)) ⌝ }
 {
     let mut i: usize = 0;
-    while i < mask.len() {
-        let count = count_at(mask, extents, i, w);
-        extents[i] = count;
+    while i < w {
+        extents[i] = count_on(mask[i], 0);
         i += 1;
     }
 }
 
-// The ink that ends at dot i, from what ends at the dot above.
-fn count_at(mask: &[u8], counts: &[u32], i: usize, w: usize) -> u32
-    requires { ⌜ (i < length (now mask)) × (i ≤ length (now counts)) × (0 < w) × (w ≤ i → getD (now counts) (i - w) 0 ≤ 1073741824) ⌝ }
-    ensures { λ r. ⌜ r ≡ cond (isInk (now (mask .entry)) i) (cond (ltb i w) 0 (getD (now (counts .entry)) (i - w) 0) + 1) 0 ⌝ }
+// The row at `at`, from the row above.
+fn count_row(mask: &[u8], w: usize, at: usize, extents: &mut [u32])
+    requires { ⌜ (0 < w) × (w ≤ at) × (at + w ≤ length (now mask)) × (length (now mask) ≤ length (now extents)) × (length (now mask) ≤ 1073741824) × ((k : ℕ) → k < at → getD (now extents) k 0 ≡ countDown w (now mask) k) ⌝ }
+    ensures { λ _. ⌜ now (extents .exit) ≡ over (table (until (at + w) (countDown w (now (mask .entry))) (λ k. getD (now (extents .entry)) k 0)) (length (now (mask .entry)))) (now (extents .entry)) ⌝ }
 {
-    if mask[i] == 0 {
-        return 0;
+    let end = at + w;
+    let mut i = at;
+    while i < end {
+        extents[i] = count_on(mask[i], extents[i - w]);
+        i += 1;
     }
-    if i < w {
-        return 1;
-    }
-    counts[i - w] + 1
+}
+
+// One more where there is ink, else none; without a branch, so that a row goes many dots at a time.
+fn count_on(b: u8, above: u32) -> u32
+    requires { ⌜ above ≤ 1073741824 ⌝ }
+    ensures { λ r. ⌜ r ≡ cond (ltb 0 b) (above + 1) 0 ⌝ }
+{
+    let ink = (0 < b) as u32;
+    ink * (above + 1)
 }
 
 fn take_up(mask: &[u8], w: usize, h: usize, extents: &mut [u32])
-    requires { ⌜ (0 < w) × (length (now mask) ≡ w * h) × (length (now mask) ≤ length (now extents)) × ((k : ℕ) → k < length (now mask) → getD (now extents) k 0 ≡ countDown w (now mask) k) ⌝ }
+    requires { ⌜ (PlaneFits w h (length (now mask)) (length (now extents))) × ((k : ℕ) → k < w * h → getD (now extents) k 0 ≡ countDown w (now mask) k) ⌝ }
     ensures { λ _. ⌜ now (extents .exit) ≡ over (table (columnExtent w h (now (mask .entry))) (w * h)) (now (extents .entry)) ⌝ }
 {
-    let mut i = w * h;
-    while 0 < i {
-        i -= 1;
-        let e = extent_at(mask, extents, i, w);
-        extents[i] = e;
+    let mut y = h - 1;
+    cap_row(y * w, extents, mask.len());
+    while 0 < y {
+        y -= 1;
+        take_row(mask, w, h, y * w, extents);
     }
 }
 
-// The extent of dot i, from its count and the extent of the dot below.
-fn extent_at(mask: &[u8], extents: &[u32], i: usize, w: usize) -> u32
-    requires { ⌜ (i < length (now mask)) × (length (now mask) ≤ length (now extents)) × (w ≤ length (now mask)) ⌝ }
-    ensures { λ r. ⌜ r ≡ cond (isInk (now (mask .entry)) i) (cond (isInk (now (mask .entry)) (i + w)) (getD (now (extents .entry)) (i + w) 0) (min (getD (now (extents .entry)) i 0) maxExtent)) 0 ⌝ }
+// The last row: nothing lies below it.
+fn cap_row(at: usize, extents: &mut [u32], end: usize)
+    requires { ⌜ (at ≤ end) × (end ≤ length (now extents)) ⌝ }
+    ensures { λ _. ⌜ now (extents .exit) ≡ over (table (until at (λ k. getD (now (extents .entry)) k 0) (λ k. min (getD (now (extents .entry)) k 0) maxExtent)) end) (now (extents .entry)) ⌝ }
 {
-    if mask[i] == 0 {
-        return 0;
+    let mut i = end;
+    while at < i {
+        i -= 1;
+        extents[i] = least(extents[i]);
     }
-    if i + w < mask.len() {
-        if mask[i + w] != 0 {
-            return extents[i + w];
-        }
+}
+
+// The row at `at`, from the row below.
+fn take_row(mask: &[u8], w: usize, h: usize, at: usize, extents: &mut [u32])
+    requires { ⌜ (0 < w) × (length (now mask) ≡ w * h) × (at + w + w ≤ w * h) × (w * h ≤ length (now extents)) × ((k : ℕ) → at ≤ k → k < at + w → getD (now extents) k 0 ≡ countDown w (now mask) k) × ((k : ℕ) → at + w ≤ k → k < w * h → getD (now extents) k 0 ≡ columnExtent w h (now mask) k) ⌝ }
+    ensures { λ _. ⌜ now (extents .exit) ≡ over (table (until at (λ k. getD (now (extents .entry)) k 0) (columnExtent w h (now (mask .entry)))) (w * h)) (now (extents .entry)) ⌝ }
+{
+    let mut i = at + w;
+    while at < i {
+        i -= 1;
+        extents[i] = take_on(mask[i], mask[i + w], extents[i], extents[i + w]);
     }
-    capped(extents[i] as usize)
+}
+
+// The extent of a dot, from its count and the extent of the dot below; without a branch.
+fn take_on(b: u8, below: u8, own: u32, lower: u32) -> u32
+    requires { ⌜ lower ≤ 65534 ⌝ }
+    ensures { λ r. ⌜ r ≡ cond (ltb 0 b) (cond (ltb 0 below) lower (min own maxExtent)) 0 ⌝ }
+{
+    let ink = (0 < b) as u32;
+    let more = (0 < below) as u32;
+    let e = least(own);
+    ink * (more * lower + (1 - more) * e)
+}
+
+// A count as an extent.
+fn least(count: u32) -> u32
+    ensures { λ r. ⌜ r ≡ min count maxExtent ⌝ }
+{
+    if count < MAX_EXTENT {
+        count
+    } else {
+        MAX_EXTENT
+    }
 }

@@ -1,14 +1,38 @@
 // Sorting: thin rulings, the x-height and the kind of each component (layout.rs). The functions come with their proofs; what they
 // must do is in specs/.
 
+ghost use mathlib.Core.Path.{_≡_};
+ghost use Rattle.sorting.specs.Units.{unitValue};
+
 mod extents;
+mod kinds;
+mod median;
+mod rulings;
 
 pub use extents::Along;
 pub use extents::ExtentsAnswer;
 pub use extents::run_extents;
+pub use kinds::is_measurable;
+pub use kinds::kind_by_size;
+pub use kinds::kind_of;
+pub use kinds::run_min;
+pub use kinds::thick_max;
+pub use median::median_of_counts;
+pub use rulings::thin_rulings;
 
 // The x-height of the page, 01's unit: the length that every threshold is a multiple of, and whether it was measured.
 pub enum Unit {
     Measured(f64),
     Assumed(f64),
+}
+
+impl Unit {
+    pub fn value(self) -> f64
+        ensures { λ r. ⌜ r ≡ unitValue self ⌝ }
+    {
+        match self {
+            Unit::Measured(v) => v,
+            Unit::Assumed(v) => v,
+        }
+    }
 }

@@ -1,4 +1,5 @@
-use Rattle.sorting.proofs.OverLaws.{length-over, until, over-none, over-all, over-whole}
+use Rattle.sorting.proofs.OverLaws.{length-over, over-none, over-all, over-whole}
+use Rattle.sorting.specs.Scans.{until, Starts}
 use Rattle.sorting.proofs.ExtentLaws.{row-loop, row-starts, row-further}
 use native.Mathlib.Omega.{arith}
 use mathlib.Core.Path.{_≡_, refl, ap, _∙_}
@@ -8,7 +9,7 @@ use Rattle.memory.specs.Lists.{table}
 use Rattle.memory.specs.Words.{over}
 use Rattle.labelling.specs.Labels.{isInk}
 use Rattle.sorting.specs.Extents.{extent}
-use Rattle.sorting.proofs.RunLaws.{Starts, starts-zero}
+use Rattle.sorting.proofs.RunLaws.{starts-zero}
 use Rattle.sorting.proofs.extents.extents_of_row.Statement.{statement}
 use Rattle.sorting.proofs.extents.extents_of_row.Tie as tie
 

@@ -5,9 +5,9 @@ use native.Mathlib.Nat.{zero-mul, mul-comm}
 use lib.ListN.{length, getD}
 use Rattle.memory.specs.Lists.{table}
 use Rattle.memory.specs.Words.{over}
-use Rattle.sorting.specs.Scans.{rowExtent}
+use Rattle.sorting.specs.Scans.{rowExtent, until}
 use Rattle.sorting.specs.Extents.{rowExtents}
-use Rattle.sorting.proofs.OverLaws.{until, over-none, over-all, length-over, length-part}
+use Rattle.sorting.proofs.OverLaws.{over-none, over-all, length-over, length-part}
 use Rattle.sorting.proofs.ExtentLaws.{row-inside, rows-loop}
 use Rattle.sorting.proofs.extents.row_extents.Statement.{statement}
 use Rattle.sorting.proofs.extents.row_extents.Tie as tie

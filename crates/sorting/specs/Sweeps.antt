@@ -1,0 +1,79 @@
+-- Rows or columns walked alike (the Rust's `outer` and `inner`): place i of line o lies at o × across + i × along.
+use mathlib.Core.Path.{_≡_}
+use mathlib.Core.Bool.{Bool, true, false, cond, _&&_}
+use mathlib.Core.List.{List}
+use Prim.Native.Nat.{ℕ, _+_, _*_, _≤_, _<_}
+use lib.ListN.{length, getD}
+use lib.Dec.{ltb, leb}
+use Rattle.memory.specs.Limits.{maxMaskDots}
+use Rattle.sorting.specs.Extents.{Plane, extent}
+use Rattle.sorting.specs.Rulings.{widened, inThinRuling}
+use Rattle.sorting.specs.Scans.{Starts}
+use Rattle.sorting.specs.declared.rulings.Sweep.{Sweep}
+
+-- the columns of a plane w wide and h high
+abbrev pub sweepDown : ℕ → ℕ → Sweep
+sweepDown w h = record { along = w; across = 1; inner = h; outer = w }
+
+-- its rows
+abbrev pub sweepAcross : ℕ → ℕ → Sweep
+sweepAcross w h = record { along = 1; across = w; inner = w; outer = h }
+
+-- where place i of line o lies
+abbrev pub spotOf : Sweep → ℕ → ℕ → ℕ
+spotOf g i o = o * g .across + i * g .along
+
+-- the ink by place and line
+unfoldable pub planeOf : Sweep → List ℕ → Plane
+planeOf g m i o = ltb i (g .inner) && ltb o (g .outer) && ltb 0 (getD m (spotOf g i o) 0)
+
+-- line o widened across
+abbrev pub widenedLine : Sweep → List ℕ → ℕ → ℕ → Bool
+widenedLine g m o i = widened (planeOf g m) i o
+
+-- ink at most `thick-max` thick across
+unfoldable pub isThin : Sweep → List ℕ → ℕ → Plane
+isThin g m thick-max i o = planeOf g m i o && leb (extent (planeOf g m i) (g .outer) o) thick-max
+
+-- a dot of a thin ruling along its line
+abbrev pub isRuling : Sweep → List ℕ → ℕ → ℕ → Plane
+isRuling g m run-min thick-max = inThinRuling (planeOf g m) (g .inner) (g .outer) run-min thick-max
+
+-- each place has a dot of its own among n
+pub record Laid (g : Sweep) (n : ℕ) : Type 0 where
+  pub inside : (i o : ℕ) → i < g .inner → o < g .outer → spotOf g i o < n
+  pub apart : (i o j q : ℕ) → i < g .inner → o < g .outer → j < g .inner → q < g .outer → spotOf g i o ≡ spotOf g j q → (i ≡ j) × (o ≡ q)
+  pub few : n ≤ maxMaskDots
+  pub narrow : g .inner ≤ maxMaskDots
+  pub low : g .outer ≤ maxMaskDots
+
+-- r is the first place of those in a row that pass the test and end before `to`, not before `from`
+pub record ScannedBack (p : ℕ → Bool) (from to r : ℕ) : Type 0 where
+  pub low : from ≤ r
+  pub high : r ≤ to
+  pub all : (k : ℕ) → r ≤ k → k < to → p k ≡ true
+  pub stop : (k : ℕ) → from ≤ k → k + 1 ≡ r → p k ≡ false
+
+-- for each place the end and the extent of the run across that was met last: they hold from line o on
+pub record Cached (g : Sweep) (m : List ℕ) (o : ℕ) (cache : List ℕ) : Type 0 where
+  pub room : g .inner + g .inner ≤ length cache
+  pub told : (i q : ℕ) → i < g .inner → o ≤ q → q < getD cache i 0 → getD cache (g .inner + i) 0 ≡ extent (planeOf g m i) (g .outer) q
+
+-- marks before and after: v more at the dots that pass the test, of those from the c-th up to the d-th, counted line by line
+pub record Marked (g : Sweep) (n : ℕ) (p : Plane) (v : ℕ) (before after : List ℕ) (c d : ℕ) : Type 0 where
+  pub size : length after ≡ length before
+  pub each : (i o : ℕ) → i < g .inner → o < g .outer
+      → getD after (spotOf g i o) 0 ≡ getD before (spotOf g i o) 0 + cond (leb c (o * g .inner + i) && ltb (o * g .inner + i) d && p i o) v 0
+  pub past : (k : ℕ) → n ≤ k → getD after k 0 ≡ getD before k 0
+
+-- marks that one more fits to, from the c-th dot on
+pub record Unmarked (g : Sweep) (n : ℕ) (marks : List ℕ) (c : ℕ) : Type 0 where
+  pub room : n ≤ length marks
+  pub small : (i o : ℕ) → i < g .inner → o < g .outer → c ≤ o * g .inner + i → getD marks (spotOf g i o) 0 ≤ 2
+
+-- from place x of line o the walk came to r, a start, and all dots between are marked
+pub record Walked (g : Sweep) (m : List ℕ) (run-min thick-max v o x r : ℕ) (before after : List ℕ) : Type 0 where
+  pub further : x < r
+  pub inside : r ≤ g .inner
+  pub starts : Starts (widenedLine g m o) r
+  pub marked : Marked g (length m) (isRuling g m run-min thick-max) v before after (o * g .inner + x) (o * g .inner + r)
