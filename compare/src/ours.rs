@@ -90,6 +90,34 @@ mod c {
             x1: u32,
             y1: u32,
         ) -> u64;
+        pub fn novlizeb_thin_rulings(
+            ink: *const u8,
+            ink_length: usize,
+            width: u32,
+            height: u32,
+            run_min: u32,
+            thick_max: u32,
+            marks: *mut u32,
+            marks_length: usize,
+            counters: *mut u32,
+            counters_length: usize,
+        ) -> u8;
+        pub fn novlizeb_run_min(rule_run_xh: f64, unit: f64) -> u32;
+        pub fn novlizeb_thick_max(rule_max_thick_xh: f64, unit: f64) -> u32;
+        pub fn novlizeb_kind_by_size(
+            glyph_min_area: u32,
+            glyph_max_extent_frac: f64,
+            rule_min_len_xh: f64,
+            rule_max_thick_xh: f64,
+            graphic_min_xh: f64,
+            measured: u8,
+            unit: f64,
+            frame_width: u32,
+            frame_height: u32,
+            area: u32,
+            width: u32,
+            height: u32,
+        ) -> u32;
     }
 }
 
@@ -265,6 +293,63 @@ pub fn rect_to_page(shears: &[u32], page_width: u32, page_height: u32, corners: 
         )
     };
     [start as u32, (start >> 32) as u32, end as u32, (end >> 32) as u32]
+}
+
+/// The dots of thin rulings: 1 in a horizontal one, 2 in a vertical one, 3 in both; false where something is outside its limits or
+/// too short.
+pub fn thin_rulings(
+    ink: &[u8],
+    width: u32,
+    height: u32,
+    run_min: u32,
+    thick_max: u32,
+    marks: &mut [u32],
+    counters: &mut [u32],
+) -> bool {
+    flag(unsafe {
+        c::novlizeb_thin_rulings(
+            ink.as_ptr(),
+            ink.len(),
+            width,
+            height,
+            run_min,
+            thick_max,
+            marks.as_mut_ptr(),
+            marks.len(),
+            counters.as_mut_ptr(),
+            counters.len(),
+        )
+    })
+}
+
+/// The least run and the greatest thickness of a thin ruling.
+pub fn limits(p: &LayoutParams, unit: f64) -> (u32, u32) {
+    unsafe {
+        (
+            c::novlizeb_run_min(p.rule_run_xh, unit),
+            c::novlizeb_thick_max(p.rule_max_thick_xh, unit),
+        )
+    }
+}
+
+/// The kind of a component of this area, width and height, in a frame of these sides.
+pub fn kind_by_size(p: &LayoutParams, measured: bool, unit: f64, frame: (u32, u32), size: [u32; 3]) -> u32 {
+    unsafe {
+        c::novlizeb_kind_by_size(
+            p.glyph_min_area,
+            p.glyph_max_extent_frac,
+            p.rule_min_len_xh,
+            p.rule_max_thick_xh,
+            p.graphic_min_xh,
+            u8::from(measured),
+            unit,
+            frame.0,
+            frame.1,
+            size[0],
+            size[1],
+            size[2],
+        )
+    }
 }
 
 /// A bool of C.

@@ -32,4 +32,6 @@ parts! {
     labelling,
     levelling,
     extents,
+    rulings,
+    kinds,
 }

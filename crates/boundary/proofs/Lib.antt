@@ -6,3 +6,7 @@ pub mod ExtentAnswerLaws
 pub mod LevelLaws
 -- the way back by the words that hold both shears
 pub mod MapLaws
+-- what the test of thin rulings' arguments gives
+pub mod RulingLaws
+-- the value of a unit, measured or assumed, and a kind by it
+pub mod KindLaws

@@ -8,3 +8,5 @@ pub mod LabelAnswers
 pub mod ExtentAnswers
 -- levelling and the way back
 pub mod Levels
+-- thin rulings and kinds
+pub mod Sorting
