@@ -1,8 +1,8 @@
 -- The entry: which number a call is refused with, and what it leaves.
 use mathlib.Core.Path.{_≡_, refl, sym, ap, _∙_, subst}
 use mathlib.Core.List.{List, _++_}
-use mathlib.Core.Bool.{Bool, true, false, cond, not}
-use Prim.Native.Nat.{ℕ, zero, suc, _+_, _*_, _≤_, _<_}
+use mathlib.Core.Bool.{Bool, true, false, not}
+use Prim.Native.Nat.{ℕ, suc, _+_, _*_, _≤_, _<_}
 use native.Mathlib.Nat.{le-refl, le-trans, mul-le-mul-left, mul-le-mul-right}
 use native.Mathlib.Omega.{arith}
 use borrow.Author.Tests.{ltb-false, eqb-true, eqb-false, not-false, ne-eqb}
@@ -11,11 +11,11 @@ use lib.Seq.{drop-at, length-take-le}
 use lib.Dec.{eqb, ltb}
 use Rattle.memory.specs.Refusals.{refuseIf}
 use Rattle.memory.specs.Limits.{maxMaskSide, maxMaskDots, maxCapacity, componentWords, scratchWords}
-use Rattle.memory.proofs.RefusalLaws.{Passed, refusal-passed}
+use Rattle.memory.proofs.RefusalLaws.{refusal-passed}
 use Rattle.labelling.specs.Labels.{Labelling, labelling}
-use Rattle.labelling.specs.Answer.{answerOf, sideRefusal, lentRefusal, manyRefusal, refusal, Left, left, labelsLeft, componentsLeft, labelled, Workable, Worked, worked}
+use Rattle.labelling.specs.Answer.{answerOf, sideRefusal, lentRefusal, manyRefusal, refusal, left, labelsLeft, componentsLeft, labelled, Workable, worked}
 use Rattle.labelling.specs.declared.entry.LabelAnswer.{LabelAnswer}
-use Rattle.labelling.specs.declared.entry.LabelAnswer.the-variants.{Labelled, Refused}
+use Rattle.labelling.specs.declared.entry.LabelAnswer.the-variants.{Refused}
 
 -- A chain of tests before others: it gives its own number, or what the others give
 

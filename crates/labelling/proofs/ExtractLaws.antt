@@ -1,20 +1,20 @@
 -- Turns written row by row: the turns of a row are those of the mask, counted from the row's first dot.
 use mathlib.Core.Path.{_≡_, refl, sym, ap, _∙_, subst}
 use mathlib.Core.List.{List, [], _∷_, _++_, map, append-assoc, append-nil}
-use mathlib.Core.Bool.{Bool, true, false, cond, _&&_, not}
+use mathlib.Core.Bool.{Bool, true, false, cond, _&&_}
 use Prim.Native.Nat.{ℕ, zero, suc, _+_, _-_, _*_, _/_, _%_, _≤_, _<_}
-use native.Mathlib.Nat.{le-refl, le-trans, not-suc-le-zero, suc-mul, mul-comm, mod-eq-of-lt, mod-self, mul-mod-left, mul-add-mod-self-right, mul-le-mul-right, mul-left-comm, mul-one, mul-zero}
+use native.Mathlib.Nat.{le-refl, not-suc-le-zero, suc-mul, mul-comm, mod-eq-of-lt, mod-self, mul-mod-left, mul-add-mod-self-right, mul-le-mul-right, mul-left-comm, mul-one, mul-zero}
 use native.Mathlib.Numerals.{add-one}
-use native.Mathlib.Decide.{ℕ-discrete, decLt}
+use native.Mathlib.Decide.{ℕ-discrete}
 use native.Mathlib.Omega.{arith}
 use borrow.Author.Tests.{eq-eqb, ne-eqb, lt-ltb, le-ltb}
 use lib.ListN.{getD, length, set, take, drop, length-set, length-map, length-append, length-drop}
-use lib.Seq.{getD-take, getD-drop, length-take-le, take-set-le, take-suc-set}
+use lib.Seq.{getD-take, getD-drop, length-take-le}
 use lib.Dec.{eqb, ltb}
 use Rattle.memory.specs.Lists.{countIf}
 use Rattle.labelling.specs.Labels.{isInk}
 use Rattle.labelling.specs.InkRuns.{inkBefore, differ, appendIf, turns, runCount}
-use Rattle.labelling.specs.Extraction.{rowWords, rowTurns, RowRoom, RowScan, ScanRoom, Scanned, RowExtracted, PlaneRoom, Extracted}
+use Rattle.labelling.specs.Extraction.{rowTurns, RowRoom, RowScan, ScanRoom, Scanned, RowExtracted, PlaneRoom, Extracted}
 use Rattle.labelling.proofs.CountLaws.{count-zero, count-full}
 use Rattle.labelling.proofs.TurnLaws.{bit, scanned}
 use Rattle.labelling.proofs.ScanLaws.{turns-still, append-step, turns-inner, turns-last, inkBefore-inner, turns-room, turns-fit}

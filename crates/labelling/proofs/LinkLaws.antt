@@ -1,12 +1,12 @@
 -- A union-find over any relation: what it knows half way, and how that goes on.
 use mathlib.Core.Path.{_≡_, refl, sym, ap, _∙_, subst}
 use mathlib.Core.Bool.{Bool, true, false, true≢false}
-use Prim.Native.Nat.{ℕ, zero, suc, _+_, _≤_, _<_, min, max}
-use native.Mathlib.Nat.{le-refl, le-trans, not-suc-le-zero}
-use native.Mathlib.Decide.{ℕ-discrete, decLt, decLe}
+use Prim.Native.Nat.{ℕ, suc, _≤_, _<_, min, max}
+use native.Mathlib.Nat.{le-refl, not-suc-le-zero}
+use native.Mathlib.Decide.{ℕ-discrete, decLt}
 use native.Mathlib.Omega.{arith}
 use Rattle.labelling.specs.Classes.{renamed}
-use Rattle.labelling.specs.Chains.{Chain, here, rise, fall}
+use Rattle.labelling.specs.Chains.{Chain, here, rise}
 use Rattle.labelling.specs.Forests.{joinF, Named, Seen}
 use Rattle.labelling.proofs.FirstLaws.{chain-trans, chain-sym, renamed-case, joinF-a, joinF-b, min-case, max-case}
 

@@ -1,9 +1,9 @@
 -- A list of nine words.
-use mathlib.Core.Path.{_≡_, refl, sym, ap, _∙_}
+use mathlib.Core.Path.{_≡_, refl}
 use mathlib.Core.List.{List, [], _∷_}
-use Prim.Native.Nat.{ℕ, zero, suc, _+_, _<_}
+use Prim.Native.Nat.{ℕ}
 use native.Mathlib.Omega.{arith}
-use lib.ListN.{length, set, getD}
+use lib.ListN.{length, set}
 
 -- nine stores fill it
 pub nine-stores : (s : List ℕ) → length s ≡ 9 → (a b c d e f g h i : ℕ)

@@ -1,13 +1,12 @@
 -- Numbers in the place of parents: those below k are numbers, from k on they are parents still.
 use mathlib.Core.Path.{_≡_, refl, sym, ap, _∙_, subst}
 use mathlib.Core.List.{List}
-use mathlib.Core.Bool.{Bool, true, false, cond}
-use Prim.Native.Nat.{ℕ, zero, suc, _+_, _≤_, _<_, min}
+use Prim.Native.Nat.{ℕ, suc, _+_, _≤_, _<_}
 use native.Mathlib.Nat.{le-refl, not-suc-le-zero}
 use native.Mathlib.Numerals.{add-one}
-use native.Mathlib.Decide.{ℕ-discrete, decLt}
+use native.Mathlib.Decide.{ℕ-discrete}
 use native.Mathlib.Omega.{arith}
-use lib.ListN.{getD, length, set, length-set}
+use lib.ListN.{getD, length}
 use lib.Seq.{getD-set-same, getD-set-other}
 use Rattle.memory.specs.Lists.{countIf}
 use Rattle.labelling.specs.Forests.{Forest}

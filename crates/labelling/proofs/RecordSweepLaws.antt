@@ -1,23 +1,22 @@
 -- The records of the first k runs, and one run more.
-use mathlib.Core.Path.{_≡_, refl, sym, ap, _∙_, subst}
+use mathlib.Core.Path.{_≡_, refl, sym, ap, _∙_}
 use mathlib.Core.List.{List, [], _∷_, _++_}
-use mathlib.Core.Bool.{Bool, true, false, cond}
-use Prim.Native.Nat.{ℕ, zero, suc, _+_, _-_, _*_, _/_, _%_, _^_, _≤_, _<_, max}
-use native.Mathlib.Nat.{le-refl, le-trans, not-suc-le-zero, div-le-self, mod-lt, mul-suc, mul-le-mul-left}
+use mathlib.Core.Bool.{cond}
+use Prim.Native.Nat.{ℕ, zero, suc, _+_, _-_, _*_, _/_, _%_, _≤_, _<_, max}
+use native.Mathlib.Nat.{le-refl, div-le-self, mod-lt, mul-suc, mul-le-mul-left}
 use native.Mathlib.Numerals.{add-one}
 use native.Mathlib.Decide.{ℕ-discrete, decLt}
 use native.Mathlib.Omega.{arith}
 use borrow.Author.Tests.{eq-eqb, ne-eqb, lt-ltb, le-ltb}
-use lib.ListN.{getD, length, set, take, drop, length-append, length-drop}
+use lib.ListN.{getD, length, take, drop, length-append, length-drop}
 use lib.Seq.{getD-take}
 use lib.Dec.{eqb, ltb}
 use Rattle.memory.specs.Lists.{table, countIf}
 use Rattle.memory.specs.Words.{over}
 use Rattle.memory.specs.Records.{encoded}
-use Rattle.memory.specs.Limits.{maxMaskSide, maxMaskDots}
+use Rattle.memory.specs.Limits.{maxMaskDots}
 use Rattle.memory.proofs.TableLaws.{length-table, getD-table, table-ext}
 use Rattle.memory.proofs.RecordLaws.{length-encoded}
-use Rattle.labelling.specs.Chains.{Firsts}
 use Rattle.labelling.specs.Components.{noDots, columnSum, absorbedRun}
 use Rattle.labelling.specs.RecordWords.{recordWords, recordOf}
 use Rattle.labelling.specs.InkRuns.{startOf, endOf, isRoot, componentNumber, absorbDots, componentRuns}
@@ -46,9 +45,6 @@ module _ (rep : ℕ → ℕ) (low : (k : ℕ) → rep k ≤ k) (idem : (k : ℕ)
   number-upto : (k : ℕ) → componentNumber rep k ≤ countIf (isRoot rep) (suc k)
   unfolding componentNumber
   number-upto k = count-up (isRoot rep) (suc (rep k)) (suc k) (let h = low k in omega arith)
-
-  pub number-within : (j k : ℕ) → j < k → componentNumber rep j ≤ countIf (isRoot rep) k
-  number-within j k l = le-trans (number-upto j) (count-up (isRoot rep) (suc j) k l)
 
   -- a run's number is that of a component before it, or the next
   number-old-low : (k : ℕ) → (rep k ≡ k → ⊥) → componentNumber rep k ≤ countIf (isRoot rep) k
@@ -112,9 +108,6 @@ module _ (w c : ℕ) (s comps₀ : List ℕ) (A : Tallyable w c s comps₀) wher
 
   abbrev recordTo : ℕ → ℕ → Component
   recordTo k q = componentRuns w start end rep (suc q) k
-
-  abbrev countTo : ℕ → ℕ
-  countTo k = countIf (isRoot rep) k
 
   run-rows : (k : ℕ) → k < c → (i : ℕ) → start k ≤ i → i < start k + suc (end k - start k - 1) → i / w ≡ start k / w
   run-rows k l i l₁ l₂ = A .row k i l l₁ (let h = A .list .order .some k l in omega arith)

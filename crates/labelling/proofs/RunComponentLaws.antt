@@ -1,19 +1,18 @@
 -- The records of the components, taken in run by run.
 use mathlib.Core.Path.{_≡_, refl, sym, ap, _∙_, subst}
-use mathlib.Core.List.{List, [], _∷_, _++_}
-use mathlib.Core.Bool.{Bool, true, false, cond, _&&_, not, true≢false}
-use Prim.Native.Nat.{ℕ, zero, suc, _+_, _-_, _*_, _/_, _%_, _≤_, _<_, min, max}
-use native.Mathlib.Nat.{le-refl, le-trans, not-suc-le-zero}
-use native.Mathlib.Decide.{ℕ-discrete, decLt, decLe}
+use mathlib.Core.List.{List}
+use mathlib.Core.Bool.{cond}
+use Prim.Native.Nat.{ℕ, zero, suc, _+_, _-_, _*_, _/_, _%_, _≤_, _<_}
+use native.Mathlib.Nat.{le-refl}
+use native.Mathlib.Decide.{ℕ-discrete}
 use native.Mathlib.Omega.{arith}
 use borrow.Author.Tests.{eq-eqb, ne-eqb}
-use lib.ListN.{getD, length}
-use lib.Dec.{eqb, ltb, leb}
+use lib.ListN.{getD}
+use lib.Dec.{eqb}
 use Rattle.memory.specs.Lists.{table, countIf}
 use Rattle.labelling.specs.Forests.{Named}
-use Rattle.labelling.specs.Components.{noDots, absorbed}
-use Rattle.labelling.specs.Labels.{isInk, componentTo, Labelling, labelling}
-use Rattle.labelling.specs.declared.component.Component.{Component}
+use Rattle.labelling.specs.Components.{absorbed}
+use Rattle.labelling.specs.Labels.{componentTo, labelling}
 use Rattle.labelling.specs.InkRuns.{turns, runCount, runOf, startOf, endOf, Runs, touchRuns, isRoot, componentNumber, runLabel, absorbDots, componentRuns}
 use Rattle.memory.proofs.TableLaws.{getD-table, table-ext}
 use Rattle.labelling.proofs.RunLabelLaws.{paint-run, paint-gap, turns-runs, labelling-runs}

@@ -1,18 +1,18 @@
 -- The labelling, by runs: what code that scans, links and paints runs is to rest on.
-use mathlib.Core.Path.{_≡_, refl, sym, ap, _∙_, subst}
-use mathlib.Core.List.{List, [], _∷_, _++_}
-use mathlib.Core.Bool.{Bool, true, false, cond, _&&_, not, true≢false}
-use Prim.Native.Nat.{ℕ, zero, suc, _+_, _-_, _*_, _/_, _%_, _≤_, _<_, min, max}
-use native.Mathlib.Nat.{le-refl, le-trans, not-suc-le-zero, mul-mod-right}
-use native.Mathlib.Decide.{ℕ-discrete, decLt, decLe}
+use mathlib.Core.Path.{_≡_, refl, sym, ap}
+use mathlib.Core.List.{List}
+use mathlib.Core.Bool.{Bool, true, false, cond}
+use Prim.Native.Nat.{ℕ, zero, suc, _+_, _-_, _*_, _%_, _≤_, _<_}
+use native.Mathlib.Nat.{mul-mod-right}
+use native.Mathlib.Decide.{ℕ-discrete, decLt}
 use native.Mathlib.Omega.{arith}
-use borrow.Author.Tests.{ltb-true, leb-true, lt-ltb, le-leb, lt-leb, le-ltb, eqb-true, eq-eqb, ne-eqb}
-use lib.ListN.{getD, length}
-use lib.Dec.{eqb, ltb, leb}
+use borrow.Author.Tests.{eq-eqb, ne-eqb}
+use lib.ListN.{length}
+use lib.Dec.{eqb}
 use Rattle.memory.specs.Lists.{countIf, table}
-use Rattle.labelling.specs.Classes.{firstOf, firsts}
+use Rattle.labelling.specs.Classes.{firsts}
 use Rattle.labelling.specs.Forests.{Named}
-use Rattle.labelling.specs.Labels.{isInk, touches, isFirst, labelAt, componentTo, Labelling, labelling}
+use Rattle.labelling.specs.Labels.{isInk, touches, isFirst, labelAt, componentTo, labelling}
 use Rattle.labelling.specs.InkRuns.{inkBefore, turns, runCount, runOf, startOf, endOf, Runs, touchRuns, isRoot, componentNumber, runLabel}
 use Rattle.memory.proofs.TableLaws.{table-ext}
 use Rattle.labelling.proofs.TouchLaws.{run-of, starts-rise}
@@ -49,10 +49,6 @@ module _ (w h : ℕ) (m : List ℕ) (hw : 0 < w) where
         go : (t : Bool) → isInk m i ≡ t → labelAt m (firsts (touches w m) (w * h)) i ≡ cond t (countIf (isRoot rep) (suc (rep (runOf w m i)))) 0
         go true e = label-by-runs w m hw (w * h) (runCount w m (w * h)) (startOf (turns w m (w * h))) (endOf (turns w m (w * h)) 0) (runOf w m) turns-runs rep N i l e
         go false e = label-blank w m hw (w * h) (runCount w m (w * h)) (startOf (turns w m (w * h))) (endOf (turns w m (w * h)) 0) (runOf w m) turns-runs rep N i e
-
-    pub labels-runs : labelling w h m .labels ≡ table (runLabel w m rep) (w * h)
-    unfolding labelling
-    labels-runs = table-ext (labelAt m (firsts (touches w m) (w * h))) (runLabel w m rep) (w * h) label-run
 
     pub count-runs : countIf (isFirst m (firsts (touches w m) (w * h))) (w * h) ≡ countIf (isRoot rep) (runCount w m (w * h))
     count-runs = count-by-runs w m hw (w * h) (runCount w m (w * h)) (startOf (turns w m (w * h))) (endOf (turns w m (w * h)) 0) (runOf w m) turns-runs rep N

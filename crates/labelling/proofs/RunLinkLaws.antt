@@ -8,12 +8,12 @@ use native.Mathlib.Numerals.{add-one}
 use native.Mathlib.Decide.{ℕ-discrete, decLt}
 use native.Mathlib.Omega.{arith}
 use borrow.Author.Tests.{le-leb, lt-leb, eq-eqb, ne-eqb}
-use lib.ListN.{getD, length, set, take, drop, length-append, length-take, length-drop, length-set}
+use lib.ListN.{getD, length, set, take, drop, length-append, length-drop, length-set}
 use lib.Seq.{getD-take, take-at, drop-at, length-take-le, take-set-le, drop-set-add}
 use lib.Dec.{eqb, leb}
 use Rattle.memory.specs.Limits.{maxMaskSide}
 use Rattle.labelling.specs.InkRuns.{startOf, endOf, touchRuns}
-use Rattle.labelling.specs.Forests.{Seen, Forest, United, joinF}
+use Rattle.labelling.specs.Forests.{Forest, United, joinF}
 use Rattle.labelling.specs.Linking.{touching, Order, RunList, Kept, Linked, Joining, Under, Linkable, Joinable, Skipped, LinkedOne, RowLinkable, LinkedTo, RowEnd, AllLinked, firstRun}
 use Rattle.labelling.proofs.LinkLaws.{seen-none, seen-skip, seen-join, seen-next, seen-all}
 use Rattle.labelling.proofs.TouchLaws.{row-rise}

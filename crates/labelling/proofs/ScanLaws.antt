@@ -1,17 +1,15 @@
 -- A loop that writes the turns: always at the end, one place further where it was a turn. And the room that they take.
 use mathlib.Core.Path.{_≡_, refl, sym, ap, _∙_, subst}
 use mathlib.Core.List.{List, [], _∷_, _++_}
-use mathlib.Core.Bool.{Bool, true, false, cond, _&&_, not, true≢false}
-use Prim.Native.Nat.{ℕ, zero, suc, _+_, _-_, _*_, _/_, _%_, _≤_, _<_, min, max}
-use native.Mathlib.Nat.{le-refl, le-trans, not-suc-le-zero, suc-mul, mul-mod-left, mul-add-mod-self-right, mod-eq-of-lt, mul-le-mul-right}
-use native.Mathlib.Decide.{ℕ-discrete, decLt, decLe}
+use mathlib.Core.Bool.{Bool, true, false, _&&_}
+use Prim.Native.Nat.{ℕ, zero, suc, _+_, _-_, _*_, _/_, _%_, _≤_, _<_}
+use native.Mathlib.Nat.{le-refl, suc-mul, mul-mod-left, mul-add-mod-self-right, mod-eq-of-lt, mul-le-mul-right}
 use native.Mathlib.Omega.{arith}
-use borrow.Author.Tests.{eqb-true, eqb-false, eq-eqb, ne-eqb}
-use lib.ListN.{getD, length, set, take, drop, length-append}
+use borrow.Author.Tests.{eq-eqb, ne-eqb}
+use lib.ListN.{length, set, take}
 use lib.Seq.{take-set-le, take-suc-set}
-use lib.Dec.{eqb, ltb, leb}
 use Rattle.labelling.specs.Labels.{isInk}
-use Rattle.labelling.specs.InkRuns.{inkBefore, differ, appendIf, turns, runCount}
+use Rattle.labelling.specs.InkRuns.{inkBefore, differ, appendIf, turns}
 use Rattle.labelling.proofs.TurnLaws.{bit, scanned, snoc-len}
 use Rattle.labelling.proofs.RunLabelLaws.{inkBefore-row}
 

@@ -1,33 +1,28 @@
 -- The stages of labelling one after the other: what each leaves is what the next asks, and the last leaves the labelling.
 use mathlib.Core.Path.{_≡_, refl, sym, ap, _∙_, subst}
-use mathlib.Core.List.{List, [], _∷_, _++_}
-use mathlib.Core.Bool.{Bool, true, false, cond}
-use Prim.Native.Nat.{ℕ, zero, suc, _+_, _-_, _*_, _/_, _≤_, _<_, min}
-use native.Mathlib.Nat.{le-refl, le-trans, mul-comm, mul-le-mul-left, mul-left-comm}
+use mathlib.Core.List.{List, _++_}
+use Prim.Native.Nat.{ℕ, suc, _+_, _-_, _*_, _/_, _≤_, _<_, min}
+use native.Mathlib.Nat.{le-trans, mul-comm, mul-le-mul-left, mul-left-comm}
 use native.Mathlib.Omega.{arith}
 use borrow.Author.Tests.{lt-ltb, le-ltb}
 use borrow.Rule.Slice.PartMut.{putMid}
 use lib.ListN.{getD, length, take, drop, length-append, length-drop}
-use lib.Seq.{getD-take, length-take-le, take-at, drop-at, getD-append-add}
-use lib.Dec.{eqb, ltb}
+use lib.Seq.{getD-take, length-take-le, take-at, getD-append-add}
 use Rattle.memory.specs.Lists.{table, countIf}
 use Rattle.memory.specs.Words.{over}
 use Rattle.memory.specs.Records.{encoded}
 use Rattle.memory.specs.Refusals.{refuseIf}
-use Rattle.memory.specs.Limits.{maxMaskSide, maxMaskDots}
+use Rattle.memory.specs.Limits.{maxMaskDots}
 use Rattle.memory.proofs.TableLaws.{length-table}
-use Rattle.labelling.specs.Labels.{Labelling, labelling}
-use Rattle.labelling.specs.Classes.{firstOf, firsts}
-use Rattle.labelling.specs.Forests.{Named, Forest}
-use Rattle.labelling.specs.InkRuns.{turns, runCount, runOf, startOf, endOf, Runs, touchRuns, isRoot, componentNumber, runLabel, componentRuns}
+use Rattle.labelling.specs.Labels.{labelling}
+use Rattle.labelling.specs.InkRuns.{turns, runCount, runOf, startOf, endOf, Runs, isRoot, componentNumber, runLabel, componentRuns}
 use Rattle.labelling.specs.Extraction.{PlaneRoom, Extracted}
-use Rattle.labelling.specs.Linking.{touching, firstRun, Order, RunList, AllLinked}
+use Rattle.labelling.specs.Linking.{touching, firstRun, RunList, AllLinked}
 use Rattle.labelling.specs.Numbering.{Numbered}
-use Rattle.labelling.specs.Painting.{Front, Paintable, Painted}
+use Rattle.labelling.specs.Painting.{Paintable, Painted}
 use Rattle.labelling.specs.RecordWords.{recordWords}
 use Rattle.labelling.specs.Tallying.{records, Tallyable}
-use Rattle.labelling.specs.Answer.{answerOf, labelsLeft, componentsLeft, manyRefusal, Workable, Worked, worked}
-use Rattle.labelling.specs.declared.entry.LabelAnswer.{LabelAnswer}
+use Rattle.labelling.specs.Answer.{answerOf, labelsLeft, componentsLeft, Workable, worked}
 use Rattle.labelling.specs.declared.entry.LabelAnswer.the-variants.{Labelled, Refused}
 use Rattle.labelling.proofs.TransferLaws.{firsts-named}
 use Rattle.labelling.proofs.RunLabelLaws.{turns-even, turns-runs, paint-run, paint-gap}

@@ -1,23 +1,19 @@
 -- Records written run by run.
-use mathlib.Core.Path.{_≡_, refl, sym, ap, _∙_, subst}
+use mathlib.Core.Path.{_≡_, refl, sym, ap, _∙_}
 use mathlib.Core.List.{List, [], _∷_, _++_, append-assoc}
-use mathlib.Core.Bool.{Bool, true, false, cond}
-use Prim.Native.Nat.{ℕ, zero, suc, _+_, _-_, _*_, _/_, _%_, _^_, _≤_, _<_, max}
-use native.Mathlib.Nat.{le-refl, le-trans, not-suc-le-zero, le-of-suc-le-suc, suc-mul, div-le-self, mod-add-div'}
-use native.Mathlib.Numerals.{add-one}
-use native.Mathlib.Decide.{ℕ-discrete, decLt}
+use Prim.Native.Nat.{ℕ, zero, suc, _+_, _-_, _*_, _/_, _%_, _≤_, _<_}
+use native.Mathlib.Nat.{not-suc-le-zero, le-of-suc-le-suc, suc-mul, div-le-self, mod-add-div'}
+use native.Mathlib.Decide.{ℕ-discrete}
 use native.Mathlib.Omega.{arith}
-use borrow.Author.Tests.{eq-eqb, ne-eqb, lt-ltb, le-ltb}
 use borrow.Rule.Slice.PartMut.{putMid}
 use lib.ListN.{getD, length, set, take, drop, length-append, length-drop, length-set}
-use lib.Seq.{length-take-le, drop-drop, getD-take, getD-drop, sets, sets-eq, take-append-add, drop-append-add, drop-append-seam, ext-getD, getD-set-same, getD-set-other}
-use lib.Dec.{eqb, ltb}
-use Rattle.memory.specs.Lists.{table, countIf}
+use lib.Seq.{length-take-le, drop-drop, getD-take, getD-drop, sets-eq, take-append-add, drop-append-add, drop-append-seam, ext-getD, getD-set-same, getD-set-other}
+use Rattle.memory.specs.Lists.{table}
 use Rattle.memory.specs.Words.{over}
 use Rattle.memory.specs.Records.{encoded}
-use Rattle.memory.proofs.TableLaws.{length-table, getD-table, table-ext}
+use Rattle.memory.proofs.TableLaws.{length-table, getD-table}
 use Rattle.memory.proofs.RecordLaws.{length-encoded, record-more, record-at}
-use Rattle.labelling.specs.Components.{noDots, absorbed, columnSum, absorbedRun}
+use Rattle.labelling.specs.Components.{absorbedRun}
 use Rattle.labelling.specs.RecordWords.{recordWords, recordOf}
 use Rattle.labelling.specs.Tallying.{heldRecord, tallied}
 use Rattle.labelling.specs.declared.component.Component.{Component}

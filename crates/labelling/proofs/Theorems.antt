@@ -1,8 +1,8 @@
 -- What the definition `labelling` of specs/Labels says: the theorems that a reader wants (01, part 2).
-use mathlib.Core.Path.{_≡_, refl, sym, ap, _∙_, subst}
+use mathlib.Core.Path.{_≡_, refl, sym, ap, _∙_}
 use mathlib.Core.List.{List}
-use mathlib.Core.Bool.{Bool, true, false, cond, _&&_, true≢false}
-use Prim.Native.Nat.{ℕ, zero, suc, _+_, _*_, _/_, _%_, _≤_, _<_, min, max}
+use mathlib.Core.Bool.{Bool, true, false, cond}
+use Prim.Native.Nat.{ℕ, zero, suc, _+_, _-_, _*_, _/_, _%_, _≤_, _<_, min, max}
 use native.Mathlib.Nat.{le-refl, le-trans, not-suc-le-zero, mod-le, div-le-self}
 use native.Mathlib.Decide.{ℕ-discrete, decLt}
 use native.Mathlib.Omega.{arith}
@@ -14,12 +14,12 @@ use Rattle.memory.proofs.TableLaws.{length-table, getD-table}
 use Rattle.labelling.specs.Chains.{Chain, here, rise, fall, Firsts}
 use Rattle.labelling.specs.Classes.{firstOf, firsts}
 use Rattle.labelling.specs.Components.{noDots, absorbed}
-use Rattle.labelling.specs.Labels.{isInk, touches, isFirst, labelAt, componentTo, Labelling, labelling}
+use Rattle.labelling.specs.Labels.{isInk, touches, isFirst, labelAt, componentTo, labelling}
 use Rattle.labelling.specs.declared.component.Component.{Component}
 use Rattle.labelling.proofs.CountLaws.{count-up, count-one, count-reach}
-use Rattle.labelling.proofs.ExtremeLaws.{Extreme, Least, Greatest, extreme, min-either, max-either}
+use Rattle.labelling.proofs.ExtremeLaws.{Least, Greatest, extreme, min-either, max-either}
 use Rattle.labelling.proofs.FirstLaws.{firsts-right, firsts-unique, firsts-chain, along}
-use Rattle.labelling.proofs.TouchLaws.{and-both, and-intro, Near, near-of}
+use Rattle.labelling.proofs.TouchLaws.{and-both, and-intro, near-of}
 
 -- the sum of f over the numbers below n that pass the test p
 unfoldable pub sumIf : (ℕ → Bool) → (ℕ → ℕ) → ℕ → ℕ
@@ -119,6 +119,111 @@ module _ (w h : ℕ) (m : List ℕ) where
       let b = and-both _ _ (r .2) in
       let f : firstDot (r .0) ≡ r .0 = eqb-true _ _ (b .1) in
       (r .0, r .1, b .0, f, label-ink (r .0) (r .1) (b .0) ∙ (ap (λ z. countIf (isFirst m (firsts (touches w m) (w * h))) (suc z)) f ∙ r .3))
+
+-- numbers that are given so are the labels, and no others are
+pub record Numbers (w h : ℕ) (m : List ℕ) (g : ℕ → ℕ) : Type 0 where
+  -- 0 on a blank dot, more on ink
+  pub blank : (i : ℕ) → i < w * h → isInk m i ≡ false → g i ≡ 0
+  pub ink : (i : ℕ) → i < w * h → isInk m i ≡ true → 0 < g i
+  -- one number for each component
+  pub same : (a b : ℕ) → a < w * h → b < w * h → isInk m a ≡ true → isInk m b ≡ true → Chain (touches w m) (w * h) a b → g a ≡ g b
+  -- in the order of first dots
+  pub order : (a b : ℕ) → a < w * h → b < w * h → isInk m a ≡ true → isInk m b ≡ true → firstDot w h m a < firstDot w h m b → g a < g b
+  -- and none left out
+  pub all : (i k : ℕ) → i < w * h → isInk m i ≡ true → 0 < k → k ≤ g i → (d : ℕ) × (d < w * h) × (isInk m d ≡ true) × (g d ≡ k)
+
+pub labels-are-numbers : (w h : ℕ) (m : List ℕ) → Numbers w h m (label w h m)
+labels-are-numbers w h m =
+    record {
+      blank = label-blank w h m;
+      ink = λ i l e. label-within w h m i l e .0;
+      same = same-label w h m;
+      order = label-order w h m;
+      all = λ i k l e z b.
+          let r = label-occurs w h m (k - 1) (let q = label-within w h m i l e .1 in omega arith) in
+          (r .0, r .1, r .2, r .4 ∙ (let x : suc (k - 1) ≡ k = omega arith in x));
+    }
+
+module _ (w h : ℕ) (m : List ℕ) (g : ℕ → ℕ) (N : Numbers w h m g) where
+  -- the test for a first dot
+  abbrev p : ℕ → Bool
+  p = isFirst m (firsts (touches w m) (w * h))
+
+  first-ink : (d : ℕ) → p d ≡ true → (isInk m d ≡ true) × (firstDot w h m d ≡ d)
+  unfolding isFirst
+  first-ink d e = let b = and-both _ _ e in (b .0, eqb-true _ _ (b .1))
+
+  -- the number of a first dot, by those of the first dots before it
+  rank-step : (d : ℕ) → d < w * h → p d ≡ true → ((e : ℕ) → e < d → p e ≡ true → g e ≡ countIf p (suc e)) → g d ≡ countIf p (suc d)
+  rank-step d l e before = exact (decLt (g d) (countIf p d + 1)) (decLt (countIf p d + 1) (g d))
+    where
+      ink-d : isInk m d ≡ true
+      ink-d = first-ink d e .0
+
+      above : Dec (countIf p d ≡ 0) → countIf p d < g d
+      above (yes z) = let q = N .ink d l ink-d in omega arith
+      above (no z) =
+          let r = count-reach p d (countIf p d - 1) (omega arith) in
+          let f = first-ink (r .0) (r .2) in
+          let fd = first-ink d e .1 in
+          let ff = f .1 in
+          let lt = r .1 in
+          let o = N .order (r .0) d (omega arith) l (f .0) ink-d (omega arith) in
+          let q = before (r .0) (r .1) (r .2) in
+          let c = r .3 in
+          omega arith
+
+      exact : Dec (g d < countIf p d + 1) → Dec (countIf p d + 1 < g d) → g d ≡ countIf p (suc d)
+      exact (yes a) x = absurd (let q = above (ℕ-discrete (countIf p d) 0) in omega arith)
+      exact (no a) (yes x) = absurd (gap (N .all d (countIf p d + 1) l ink-d (omega arith) (omega arith)))
+        where
+          gap : (i : ℕ) × (i < w * h) × (isInk m i ≡ true) × (g i ≡ countIf p d + 1) → ⊥
+          gap r = go (decLt first d) (ℕ-discrete first d)
+            where
+              i : ℕ
+              i = r .0
+
+              first : ℕ
+              first = firstDot w h m (r .0)
+
+              low : firstDot w h m (r .0) ≤ r .0
+              low = first-dots w h m .low (r .0)
+
+              is-first : p (firstDot w h m (r .0)) ≡ true
+              is-first = first-is-first w h m (r .0) (r .2)
+
+              same-number : g (r .0) ≡ g (firstDot w h m (r .0))
+              same-number = N .same (r .0) (firstDot w h m (r .0)) (r .1) (let a = low in let b = r .1 in omega arith) (r .2) (first-ink (firstDot w h m (r .0)) is-first .0) (first-dots w h m .sound (r .0))
+
+              go : Dec (first < d) → Dec (first ≡ d) → ⊥
+              go (yes y) z =
+                  let a = before (firstDot w h m (r .0)) y is-first in
+                  let u = count-up p (suc (firstDot w h m (r .0))) d y in
+                  let q = r .3 in
+                  let n = same-number in
+                  omega arith
+              go (no y) (yes z) = let q = r .3 in let n = same-number in let c = ap g z in omega arith
+              go (no y) (no z) =
+                  let fd = first-ink d e .1 in
+                  let o = N .order d (r .0) l (r .1) ink-d (r .2) (omega arith) in
+                  let q = r .3 in
+                  omega arith
+      exact (no a) (no x) = let c = count-one p d e in omega arith
+
+  rank-of : (t d : ℕ) → d < t → d < w * h → p d ≡ true → g d ≡ countIf p (suc d)
+  rank-of zero d l ld e = absurd (not-suc-le-zero l)
+  rank-of (suc t) d l ld e = rank-step d ld e (λ x y z. rank-of t x (omega arith) (omega arith) z)
+
+  pub labels-only : (i : ℕ) → i < w * h → g i ≡ label w h m i
+  labels-only i l = go (isInk m i) refl
+    where
+      go : (t : Bool) → isInk m i ≡ t → g i ≡ label w h m i
+      go false e = N .blank i l e ∙ sym (label-blank w h m i l e)
+      go true e =
+          let f = first-is-first w h m i e in
+          let lo = first-dots w h m .low i in
+          N .same i (firstDot w h m i) l (omega arith) e (first-ink (firstDot w h m i) f .0) (first-dots w h m .sound i)
+          ∙ (rank-of (suc (firstDot w h m i)) (firstDot w h m i) (le-refl _) (omega arith) f ∙ sym (label-ink w h m i l e))
 
 -- Records: of the first t dots those labelled k, whatever the labels
 

@@ -1,23 +1,22 @@
 -- A naming of the runs by their components gives the components of the dots.
 use mathlib.Core.Path.{_≡_, refl, sym, ap, _∙_, subst}
-use mathlib.Core.List.{List, [], _∷_, _++_}
-use mathlib.Core.Bool.{Bool, true, false, cond, _&&_, not, true≢false}
-use mathlib.Core.Logic.{_⊎_, inl, inr, ⊎-elim}
-use Prim.Native.Nat.{ℕ, zero, suc, _+_, _-_, _*_, _/_, _%_, _≤_, _<_, min, max}
-use native.Mathlib.Nat.{le-refl, le-trans, not-suc-le-zero}
+use mathlib.Core.List.{List}
+use mathlib.Core.Bool.{Bool, true, false, cond, _&&_}
+use mathlib.Core.Logic.{_⊎_, ⊎-elim}
+use Prim.Native.Nat.{ℕ, zero, suc, _+_, _-_, _/_, _≤_, _<_}
+use native.Mathlib.Nat.{le-refl, le-trans}
 use native.Mathlib.Decide.{ℕ-discrete, decLt, decLe}
 use native.Mathlib.Omega.{arith}
-use borrow.Author.Tests.{ltb-true, leb-true, lt-ltb, le-leb, le-ltb, eqb-true, eq-eqb, ne-eqb}
-use lib.ListN.{getD, length}
-use lib.Dec.{eqb, ltb, leb}
-use Rattle.memory.specs.Lists.{countIf, table}
+use borrow.Author.Tests.{lt-ltb, le-ltb, eq-eqb, ne-eqb}
+use lib.Dec.{eqb, ltb}
+use Rattle.memory.specs.Lists.{countIf}
 use Rattle.labelling.specs.Classes.{firstOf, firsts}
 use Rattle.labelling.specs.Chains.{Chain, here, rise, fall, Firsts}
 use Rattle.labelling.specs.Forests.{Named}
 use Rattle.labelling.specs.Labels.{isInk, touches, isFirst, labelAt}
 use Rattle.labelling.specs.InkRuns.{Runs, touchRuns, isRoot}
 use Rattle.labelling.proofs.FirstLaws.{chain-trans, chain-sym, firsts-right, firsts-unique}
-use Rattle.labelling.proofs.TouchLaws.{and-both, Near, near-of, near-to, near-cases, near-beside, run-of, starts-rise, row-of, beside-same, touch-up, touch-dots}
+use Rattle.labelling.proofs.TouchLaws.{Near, near-of, near-to, near-cases, near-beside, run-of, starts-rise, beside-same, touch-up, touch-dots}
 
 -- from a naming of the runs to a naming of the first n dots: the first dot of the run that names; a blank dot itself
 unfoldable pub firstByRuns : List ℕ → ℕ → (ℕ → ℕ) → (ℕ → ℕ) → (ℕ → ℕ) → ℕ → ℕ

@@ -2,18 +2,18 @@
 use mathlib.Core.Path.{_≡_, refl, sym, ap, _∙_, subst}
 use mathlib.Core.List.{List, [], _∷_, _++_}
 use mathlib.Core.Bool.{Bool, true, false, cond, _&&_, not, true≢false}
-use Prim.Native.Nat.{ℕ, zero, suc, _+_, _-_, _*_, _/_, _%_, _≤_, _<_, min, max}
-use native.Mathlib.Nat.{le-refl, le-trans, not-suc-le-zero, div-add-mod', mod-lt, mul-add-div-right, div-eq-of-lt}
-use native.Mathlib.Decide.{ℕ-discrete, decLt, decLe}
+use Prim.Native.Nat.{ℕ, zero, suc, _+_, _-_, _*_, _/_, _%_, _≤_, _<_}
+use native.Mathlib.Nat.{le-refl, not-suc-le-zero, div-add-mod', mod-lt, mul-add-div-right, div-eq-of-lt}
+use native.Mathlib.Decide.{ℕ-discrete, decLt}
 use native.Mathlib.Omega.{arith}
-use borrow.Author.Tests.{eqb-true, eqb-false, eq-eqb, ne-eqb}
+use borrow.Author.Tests.{eqb-true, eqb-false}
 use lib.ListN.{getD, length, length-append, List·getD-append, List·getD-eq-default}
 use lib.Seq.{getD-at}
-use lib.Dec.{eqb, ltb, leb}
+use lib.Dec.{eqb}
 use Rattle.memory.specs.Lists.{countIf}
 use Rattle.labelling.specs.Labels.{isInk}
 use Rattle.labelling.specs.InkRuns.{inkBefore, differ, appendIf, turns, opensRun, runCount, runOf, startOf, endOf, Runs}
-use Rattle.labelling.proofs.TouchLaws.{row-same, row-rise}
+use Rattle.labelling.proofs.TouchLaws.{row-same}
 
 -- Rows
 

@@ -3,7 +3,7 @@ use mathlib.Core.Path.{_≡_}
 use mathlib.Core.Bool.{Bool, false}
 use mathlib.Core.List.{List}
 use Prim.Native.Nat.{ℕ, suc, _+_, _*_, _/_, _≤_, _<_}
-use lib.ListN.{getD, length, take, drop}
+use lib.ListN.{length, take, drop}
 use Rattle.memory.specs.Limits.{maxMaskSide, maxMaskDots}
 use Rattle.labelling.specs.Classes.{firstOf, firsts}
 use Rattle.labelling.specs.Forests.{Seen, Forest}

@@ -1,7 +1,6 @@
 -- Runs of small masks, by computation.
 use mathlib.Core.Path.{_≡_, refl}
-use mathlib.Core.List.{List, [], _∷_, map}
-use mathlib.Core.Bool.{Bool, true, false}
+use mathlib.Core.List.{List, [], _∷_}
 use Prim.Native.Nat.{ℕ}
 use Rattle.memory.specs.Lists.{table, upto, countIf}
 use Rattle.labelling.specs.Classes.{firstOf, renamed, join, joinIf, joinOne, joinAll, firsts}

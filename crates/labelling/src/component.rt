@@ -1,6 +1,7 @@
 // One component: its area, its box and the sums of its dots' coordinates (01's piece).
 ghost use mathlib.Core.Path.{_≡_};
 ghost use Prim.Native.Nat.{_+_, _-_, _≤_, _<_, _^_};
+ghost use Rattle.memory.specs.Limits.{maxMaskSide, maxMaskDots};
 ghost use Rattle.labelling.specs.Components.{noDots, absorbed, absorbedRun, boxOf};
 use crate::rect::Rect;
 use crate::rect::greater;
@@ -50,7 +51,7 @@ impl Component {
 
     // The component with the dots from column x0 to column x1 of row y more: its two end dots, and those between.
     pub fn absorb_run(self, x0: u32, x1: u32, y: u32) -> Component
-        requires { ⌜ (x0 ≤ x1) × (x1 < 131072) × (y ≤ 2 ^ 30) × (self .area ≤ 2 ^ 30) × (self .«sum_x» ≤ 2 ^ 60) × (self .«sum_y» ≤ 2 ^ 60) ⌝ }
+        requires { ⌜ (x0 ≤ x1) × (x1 < maxMaskSide) × (y ≤ maxMaskDots) × (self .area ≤ maxMaskDots) × (self .«sum_x» ≤ 2 ^ 60) × (self .«sum_y» ≤ 2 ^ 60) ⌝ }
         ensures { λ r. ⌜ r ≡ absorbedRun self x0 (x1 - x0) y ⌝ }
     {
         let first = self.absorb(x0, y);

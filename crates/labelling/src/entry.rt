@@ -4,13 +4,21 @@ ghost use Prim.Native.Nat.{_*_, _≤_};
 ghost use lib.ListN.{length, drop};
 ghost use Rattle.memory.specs.Limits.{maxMaskDots, scratchWords};
 ghost use Rattle.labelling.specs.Answer.{sideRefusal, lentRefusal, Workable, worked, left, labelled};
-use crate::link::link;
-use crate::number::number;
-use crate::paint::paint;
-use crate::runs::extract;
-use crate::tally::tally;
+use crate::link::link_runs;
+use crate::number::number_runs;
+use crate::paint::paint_runs;
+use crate::runs::extract_runs;
 use crate::words::wide;
 use memory::refuse_if;
+
+// 01's limits, under the names that specs/Limits of the crate memory gives them.
+const MAX_MASK_SIDE: u32 = 131072;
+
+const MAX_MASK_DOTS: usize = 1073741824;
+
+const MAX_CAPACITY: usize = 65535;
+
+const COMPONENT_WORDS: usize = 9;
 
 // The count of components, or the number that the call is refused with.
 pub enum LabelAnswer {
@@ -58,9 +66,17 @@ fn judge_sides(width: u32, height: u32) -> u32
     ensures { λ r. ⌜ r ≡ sideRefusal width height 0 ⌝ }
 {
     let dots = wide(width) * wide(height);
-    let by_dots = refuse_if(1073741824 < dots, 1, 0);
-    let by_height = refuse_if(height == 0, 1, refuse_if(131072 < height, 1, by_dots));
-    refuse_if(width == 0, 1, refuse_if(131072 < width, 1, by_height))
+    let by_dots = refuse_if(MAX_MASK_DOTS < dots, 1, 0);
+    let by_height = refuse_if(
+        height == 0,
+        1,
+        refuse_if(MAX_MASK_SIDE < height, 1, by_dots),
+    );
+    refuse_if(
+        width == 0,
+        1,
+        refuse_if(MAX_MASK_SIDE < width, 1, by_height),
+    )
 }
 
 // 2, 7 or 9 where the mask's length, the capacity or the memory lent is not as it must be, else 0.
@@ -76,9 +92,13 @@ fn judge_lent(
     ensures { λ r. ⌜ r ≡ lentRefusal dots mask capacity labels components scratch 0 ⌝ }
 {
     let by_scratch = refuse_if(scratch < 4 * dots + 16 * capacity + 64, 9, 0);
-    let by_records = refuse_if(components < 9 * capacity, 9, by_scratch);
+    let by_records = refuse_if(components < COMPONENT_WORDS * capacity, 9, by_scratch);
     let by_labels = refuse_if(labels < dots, 9, by_records);
-    let by_capacity = refuse_if(capacity == 0, 7, refuse_if(65535 < capacity, 7, by_labels));
+    let by_capacity = refuse_if(
+        capacity == 0,
+        7,
+        refuse_if(MAX_CAPACITY < capacity, 7, by_labels),
+    );
     refuse_if(mask != dots, 2, by_capacity)
 }
 
@@ -95,14 +115,13 @@ fn label_runs(
     requires { ⌜ Workable w h (now mask) capacity (now labels) (now components) (now words) ⌝ }
     ensures { λ r. ⌜ worked r (now (labels .exit)) (now (components .exit)) w h (now (mask .entry)) capacity (now (labels .entry)) (now (components .entry)) ⌝ }
 {
-    let runs = extract(mask, w, h, words);
-    link(words, runs, w, h);
+    let runs = extract_runs(mask, w, h, words);
+    link_runs(words, runs, w, h);
     let parents = 2 * runs;
-    let count = number(&mut words[parents..], runs, capacity);
+    let count = number_runs(&mut words[parents..], runs, capacity);
     if capacity < count {
         return LabelAnswer::Refused(20);
     }
-    paint(&words[..], runs, labels, w * h);
-    tally(&words[..], runs, w, components);
+    paint_runs(&words[..], runs, w, labels, w * h, components);
     LabelAnswer::Labelled(count as u32)
 }

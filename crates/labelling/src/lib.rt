@@ -14,4 +14,8 @@ mod words;
 pub use component::Component;
 pub use entry::LabelAnswer;
 pub use entry::label;
+pub use link::link_runs;
+pub use number::number_runs;
+pub use paint::paint_runs;
 pub use rect::Rect;
+pub use runs::extract_runs;

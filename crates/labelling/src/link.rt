@@ -3,6 +3,7 @@
 ghost use mathlib.Core.Path.{_≡_};
 ghost use Prim.Native.Nat.{ℕ, suc, _+_, _*_, _≤_, _<_};
 ghost use lib.ListN.{length, getD};
+ghost use Rattle.memory.specs.Limits.{maxMaskSide};
 ghost use Rattle.labelling.specs.Forests.{Found, United};
 ghost use Rattle.labelling.specs.InkRuns.{startOf};
 ghost use Rattle.labelling.specs.Linking.{RunList, Linkable, Joinable, RowLinkable, Skipped, LinkedOne, LinkedTo, RowEnd, AllLinked};
@@ -40,7 +41,7 @@ fn unite(parents: &mut [u32], root: usize, k: usize) -> usize
 
 // The first run, from i up to `to`, that does not end left of the dot `start` in the row below.
 fn skip_left(runs: &[u32], w: usize, i: usize, to: usize, start: usize) -> usize
-    requires { ⌜ (i ≤ to) × (2 * to ≤ length (now runs)) × (w ≤ 131072) ⌝ }
+    requires { ⌜ (i ≤ to) × (2 * to ≤ length (now runs)) × (w ≤ maxMaskSide) ⌝ }
     ensures { λ r. ⌜ Skipped w i to start (now (runs .entry)) r ⌝ }
 {
     let mut k = i;
@@ -112,8 +113,8 @@ fn row_end(runs: &[u32], c: usize, k: usize, limit: usize) -> usize
 }
 
 // Gives each of the c runs of a plane, w wide and h high, its parent.
-pub fn link(words: &mut [u32], c: usize, w: usize, h: usize)
-    requires { ⌜ RunList w c (now words) × (h ≤ 131072) × ((k : ℕ) → k < c → startOf (now words) k < h * w) ⌝ }
+pub fn link_runs(words: &mut [u32], c: usize, w: usize, h: usize)
+    requires { ⌜ RunList w c (now words) × (h ≤ maxMaskSide) × ((k : ℕ) → k < c → startOf (now words) k < h * w) ⌝ }
     ensures { λ _. ⌜ AllLinked w c (now (words .entry)) (now (words .exit)) ⌝ }
 {
     let mut above = 0;

@@ -2,6 +2,7 @@
 ghost use mathlib.Core.Path.{_≡_};
 ghost use Prim.Native.Nat.{ℕ, _+_, _≤_, _<_};
 ghost use lib.ListN.{length, getD};
+ghost use Rattle.memory.specs.Limits.{maxCapacity};
 ghost use Rattle.labelling.specs.Numbering.{NumberedOne, Numbered};
 use crate::words::wide;
 
@@ -20,8 +21,8 @@ fn number_one(parents: &mut [u32], k: usize, count: usize) -> usize
 }
 
 // The numbers of c runs, and how many components there are; capacity + 1 as soon as there are more than that.
-pub fn number(parents: &mut [u32], c: usize, capacity: usize) -> usize
-    requires { ⌜ (c ≤ length (now parents)) × (capacity ≤ 65535) × ((j : ℕ) → j < c → getD (now parents) j 0 ≤ j) ⌝ }
+pub fn number_runs(parents: &mut [u32], c: usize, capacity: usize) -> usize
+    requires { ⌜ (c ≤ length (now parents)) × (capacity ≤ maxCapacity) × ((j : ℕ) → j < c → getD (now parents) j 0 ≤ j) ⌝ }
     ensures { λ r. ⌜ Numbered c capacity (now (parents .entry)) (now (parents .exit)) r ⌝ }
 {
     let mut k = 0;

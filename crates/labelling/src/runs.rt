@@ -8,22 +8,18 @@ ghost use Rattle.memory.specs.Lists.{countIf};
 ghost use Rattle.labelling.specs.Labels.{isInk};
 ghost use Rattle.labelling.specs.Extraction.{ScanRoom, Scanned, RowRoom, RowExtracted, PlaneRoom, Extracted};
 
-// 1 where a byte is ink, any but 0; else 0.
-fn ink_of(byte: u8) -> usize
-    ensures { λ r. ⌜ r ≡ cond (eqb byte 0) 0 1 ⌝ }
-{
-    if byte == 0 { 0 } else { 1 }
-}
+// The dots of a block, which are counted at once.
+const BLOCK: usize = 32;
 
-// The same in a byte.
-fn ink_bit(byte: u8) -> u8
+// 1 where a byte is ink, any but 0; else 0.
+fn ink_of(byte: u8) -> u8
     ensures { λ r. ⌜ r ≡ cond (eqb byte 0) 0 1 ⌝ }
 {
     if byte == 0 { 0 } else { 1 }
 }
 
 // 1 where two dots differ, else 0.
-fn turn_of(before: usize, here: usize) -> usize
+fn turn_of(before: u8, here: u8) -> usize
     ensures { λ r. ⌜ r ≡ cond (eqb before here) 0 1 ⌝ }
 {
     if before == here { 0 } else { 1 }
@@ -36,8 +32,8 @@ fn ink_count(block: &[u8]) -> u8
 {
     let mut count = 0;
     let mut i = 0;
-    while i < 32 {
-        count += ink_bit(block[i]);
+    while i < BLOCK {
+        count += ink_of(block[i]);
         i += 1;
     }
     count
@@ -50,7 +46,7 @@ fn scan(row: &[u8], from: usize, to: usize, base: usize, words: &mut [u32], at: 
     ensures { λ r. ⌜ Scanned (now (row .entry)) from to base (now (words .entry)) (now (words .exit)) at r ⌝ }
 {
     let mut k = at;
-    let mut before = at % 2;
+    let mut before = (at % 2) as u8;
     let mut x = from;
     while x < to {
         let here = ink_of(row[x]);
@@ -67,8 +63,8 @@ fn scan_block(row: &[u8], from: usize, base: usize, words: &mut [u32], at: usize
     requires { ⌜ ScanRoom (now row) from (from + 32) base (now words) at ⌝ }
     ensures { λ r. ⌜ Scanned (now (row .entry)) from (from + 32) base (now (words .entry)) (now (words .exit)) at r ⌝ }
 {
-    let to = from + 32;
-    if ink_count(&row[from..to]) as usize == 32 * (at % 2) {
+    let to = from + BLOCK;
+    if ink_count(&row[from..to]) as usize == BLOCK * (at % 2) {
         return at;
     }
     scan(row, from, to, base, words, at)
@@ -81,9 +77,9 @@ fn extract_row(row: &[u8], base: usize, words: &mut [u32], at: usize) -> usize
 {
     let mut k = at;
     let mut x = 0;
-    while 32 <= row.len() - x {
+    while BLOCK <= row.len() - x {
         k = scan_block(row, x, base, words, k);
-        x += 32;
+        x += BLOCK;
     }
     k = scan(row, x, row.len(), base, words, k);
     if k % 2 == 0 {
@@ -94,7 +90,7 @@ fn extract_row(row: &[u8], base: usize, words: &mut [u32], at: usize) -> usize
 }
 
 // Writes the runs of a mask, w wide and h high, to the words, and answers how many there are.
-pub fn extract(mask: &[u8], w: usize, h: usize, words: &mut [u32]) -> usize
+pub fn extract_runs(mask: &[u8], w: usize, h: usize, words: &mut [u32]) -> usize
     requires { ⌜ PlaneRoom w h (now mask) (now words) ⌝ }
     ensures { λ r. ⌜ Extracted w h (now (mask .entry)) (now (words .entry)) (now (words .exit)) r ⌝ }
 {

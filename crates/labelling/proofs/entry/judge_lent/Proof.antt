@@ -1,5 +1,4 @@
 use borrow.Author.Needs.{needs}
-use native.Mathlib.Omega.{arith}
 use Rattle.labelling.proofs.EntryLaws.{lent-judged}
 use Rattle.labelling.proofs.entry.judge_lent.Statement.{statement}
 use Rattle.labelling.proofs.entry.judge_lent.Tie as tie

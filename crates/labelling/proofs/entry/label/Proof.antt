@@ -1,9 +1,9 @@
 use borrow.Author.Needs.{needs}
 use native.Mathlib.Omega.{arith}
-use mathlib.Core.Path.{_≡_, sym, _∙_}
+use mathlib.Core.Path.{sym}
 use Prim.Native.Nat.{_+_, _*_}
 use lib.Seq.{length-take-le, length-front}
-use Rattle.labelling.proofs.EntryLaws.{refused-sides, entry-sides, entry-refused, entry-lent, entry-words, entry-workable, entry-done}
+use Rattle.labelling.proofs.EntryLaws.{refused-sides, entry-sides, entry-refused, entry-words, entry-workable, entry-done}
 use Rattle.labelling.proofs.entry.label.Statement.{statement}
 use Rattle.labelling.proofs.entry.label.Tie as tie
 

@@ -1,6 +1,6 @@
 use borrow.Author.Needs.{needs}
 use native.Mathlib.Omega.{arith}
-use mathlib.Core.Path.{_≡_, ap, sym, _∙_}
+use mathlib.Core.Path.{_∙_}
 use lib.ListN.{length-set}
 use Rattle.labelling.proofs.RunLinkLaws.{one-joinable, one-linked}
 use Rattle.labelling.proofs.link.link_one.Statement.{statement}

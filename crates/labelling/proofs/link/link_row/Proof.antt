@@ -1,5 +1,4 @@
 use borrow.Author.Needs.{needs}
-use native.Mathlib.Omega.{arith}
 use Prim.Native.Nat.{_-_}
 use Rattle.labelling.proofs.RunLinkLaws.{RowSweep, row-none, row-linkable, row-more, row-done}
 use Rattle.labelling.proofs.link.link_row.Statement.{statement}

@@ -1,7 +1,4 @@
 use borrow.Author.Needs.{needs}
-use native.Mathlib.Omega.{arith}
-use mathlib.Core.Path.{_∙_}
-use lib.ListN.{length-set}
 use Rattle.labelling.proofs.ParentLaws.{united-lower, united-upper}
 use Rattle.labelling.proofs.link.unite.Statement.{statement}
 use Rattle.labelling.proofs.link.unite.Tie as tie

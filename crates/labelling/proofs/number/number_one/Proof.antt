@@ -1,6 +1,5 @@
 use borrow.Author.Needs.{needs}
-use native.Mathlib.Omega.{arith}
-use mathlib.Core.Path.{_≡_, refl, sym, ap, _∙_}
+use mathlib.Core.Path.{refl, sym, ap, _∙_}
 use lib.ListN.{getD, set, length-set}
 use Rattle.labelling.proofs.number.number_one.Statement.{statement}
 use Rattle.labelling.proofs.number.number_one.Tie as tie

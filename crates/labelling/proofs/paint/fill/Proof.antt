@@ -2,8 +2,6 @@ use borrow.Author.Needs.{needs}
 use native.Mathlib.Omega.{arith}
 use Prim.Native.Nat.{_-_, _≤_}
 use native.Mathlib.Nat.{le-refl}
-use lib.ListN.{length-set}
-use mathlib.Core.Path.{_∙_}
 use Rattle.labelling.specs.Painting.{Filled}
 use Rattle.labelling.proofs.PaintLaws.{fill-none, fill-more, fill-done}
 use Rattle.labelling.proofs.paint.fill.Statement.{statement}

@@ -1,7 +1,7 @@
 use borrow.Author.Needs.{needs}
 use native.Mathlib.Omega.{arith}
-use mathlib.Core.Path.{_≡_, sym, _∙_, subst}
-use Prim.Native.Nat.{ℕ, _-_, _+_, _%_}
+use mathlib.Core.Path.{_∙_}
+use Prim.Native.Nat.{_-_, _+_, _%_}
 use native.Mathlib.Nat.{le-refl}
 use lib.ListN.{length, length-set}
 use Rattle.labelling.specs.Extraction.{RowScan}

@@ -2,8 +2,8 @@ use borrow.Author.Needs.{needs}
 use native.Mathlib.Omega.{arith}
 use lib.ListN.{getD}
 use lib.Dec.{eqb}
-use mathlib.Core.Path.{_≡_, refl, sym, ap, _∙_}
-use Prim.Native.Nat.{_-_, _≤_, _+_}
+use mathlib.Core.Path.{_≡_, ap, _∙_}
+use Prim.Native.Nat.{_-_, _≤_}
 use Rattle.memory.specs.Lists.{countIf}
 use Rattle.labelling.specs.Labels.{isInk}
 use Rattle.labelling.proofs.ExtractLaws.{ink-none, ink-more, turn-small}
@@ -19,14 +19,14 @@ abbrev μ-loop : tie.MeasureT-loop
 loop-holds : tie.Need-loop-holds Inv-loop μ-loop
 loop-holds c = (omega arith, omega arith, ink-none _)
 
-shared-slice-read-ink-bit : tie.Need-shared-slice-read-ink-bit Inv-loop μ-loop
-shared-slice-read-ink-bit c = omega (arith, (c .before .before .before .before) .pre, (c .before .loop-test) .taken)
+shared-slice-read-ink-of : tie.Need-shared-slice-read-ink-of Inv-loop μ-loop
+shared-slice-read-ink-of c = omega (arith, (c .before .before .before .before) .pre, (c .before .loop-test) .taken)
 
-ink-bit-requires : tie.Need-ink-bit-requires Inv-loop μ-loop
-ink-bit-requires c κs = search needs
+ink-of-requires : tie.Need-ink-of-requires Inv-loop μ-loop
+ink-of-requires c κs = search needs
 
 add-count : tie.Need-add-count Inv-loop μ-loop
-add-count c = let t = turn-small (eqb (getD ((c .before .before .before .before .before) .args .block .now) ((c .before .before .before .loop) .i) 0) 0) in omega (arith, (c .ink-bit) .ensures)
+add-count c = let t = turn-small (eqb (getD ((c .before .before .before .before .before) .args .block .now) ((c .before .before .before .loop) .i) 0) 0) in omega (arith, (c .ink-of) .ensures)
 
 add-i : tie.Need-add-i Inv-loop μ-loop
 add-i c = search needs
@@ -35,7 +35,7 @@ loop-less : tie.Need-loop-less Inv-loop μ-loop
 loop-less c = search needs
 
 loop-again : tie.Need-loop-again Inv-loop μ-loop
-loop-again c = let t = turn-small (eqb (getD ((c .before .before .before .before .before) .args .block .now) ((c .before .before .before .loop) .i) 0) 0) in (omega arith, omega (arith, (c .ink-bit) .ensures), ink-more ((c .before .before .before .before .before) .args .block .now) ((c .before .before .before .loop) .i) ((c .before .before .before .loop) .count) ((c .ink-bit) .result) ((c .before .before .before .loop) .inv .2) ((c .ink-bit) .ensures))
+loop-again c = let t = turn-small (eqb (getD ((c .before .before .before .before .before) .args .block .now) ((c .before .before .before .loop) .i) 0) 0) in (omega arith, omega (arith, (c .ink-of) .ensures), ink-more ((c .before .before .before .before .before) .args .block .now) ((c .before .before .before .loop) .i) ((c .before .before .before .loop) .count) ((c .ink-of) .result) ((c .before .before .before .loop) .inv .2) ((c .ink-of) .ensures))
 
 returns : tie.Need-returns Inv-loop μ-loop
 returns c = (c .before .loop) .inv .2 ∙ ap (countIf (isInk ((c .before .before .before) .args .block .now))) (let l = (c .loop-test) .left in let u = (c .before .loop) .inv .0 in let e : (c .before .loop) .i ≡ 32 = omega arith in e)
@@ -47,8 +47,8 @@ ink-count-spec =
     Inv-loop
     μ-loop
     loop-holds
-    shared-slice-read-ink-bit
-    ink-bit-requires
+    shared-slice-read-ink-of
+    ink-of-requires
     add-count
     add-i
     loop-less

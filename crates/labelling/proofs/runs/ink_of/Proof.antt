@@ -1,5 +1,3 @@
-use borrow.Author.Needs.{needs}
-use native.Mathlib.Omega.{arith}
 use borrow.Author.Tests.{eq-eqb, ne-eqb}
 use Rattle.labelling.proofs.runs.ink_of.Statement.{statement}
 use Rattle.labelling.proofs.runs.ink_of.Tie as tie

@@ -1,8 +1,6 @@
 use borrow.Author.Needs.{needs}
 use native.Mathlib.Omega.{arith}
-use mathlib.Core.Path.{_∙_}
 use Prim.Native.Nat.{_-_}
-use lib.ListN.{length-set}
 use lib.Dec.{eqb}
 use Rattle.labelling.proofs.ExtractLaws.{ScanSweep, sweep-none, sweep-room, turn-small, sweep-more, sweep-done}
 use Rattle.labelling.proofs.runs.scan.Statement.{statement}
@@ -13,6 +11,9 @@ Inv-loop row from to base words₀ at k₀ before₀ x₀ words k before x = Sca
 
 abbrev μ-loop : tie.MeasureT-loop
 μ-loop row from to base words₀ at k₀ before₀ x₀ words k before x = to - x
+
+cast-before : tie.Need-cast-before Inv-loop μ-loop
+cast-before c = search needs
 
 loop-holds : tie.Need-loop-holds Inv-loop μ-loop
 loop-holds c = sweep-none ((c .before .before) .pre)
@@ -62,6 +63,7 @@ scan-spec =
     (tie.spec
     Inv-loop
     μ-loop
+    cast-before
     loop-holds
     shared-slice-read-ink-of
     ink-of-requires

@@ -1,9 +1,5 @@
 use borrow.Author.Needs.{needs}
-use native.Mathlib.Omega.{arith}
-use mathlib.Core.Path.{_≡_, refl, sym, ap, _∙_}
-use Prim.Native.Nat.{_-_, _+_}
-use lib.ListN.{length, take, drop, length-drop}
-use lib.Seq.{length-take-le}
+use Prim.Native.Nat.{_-_}
 use Rattle.labelling.proofs.ExtractLaws.{block-still, block-long}
 use Rattle.labelling.proofs.runs.scan_block.Statement.{statement}
 use Rattle.labelling.proofs.runs.scan_block.Tie as tie

@@ -1,7 +1,7 @@
 use borrow.Author.Needs.{needs}
 use native.Mathlib.Omega.{arith}
-use mathlib.Core.Path.{_≡_, ap, sym, _∙_}
-use Prim.Native.Nat.{_+_, _-_, _*_, _/_, _%_}
+use mathlib.Core.Path.{ap}
+use Prim.Native.Nat.{_-_, _*_}
 use Rattle.labelling.proofs.TallyLaws.{nine-long, run-tallied, row-small}
 use Rattle.labelling.proofs.tally.tally_run.Statement.{statement}
 use Rattle.labelling.proofs.tally.tally_run.Tie as tie

@@ -1,7 +1,7 @@
 use borrow.Author.Needs.{needs}
 use native.Mathlib.Omega.{arith}
-use Prim.Native.Nat.{_+_, _-_, _*_, _^_, _≤_}
-use mathlib.Core.Path.{_≡_, _∙_}
+use Prim.Native.Nat.{_+_, _-_, _^_}
+use mathlib.Core.Path.{_∙_}
 use Rattle.labelling.proofs.AbsorbLaws.{one-more, one-dot, more-dots, between-small}
 use Rattle.labelling.proofs.component.Component.absorb_run.Statement.{statement}
 use Rattle.labelling.proofs.component.Component.absorb_run.Tie as tie

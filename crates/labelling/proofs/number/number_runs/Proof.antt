@@ -1,10 +1,9 @@
 use borrow.Author.Needs.{needs}
-use native.Mathlib.Omega.{arith}
 use mathlib.Core.Path.{_∙_}
 use Prim.Native.Nat.{_-_}
 use Rattle.labelling.proofs.NumberLaws.{NumberSweep, number-none, number-asks, number-more, number-stop, number-done}
-use Rattle.labelling.proofs.number.number.Statement.{statement}
-use Rattle.labelling.proofs.number.number.Tie as tie
+use Rattle.labelling.proofs.number.number_runs.Statement.{statement}
+use Rattle.labelling.proofs.number.number_runs.Tie as tie
 
 abbrev Inv-loop : tie.InvT-loop
 Inv-loop parents₀ c capacity k₀ count₀ parents k count = NumberSweep c capacity parents₀ parents k count
@@ -39,8 +38,8 @@ same-length-2 c = (c .before .loop) .inv .len
 returns-2 : tie.Need-returns-2 Inv-loop μ-loop
 returns-2 c = number-done ((c .before .loop) .inv) ((c .loop-test) .left)
 
-pub number-spec : {M : Type 1} → statement M
-number-spec =
+pub number-runs-spec : {M : Type 1} → statement M
+number-runs-spec =
     tie.close
     (tie.spec
     Inv-loop

@@ -1,12 +1,9 @@
 use borrow.Author.Needs.{needs}
 use native.Mathlib.Omega.{arith}
 use Prim.Native.Nat.{_-_}
-use lib.ListN.{length}
-use lib.Seq.{length-take-le}
-use mathlib.Core.Path.{_∙_}
 use Rattle.labelling.proofs.ExtractLaws.{PlaneScan, plane-none, plane-inside, plane-row, plane-more, plane-done}
-use Rattle.labelling.proofs.runs.extract.Statement.{statement}
-use Rattle.labelling.proofs.runs.extract.Tie as tie
+use Rattle.labelling.proofs.runs.extract_runs.Statement.{statement}
+use Rattle.labelling.proofs.runs.extract_runs.Tie as tie
 
 abbrev Inv-loop : tie.InvT-loop
 Inv-loop mask w h words₀ k₀ base₀ y₀ words k base y = PlaneScan w h mask words₀ words k base y
@@ -47,8 +44,8 @@ same-length c = (c .before .loop) .inv .len
 returns : tie.Need-returns Inv-loop μ-loop
 returns c = plane-done ((c .before .loop) .inv) ((c .loop-test) .left)
 
-pub extract-spec : {M : Type 1} → statement M
-extract-spec =
+pub extract-runs-spec : {M : Type 1} → statement M
+extract-runs-spec =
     tie.close
     (tie.spec
     Inv-loop

@@ -1,10 +1,9 @@
 use borrow.Author.Needs.{needs}
 use native.Mathlib.Omega.{arith}
 use Prim.Native.Nat.{_-_}
-use lib.ListN.{length-set}
 use Rattle.labelling.proofs.RunLinkLaws.{PlaneSweep, plane-none, plane-linkable, plane-small, plane-more, plane-done}
-use Rattle.labelling.proofs.link.link.Statement.{statement}
-use Rattle.labelling.proofs.link.link.Tie as tie
+use Rattle.labelling.proofs.link.link_runs.Statement.{statement}
+use Rattle.labelling.proofs.link.link_runs.Tie as tie
 
 abbrev Inv-loop : tie.InvT-loop
 Inv-loop words₀ c w h above₀ here₀ base₀ y₀ words above here base y = PlaneSweep w c h words₀ words above here base y
@@ -42,8 +41,8 @@ same-length c = (c .before .loop) .inv .kept .len
 returns : tie.Need-returns Inv-loop μ-loop
 returns c = plane-done ((c .before .loop) .inv) ((c .loop-test) .left)
 
-pub link-spec : {M : Type 1} → statement M
-link-spec =
+pub link-runs-spec : {M : Type 1} → statement M
+link-runs-spec =
     tie.close
     (tie.spec
     Inv-loop
