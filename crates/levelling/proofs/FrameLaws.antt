@@ -3,27 +3,28 @@
 --   shear-steps, shear-x-steps      each shear runs one way, by at most one from entry to entry
 --   frame-height, frame-width       the frame is the page and the last drift's size
 --   frame-fits                      so it is never larger than document 01's limits
+--   frame-plane-fits                a page plane can be moved into it
 use mathlib.Core.Path.{_≡_, refl, sym, ap, _∙_, subst}
 use mathlib.Core.List.{List}
-use mathlib.Core.Bool.{Bool, true, false, not, cond, _&&_, _||_}
-use Prim.Native.Nat.{ℕ, zero, suc, _+_, _-_, _*_, _^_, _≤_, _<_}
+use mathlib.Core.Bool.{Bool, not, cond}
+use Prim.Native.Nat.{ℕ, suc, _+_, _-_, _*_, _^_, _≤_, _<_}
 use native.Mathlib.Nat.{le-trans, le-of-lt}
 use native.Mathlib.Omega.{arith}
-use lib.IntN.{ℤ, pos, negℤ, natAbs}
-use lib.Dec.{T, ltb, eqb, lit≤}
-use lib.Ieee.{Float, nan, inf, fin, le, lt, neg}
-use lib.ListN.{getD, length}
+use lib.Dec.{lit≤}
+use lib.Ieee.{Float, lt, neg}
+use lib.ListN.{length}
 use Rattle.memory.specs.Limits.{maxFrameWidth, maxFrameHeight}
 use Rattle.memory.specs.Lists.{table, greatest}
 use Rattle.memory.proofs.TableLaws.{table-ext, length-table}
 use Rattle.rounding.specs.Rounding.{positiveZero}
 use Rattle.rounding.specs.Drift.{drift, driftX}
 use Rattle.rounding.proofs.Signs.{negative}
-use Rattle.rounding.proofs.DriftLaws.{WithinOne, signed, drift-signed, drift-within, drift-rises, drift-step, drift-negated, driftX-is-drift}
+use Rattle.rounding.proofs.DriftLaws.{WithinOne, signed, drift-signed, drift-within, drift-rises, drift-step, driftX-is-drift}
 use Rattle.levelling.specs.Shears.{shearOf}
-use Rattle.levelling.specs.Frames.{PageSides, frame}
-use Rattle.levelling.proofs.SlopeLaws.{driftSize, entryBy, unsigned, unsigned-size, drift-by-test, within-negated, size-negated, negative-negated}
-use Rattle.levelling.proofs.ShearLaws.{shearEntry, OneWay, shear-one-way, greatest-one-way, Steps, steps-one-way}
+use Rattle.levelling.specs.Frames.{PageSides, frame, frameOf}
+use Rattle.levelling.specs.Planes.{PlaneFits}
+use Rattle.levelling.proofs.SlopeLaws.{driftSize, entryBy, abs, abs-size, drift-by-test, within-negated, size-negated, negative-negated}
+use Rattle.levelling.proofs.ShearLaws.{shearEntry, OneWay, shear-one-way, greatest-one-way, greatest-bounds, Steps, steps-one-way}
 
 -- ---- drifts run one way
 pub drifts-one-way : (slope : Float) → WithinOne slope → (s : Bool) (n : ℕ) → 0 < n → n ≤ 2 ^ 15 → ((c : ℕ) → c < n → drift slope c ≡ signed s (driftSize slope c)) → OneWay (drift slope) s (driftSize slope) n
@@ -43,14 +44,14 @@ shear-slope slope w n some few = drifts-one-way slope w (negative slope) n some 
 
 -- the shear as the code fills it in
 pub shear-by-test : (slope : Float) → WithinOne slope → (n : ℕ) → 0 < n → n ≤ 2 ^ 15
-    → table (entryBy (lt slope positiveZero) (unsigned slope) (driftSize (unsigned slope) (n - 1))) n ≡ shearOf (table (drift slope) n)
+    → table (entryBy (lt slope positiveZero) (abs slope) (driftSize (abs slope) (n - 1))) n ≡ shearOf (table (drift slope) n)
 shear-by-test slope w n some few =
     let b = lt slope positiveZero in
     table-ext _ _ n (λ c l. (λ i. cond b (same (n - 1) (omega arith) i - same c l i) (same c l i)))
     ∙ sym (shear-one-way (drift slope) b (driftSize slope) n (drifts-one-way slope w b n some few (λ c l. drift-by-test slope w b refl c (le-trans (le-of-lt l) few))))
   where
-    same : (c : ℕ) → c < n → driftSize (unsigned slope) c ≡ driftSize slope c
-    same c l = unsigned-size slope w c (le-trans (le-of-lt l) few)
+    same : (c : ℕ) → c < n → driftSize (abs slope) c ≡ driftSize slope c
+    same c l = abs-size slope w c (le-trans (le-of-lt l) few)
 
 pub columns-as-rows : (slope : Float) (n : ℕ) → table (driftX slope) n ≡ table (drift (neg slope)) n
 columns-as-rows slope n = table-ext (driftX slope) (drift (neg slope)) n (λ r l. driftX-is-drift slope r)
@@ -137,14 +138,30 @@ module _ (w h : ℕ) (slope : Float) (sides : PageSides w h) (one : WithinOne sl
       (subst (Steps (negative (neg slope))) (sym shear-x-is) (slope-steps (neg slope) (within-negated slope one) (frame w h slope .h) (frame-rows .0) few-rows))
 
   -- the sides as the code computes them, a and b the sizes of the last drifts
-  pub sides-by-size : (steep : Float) (a b : ℕ) → steep ≡ unsigned slope → a ≡ driftSize steep (w - 1) → b ≡ driftSize steep (h + a - 1)
+  pub sides-by-size : (steep : Float) (a b : ℕ) → steep ≡ abs slope → a ≡ driftSize steep (w - 1) → b ≡ driftSize steep (h + a - 1)
       → (w + b ≡ frame w h slope .w) × (h + a ≡ frame w h slope .h)
   sides-by-size steep a b e p q =
       let rows : h + a ≡ frame w h slope .h =
-      ap (λ k. h + k) (p ∙ (ap (λ s. driftSize s (w - 1)) e ∙ unsigned-size slope one (w - 1) (omega (arith, few-columns)))) ∙ sym frame-height in (
-        ap (λ k. w + k) (q ∙ ((λ i. driftSize (e i) (rows i - 1)) ∙ unsigned-size slope one (frame w h slope .h - 1) (omega (arith, few-rows)))) ∙ sym frame-width,
+      ap (λ k. h + k) (p ∙ (ap (λ s. driftSize s (w - 1)) e ∙ abs-size slope one (w - 1) (omega (arith, few-columns)))) ∙ sym frame-height in (
+        ap (λ k. w + k) (q ∙ ((λ i. driftSize (e i) (rows i - 1)) ∙ abs-size slope one (frame w h slope .h - 1) (omega (arith, few-rows)))) ∙ sym frame-width,
         rows,
       )
 
   pub length-shears : (length (frame w h slope .shear) ≡ w) × (length (frame w h slope .shear-x) ≡ frame w h slope .h)
   length-shears = (ap length shear-closed ∙ length-table _ w, ap length shear-x-closed ∙ length-table _ (frame w h slope .h))
+
+  -- what `level_plane` is handed, for a page and a frame plane of these sides
+  pub frame-plane-fits : (page out : List ℕ) → length page ≡ w * h → frame w h slope .w * frame w h slope .h ≤ length out → PlaneFits (frame w h slope) page out
+  frame-plane-fits page out e o =
+      record {
+        page-size = unfold frame in e;
+        columns = length-shears .0 ∙ (unfold frame in refl);
+        rows = length-shears .1;
+        inside = λ r. (let b = greatest-bounds (frame w h slope .shear-x) r in unfold frame in omega arith);
+        above = λ c. (let b = greatest-bounds (frame w h slope .shear) c in unfold frame in omega arith);
+        out-size = o;
+      }
+
+  pub frame-is-frameOf : frame w h slope ≡ frameOf w h (frame w h slope .shear) (frame w h slope .shear-x) (frame w h slope .w) (frame w h slope .h)
+  unfolding frame
+  frame-is-frameOf = refl

@@ -7,10 +7,11 @@
 --   levelled-ink-count     the frame's ink dots and the mask's pair one to one, so their counts are equal
 --   levelled-bits          a levelled mask holds only 0 and 1
 use mathlib.Core.Path.{_≡_, refl, sym, ap, _∙_, subst}
-use mathlib.Core.List.{List, [], _∷_}
+use mathlib.Core.List.{List}
 use mathlib.Core.Bool.{Bool, true, false, cond, _&&_}
-use Prim.Native.Nat.{ℕ, zero, suc, _+_, _-_, _*_, _/_, _%_, _≤_, _<_, min, max}
-use native.Mathlib.Nat.{le-refl, mod-lt, div-add-mod', div-lt-iff-lt-mul, mul-comm}
+use mathlib.Core.Logic.{_⊎_, inl, inr}
+use Prim.Native.Nat.{ℕ, _+_, _-_, _*_, _/_, _%_, _≤_, _<_, min}
+use native.Mathlib.Nat.{mod-lt, div-add-mod', div-lt-iff-lt-mul, mul-comm}
 use native.Mathlib.Decide.{decLt}
 use native.Mathlib.Omega.{arith}
 use borrow.Author.Tests.{lt-ltb, le-ltb}
@@ -18,7 +19,7 @@ use lib.IntN.{ℤ, pos, negsuc, subℕ}
 use lib.Ieee.{Float}
 use lib.ListN.{getD, length, List·getD-eq-default}
 use lib.Dec.{eqb, ltb, T, eqb→eq}
-use Rattle.memory.specs.Lists.{table, countIf, occurs, greatest}
+use Rattle.memory.specs.Lists.{countIf, occurs}
 use Rattle.memory.proofs.TableLaws.{length-table, getD-table}
 use Rattle.memory.proofs.CountLaws.{Paired, paired-counts, occurs-table, occurs-by-place}
 use Rattle.memory.proofs.PlaneLaws.{dot-column, dot-row, dot-inside}
@@ -59,35 +60,47 @@ pub levelAt-place : (f : Frame) (fill : ℕ) (page : List ℕ) (c y : ℕ) → c
 unfolding levelAt
 levelAt-place f fill page c y lc ly = rw (place-maps-back f c y lc, lt-ltb c (f .page-w) lc, lt-ltb y (f .page-h) ly)
 
--- what a frame dot with ink came from
-record Source (f : Frame) (x y : ℕ) : Type 0 where
-  c : ℕ
-  r : ℕ
-  c-in : c < f .page-w
-  r-in : r < f .page-h
-  point : toPage f x y ≡ record { x = pos c; y = pos r }
+-- the page dot that a frame point maps to
+pub record Source (f : Frame) (x y : ℕ) : Type 0 where
+  pub c : ℕ
+  pub r : ℕ
+  pub c-in : c < f .page-w
+  pub r-in : r < f .page-h
+  pub point : toPage f x y ≡ record { x = pos c; y = pos r }
+  pub value : (fill : ℕ) (page : List ℕ) → levelAt f fill page x y ≡ getD page (r * f .page-w + c) fill
+
+-- at a frame point lies an added dot, or a page dot
+pub added-or-source : (f : Frame) (x y : ℕ) → ((fill : ℕ) (page : List ℕ) → levelAt f fill page x y ≡ fill) ⊎ Source f x y
+unfolding levelAt
+added-or-source f x y = go (toPage f x y .x) (toPage f x y .y) refl refl
+  where
+    off : (t : Bool) → (t && false) ≡ false
+    off true = refl
+    off false = refl
+
+    outside : (a b : ℤ) → toPage f x y .x ≡ a → toPage f x y .y ≡ b → (within (f .page-w) a && within (f .page-h) b) ≡ false → (fill : ℕ) (page : List ℕ) → levelAt f fill page x y ≡ fill
+    outside a b p q e fill page =
+        (λ i. cond (within (f .page-w) (p i) && within (f .page-h) (q i)) (getD page (natural (q i) * f .page-w + natural (p i)) fill) fill)
+        ∙ ap (λ t. cond t (getD page (natural b * f .page-w + natural a) fill) fill) e
+
+    two : (c r : ℕ) → toPage f x y .x ≡ pos c → toPage f x y .y ≡ pos r → Dec (c < f .page-w) → Dec (r < f .page-h) → ((fill : ℕ) (page : List ℕ) → levelAt f fill page x y ≡ fill) ⊎ Source f x y
+    two c r a b (yes k) (yes l) =
+        let p : toPage f x y ≡ record { x = pos c; y = pos r } = λ i. record { x = a i; y = b i } in
+        inr record { c = c; r = r; c-in = k; r-in = l; point = p; value = λ fill page. rw (p, lt-ltb c (f .page-w) k, lt-ltb r (f .page-h) l) }
+    two c r a b (yes k) (no l) = inl (outside (pos c) (pos r) a b (rw (lt-ltb c (f .page-w) k, le-ltb r (f .page-h) (omega arith))))
+    two c r a b (no k) l = inl (outside (pos c) (pos r) a b (rw (le-ltb c (f .page-w) (omega arith))))
+
+    go : (a b : ℤ) → toPage f x y .x ≡ a → toPage f x y .y ≡ b → ((fill : ℕ) (page : List ℕ) → levelAt f fill page x y ≡ fill) ⊎ Source f x y
+    go (pos c) (pos r) a b = two c r a b (decLt c (f .page-w)) (decLt r (f .page-h))
+    go (pos c) (negsuc r) a b = inl (outside (pos c) (negsuc r) a b (off (ltb c (f .page-w))))
+    go (negsuc c) z a b = inl (outside (negsuc c) z a b refl)
 
 source : (f : Frame) (page : List ℕ) (x y : ℕ) → levelAt f 0 page x y ≡ 1 → Source f x y
-unfolding levelAt
-source f page x y e = go (toPage f x y .x) (toPage f x y .y) refl refl e
+source f page x y e = go (added-or-source f x y)
   where
-    blank : (a : Bool) (v : ℕ) → a ≡ false → cond a v 0 ≡ 1 → ⊥
-    blank a v z q = let w : _≡_ {A = ℕ} 0 1 = sym (ap (λ t. cond t v 0) z) ∙ q in omega arith
-
-    two : (c r : ℕ) → toPage f x y .x ≡ pos c → toPage f x y .y ≡ pos r → Dec (c < f .page-w) → Dec (r < f .page-h)
-        → cond (ltb c (f .page-w) && ltb r (f .page-h)) (getD page (r * f .page-w + c) 0) 0 ≡ 1 → Source f x y
-    two c r a b (yes k) (yes l) q = record { c = c; r = r; c-in = k; r-in = l; point = λ i. record { x = a i; y = b i } }
-    two c r a b (yes k) (no l) q = absurd (blank (ltb c (f .page-w) && ltb r (f .page-h)) _ (rw (lt-ltb c (f .page-w) k, le-ltb r (f .page-h) (omega arith))) q)
-    two c r a b (no k) l q = absurd (blank (ltb c (f .page-w) && ltb r (f .page-h)) _ (rw (le-ltb c (f .page-w) (omega arith))) q)
-
-    go : (a b : ℤ) → toPage f x y .x ≡ a → toPage f x y .y ≡ b → cond (within (f .page-w) a && within (f .page-h) b) (getD page (natural b * f .page-w + natural a) 0) 0 ≡ 1 → Source f x y
-    go (pos c) (pos r) a b q = two c r a b (decLt c (f .page-w)) (decLt r (f .page-h)) q
-    go (pos c) (negsuc r) a b q = absurd (blank (ltb c (f .page-w) && false) _ (off (ltb c (f .page-w))) q)
-      where
-        off : (t : Bool) → (t && false) ≡ false
-        off true = refl
-        off false = refl
-    go (negsuc c) b a b' q = absurd (blank false 0 refl q)
+    go : ((fill : ℕ) (page : List ℕ) → levelAt f fill page x y ≡ fill) ⊎ Source f x y → Source f x y
+    go (inl h) = absurd (let z : _≡_ {A = ℕ} 0 1 = sym (h 0 page) ∙ e in omega arith)
+    go (inr S) = S
 
 -- ---- for a frame that has room for every page dot
 pub record HoldsPage (f : Frame) : Type 0 where

@@ -10,5 +10,7 @@ pub mod FrameLaws
 pub mod InverseTheorems
 -- the frame row by row, as the code moves a plane into it
 pub mod RowLaws
+-- a page plane moved dot by dot
+pub mod TileLaws
 -- points and boxes back on the page, as the code maps them
 pub mod MappingLaws

@@ -1,7 +1,7 @@
 -- The way back as the code takes it: a point by its column and its two differences, a box by the dots of its four corners.
-use mathlib.Core.Path.{_≡_, refl, sym, ap, _∙_}
+use mathlib.Core.Path.{_≡_, sym, ap, _∙_}
 use mathlib.Core.List.{List}
-use Prim.Native.Nat.{ℕ, zero, suc, _-_, _≤_, _<_, min, max}
+use Prim.Native.Nat.{ℕ, _-_, min, max}
 use native.Mathlib.Omega.{arith}
 use lib.IntN.{ℤ, pos, negsuc, subℕ}
 use lib.ListN.{getD}
@@ -10,7 +10,6 @@ use Rattle.labelling.specs.Rects.{union}
 use Rattle.levelling.specs.Shears.{lesserℤ, greaterℤ}
 use Rattle.levelling.specs.Frames.{Frame, frameOf}
 use Rattle.levelling.specs.Mapping.{toPage, clamped, dotToPage, rectToPage}
-use Rattle.levelling.specs.declared.Point.{Point}
 use Rattle.levelling.proofs.Integers.{natural-sub}
 
 -- ---- moved onto a side, the lesser stays the lesser

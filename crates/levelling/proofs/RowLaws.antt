@@ -1,8 +1,8 @@
 -- A frame row by its columns: added dots at both ends, and between them the page's columns, by stretches that move by the same number of rows.
 use mathlib.Core.Path.{_≡_, refl, sym, ap, _∙_, subst}
 use mathlib.Core.List.{List, _++_}
-use mathlib.Core.Bool.{Bool, true, false, cond, _&&_}
-use Prim.Native.Nat.{ℕ, zero, suc, _+_, _-_, _*_, _/_, _%_, _≤_, _<_, min}
+use mathlib.Core.Bool.{cond, _&&_}
+use Prim.Native.Nat.{ℕ, _+_, _-_, _*_, _/_, _%_, _≤_, _<_, min}
 use native.Mathlib.Nat.{add-assoc, suc-mul, mul-comm}
 use native.Mathlib.Numerals.{add-one}
 use native.Mathlib.Decide.{decLt, decLe, ℕ-discrete}
@@ -23,7 +23,8 @@ use Rattle.levelling.specs.Frames.{Frame, frameOf}
 use Rattle.levelling.specs.declared.Point.{Point}
 use Rattle.levelling.proofs.Integers.{sub-at-least}
 use Rattle.levelling.specs.Mapping.{toPage}
-use Rattle.levelling.specs.Planes.{within, columnAt, levelAt, levelled, Stretch, Stretches}
+use Rattle.levelling.specs.Planes.{within, levelAt, levelled}
+use Rattle.levelling.specs.Moves.{columnAt, Stretch, Stretches}
 
 -- ---- a column of a frame row
 column-above : (page : List ℕ) (fill w h r s c : ℕ) → r < s → columnAt page fill w h r s c ≡ fill

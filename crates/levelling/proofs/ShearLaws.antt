@@ -2,14 +2,14 @@
 use mathlib.Core.Path.{_≡_, refl, sym, ap, _∙_, subst}
 use mathlib.Core.List.{List, [], _∷_, map}
 use mathlib.Core.Bool.{Bool, true, false, cond}
-use Prim.Native.Nat.{ℕ, zero, suc, _+_, _-_, _≤_, _<_, max}
+use Prim.Native.Nat.{ℕ, zero, suc, _-_, _≤_, _<_, max}
 use native.Mathlib.Nat.{not-suc-le-zero, le-of-suc-le-suc, le-refl}
 use native.Mathlib.Omega.{arith}
 use lib.IntN.{ℤ, pos, negℤ, _-ℤ_}
 use lib.ListN.{getD, length, length-map}
 use lib.Seq.{ext-getD}
 use Rattle.memory.specs.Lists.{table, greatest}
-use Rattle.memory.proofs.TableLaws.{length-table, getD-table}
+use Rattle.memory.proofs.TableLaws.{length-table, getD-table, getD-default}
 use Rattle.rounding.proofs.DriftLaws.{signed}
 use Rattle.levelling.specs.Shears.{lesserℤ, natural, leastEntry, shearOf}
 use Rattle.levelling.proofs.Integers.{minus-zero, minus-negated, lesser-comm, lesser-assoc, lesser-same, zero-lesser, negated-lesser}
@@ -51,15 +51,10 @@ unfolding shearOf
 shear-at [] m a k kl e h i l = absurd (not-suc-le-zero l)
 shear-at (d ∷ t) m a k kl e h i l = getD-map-inside (λ v. natural (v -ℤ leastEntry d t)) (d ∷ t) i a 0 l ∙ ap (λ v. natural (getD (d ∷ t) i a -ℤ v)) least
   where
-    default : (l : List ℤ) (i : ℕ) → i < length l → getD l i d ≡ getD l i a
-    default [] i l = absurd (not-suc-le-zero l)
-    default (x ∷ t) zero l = refl
-    default (x ∷ t) (suc i) l = default t i (le-of-suc-le-suc l)
-
     least : leastEntry d t ≡ m
     least =
-        sym (least-bounds d t k kl) ∙ (ap (lesserℤ (leastEntry d t)) (default (d ∷ t) k kl ∙ e)
-        ∙ least-at-least d t m (λ j q. ap (λ z. lesserℤ z m) (default (d ∷ t) j q) ∙ h j q))
+        sym (least-bounds d t k kl) ∙ (ap (lesserℤ (leastEntry d t)) (getD-default (d ∷ t) k d a kl ∙ e)
+        ∙ least-at-least d t m (λ j q. ap (λ z. lesserℤ z m) (getD-default (d ∷ t) j d a q) ∙ h j q))
 
 -- ---- the shear of a table that runs one way
 -- entry c of the shear of n drifts of these sizes: a falling table (s is true) is least at its last entry, a rising one at its first

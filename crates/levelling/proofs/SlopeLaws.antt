@@ -7,13 +7,12 @@ use native.Mathlib.Nat.{le-trans, le-of-lt, mul-zero, zero-mul, suc-mul}
 use native.Mathlib.Decide.{decLt}
 use native.Mathlib.Omega.{arith}
 use borrow.Author.Tests.{lt-ltb, le-ltb, eq-eqb, ne-eqb}
-use lib.IntN.{ℤ, pos, negℤ, natAbs, negℤ-negℤ, pos-ne-negsuc}
-use lib.Dec.{T, ltb, eqb, lit≤, ltb→lt, eqb→eq, lt→ltb}
+use lib.IntN.{ℤ, pos, negℤ, natAbs, pos-ne-negsuc}
+use lib.Dec.{T, ltb, eqb, ltb→lt, eqb→eq, lt→ltb}
 use lib.Ieee.{Float, nan, inf, fin, binary64, le, lt, neg, mul, ofInt, ofBits, up, down, below, level, toSigned, toUnsigned}
 use lib.Ieee.Fits.{down-pos}
-use lib.Ieee.Positive.{num, den, den-pos}
-use Rattle.rounding.specs.Rounding.{roundHalfAway, roundToSigned, roundToUnsigned, positiveZero}
-use Rattle.rounding.specs.Drift.{drift, driftX}
+use Rattle.rounding.specs.Rounding.{roundToUnsigned, positiveZero}
+use Rattle.rounding.specs.Drift.{drift}
 use Rattle.rounding.proofs.Signs.{negative}
 use Rattle.rounding.proofs.DriftLaws.{WithinOne, signed, drift-signed, drift-within, drift-near, drift-negated}
 use Rattle.levelling.specs.Shears.{magnitude}
@@ -112,12 +111,12 @@ pub size-by-cast : (slope : Float) → WithinOne slope → lt slope positiveZero
 size-by-cast slope w t c C = unsigned-of-signed _ (driftSize slope c) (le-trans (drift-within slope w c C) C) (drift-by-test slope w false t c C)
 
 -- ---- a float without its sign, as the code makes it
-abbrev pub unsigned : Float → Float
-unsigned x = cond (lt x positiveZero) (neg x) x
+abbrev pub abs : Float → Float
+abs x = cond (lt x positiveZero) (neg x) x
 
-pub unsigned-not-below : (x : Float) → lt (unsigned x) positiveZero ≡ false
+pub abs-not-below : (x : Float) → lt (abs x) positiveZero ≡ false
 unfolding lt neg ofBits
-unsigned-not-below x = go x (lt x positiveZero) refl
+abs-not-below x = go x (lt x positiveZero) refl
   where
     go : (x : Float) (b : Bool) → lt x positiveZero ≡ b → lt (cond b (neg x) x) positiveZero ≡ false
     go x false t = t
@@ -126,22 +125,22 @@ unsigned-not-below x = go x (lt x positiveZero) refl
     go (fin true m e) true t = none-below (m * up e * 1) (down e)
     go (fin false m e) true t = absurd (true≢false (sym t ∙ none-below (m * up e * 1) (down e)))
 
-pub unsigned-within : (slope : Float) → WithinOne slope → WithinOne (unsigned slope)
-unsigned-within slope w = go (lt slope positiveZero)
+pub abs-within : (slope : Float) → WithinOne slope → WithinOne (abs slope)
+abs-within slope w = go (lt slope positiveZero)
   where
     go : (b : Bool) → WithinOne (cond b (neg slope) slope)
     go true = within-negated slope w
     go false = w
 
 -- what the code's own copy of it meets
-pub steep-within : (slope steep : Float) → WithinOne slope → steep ≡ unsigned slope → WithinOne steep
-steep-within slope steep w e = subst WithinOne (sym e) (unsigned-within slope w)
+pub steep-within : (slope steep : Float) → WithinOne slope → steep ≡ abs slope → WithinOne steep
+steep-within slope steep w e = subst WithinOne (sym e) (abs-within slope w)
 
-pub steep-not-below : (slope steep : Float) → steep ≡ unsigned slope → lt steep positiveZero ≡ false
-steep-not-below slope steep e = ap (λ x. lt x positiveZero) e ∙ unsigned-not-below slope
+pub steep-not-below : (slope steep : Float) → steep ≡ abs slope → lt steep positiveZero ≡ false
+steep-not-below slope steep e = ap (λ x. lt x positiveZero) e ∙ abs-not-below slope
 
-pub unsigned-size : (slope : Float) → WithinOne slope → (c : ℕ) → c ≤ 2 ^ 15 → driftSize (unsigned slope) c ≡ driftSize slope c
-unsigned-size slope w c C = go (lt slope positiveZero)
+pub abs-size : (slope : Float) → WithinOne slope → (c : ℕ) → c ≤ 2 ^ 15 → driftSize (abs slope) c ≡ driftSize slope c
+abs-size slope w c C = go (lt slope positiveZero)
   where
     go : (b : Bool) → driftSize (cond b (neg slope) slope) c ≡ driftSize slope c
     go true = size-negated slope w c C
@@ -154,9 +153,9 @@ zero-sign false zero = refl
 zero-sign true (suc a) = rw (lt-ltb 0 (suc a) (omega arith), lt-ltb 0 (suc a + 0) (omega arith))
 zero-sign false (suc a) = rw (le-ltb (suc a) 0 (omega arith), ne-eqb (suc a) 0 (λ e. omega arith))
 
-pub unsigned-is-magnitude : (least x : Float) → le least (unsigned x) ≡ le least (magnitude x)
+pub abs-is-magnitude : (least x : Float) → le least (abs x) ≡ le least (magnitude x)
 unfolding lt le neg ofBits magnitude
-unsigned-is-magnitude least x = go x (lt x positiveZero) refl
+abs-is-magnitude least x = go x (lt x positiveZero) refl
   where
     zero-is : (least : Float) (m : ℕ) (e : ℤ) → m * up e ≡ 0 → le least (fin true m e) ≡ le least (fin false m e)
     zero-is nan m e z = refl

@@ -6,3 +6,5 @@ pub mod Frames
 pub mod Mapping
 -- a page plane moved into the frame: the ink mask, and `level_gray`
 pub mod Planes
+-- how the code moves it
+pub mod Moves

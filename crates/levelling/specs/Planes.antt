@@ -1,13 +1,13 @@
 -- A page plane moved into the frame (01, part 3). Each frame dot has the page dot that it maps back to; that each page dot is found
 -- where `rowOf` and `columnOf` send it is a law.
-use Prim.Native.Nat.{ℕ, _+_, _-_, _*_, _/_, _%_, _≤_, _<_}
+use Prim.Native.Nat.{ℕ, _+_, _*_, _/_, _%_, _≤_}
 use mathlib.Core.Path.{_≡_}
 use mathlib.Core.Bool.{Bool, false, cond, _&&_}
 use mathlib.Core.List.{List}
 use lib.IntN.{ℤ, pos, negsuc}
 use lib.Ieee.{Float}
 use lib.ListN.{getD, length}
-use lib.Dec.{leb, ltb}
+use lib.Dec.{ltb}
 use Rattle.memory.specs.Lists.{table}
 use Rattle.params.specs.declared.LayoutParams.{LayoutParams}
 use Rattle.levelling.specs.Shears.{applied, natural}
@@ -43,21 +43,8 @@ pub record PlaneFits (f : Frame) (page out : List ℕ) : Type 0 where
   pub columns : length (f .shear) ≡ f .page-w
   pub rows : length (f .shear-x) ≡ f .h
   pub inside : (r : ℕ) → getD (f .shear-x) r 0 + f .page-w ≤ f .w
+  pub above : (c : ℕ) → getD (f .shear) c 0 + f .page-h ≤ f .h
   pub out-size : f .w * f .h ≤ length out
-
--- what lies on frame row r in a page column c that moves by s: the rule by column, as the code goes
-unfoldable pub columnAt : List ℕ → ℕ → ℕ → ℕ → ℕ → ℕ → ℕ → ℕ
-columnAt page fill page-w page-h r s c = cond (leb s r && ltb (r - s) page-h) (getD page ((r - s) * page-w + c) fill) fill
-
--- the columns from c up to e move by the same number of rows
-pub record Stretch (shear : List ℕ) (c e : ℕ) : Type 0 where
-  pub some : c < e
-  pub inside : e ≤ length shear
-  pub level : (k : ℕ) → c ≤ k → k < e → getD shear k 0 ≡ getD shear c 0
-
--- from each column c on, `from` and behind, such a stretch ends at ends[c]
-abbrev pub Stretches : List ℕ → List ℕ → ℕ → Type 0
-Stretches shear ends from = (c : ℕ) → from ≤ c → c < length shear → Stretch shear c (getD ends c 0)
 
 -- what levelling gives: the applied skew and slope, the frame, the ink in it
 pub record Levelling : Type 0 where

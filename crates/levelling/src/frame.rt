@@ -1,7 +1,7 @@
 // The levelled frame: its sides, and its two shears.
+use crate::shears::abs;
 use crate::shears::drift_size;
 use crate::shears::fill_shear;
-use crate::shears::unsigned;
 ghost use mathlib.Core.Path.{_≡_};
 ghost use mathlib.Core.List.{_++_};
 ghost use Prim.Native.Nat.{_+_, _≤_};
@@ -22,7 +22,7 @@ pub fn frame_size(page_w: u32, page_h: u32, slope: f64) -> FrameSize
     requires { ⌜ PageSides «page_w» «page_h» ⌝ ∗ ⌜ WithinOne slope ⌝ }
     ensures { λ r. ⌜ (r .w ≡ frame «page_w» «page_h» slope .w) × (r .h ≡ frame «page_w» «page_h» slope .h) ⌝ ∗ ⌜ (r .w ≤ maxFrameWidth) × (r .h ≤ maxFrameHeight) ⌝ }
 {
-    let steep = unsigned(slope);
+    let steep = abs(slope);
     let h = page_h + drift_size(page_w - 1, steep);
     let w = page_w + drift_size(h - 1, steep);
     FrameSize { w, h }

@@ -4,6 +4,8 @@ mod frame;
 mod mapping;
 mod plane;
 mod shears;
+mod stretches;
+mod tiles;
 
 pub use frame::FrameSize;
 pub use frame::fill_shears;

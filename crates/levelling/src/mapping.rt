@@ -2,9 +2,9 @@
 use crate::Point;
 use labelling::Rect;
 ghost use mathlib.Core.Path.{_≡_};
-ghost use Prim.Native.Nat.{ℕ, min, _-_, _≤_, _<_};
+ghost use Prim.Native.Nat.{ℕ, min, _-_, _<_};
 ghost use lib.IntN.{subℕ};
-ghost use lib.ListN.{length, getD};
+ghost use lib.ListN.{length};
 ghost use Rattle.levelling.specs.Frames.{frameOf};
 ghost use Rattle.levelling.specs.Mapping.{toPage, rectToPage, dotToPage};
 

@@ -1,8 +1,8 @@
 -- A table and its entries; a loop that fills one.
 use mathlib.Core.Path.{_≡_, refl, sym, ap, _∙_}
 use mathlib.Core.List.{List, [], _∷_, _++_, append-nil}
-use Prim.Native.Nat.{ℕ, zero, suc, _+_, _≤_, _<_}
-use native.Mathlib.Nat.{not-suc-le-zero, le-refl}
+use Prim.Native.Nat.{ℕ, zero, suc, _+_, _<_}
+use native.Mathlib.Nat.{not-suc-le-zero, le-of-suc-le-suc, le-refl}
 use native.Mathlib.Numerals.{add-one}
 use native.Mathlib.Decide.{ℕ-discrete}
 use native.Mathlib.Omega.{arith}
@@ -24,6 +24,11 @@ getD-table {A} f (suc n) i d l = go (getD-table f n i d) (ℕ-discrete i n)
     go : (i < n → getD (table f n) i d ≡ f i) → Dec (i ≡ n) → getD (table f n ++ (f n ∷ [])) i d ≡ f i
     go ih (yes e) = getD-at (table f n) (f n) [] d i (length-table f n ∙ sym e) ∙ ap f (sym e)
     go ih (no ne) = List·getD-append (table f n) (f n ∷ []) d i (let e = length-table f n in omega arith) ∙ ih (omega arith)
+
+pub getD-default : {A : Type 0} (l : List A) (i : ℕ) (a b : A) → i < length l → getD l i a ≡ getD l i b
+getD-default [] i a b l = absurd (not-suc-le-zero l)
+getD-default (x ∷ t) zero a b l = refl
+getD-default (x ∷ t) (suc i) a b l = getD-default t i a b (le-of-suc-le-suc l)
 
 pub table-ext : {A : Type 0} (f g : ℕ → A) (n : ℕ) → ((i : ℕ) → i < n → f i ≡ g i) → table f n ≡ table g n
 unfolding table

@@ -1,6 +1,7 @@
 use mathlib.Core.Path.{_≡_, sym, ap, _∙_}
-use native.Mathlib.Omega.{arith}
 use Prim.Native.Nat.{_-_}
+use native.Mathlib.Omega.{arith}
+use borrow.Author.Needs.{needs}
 use lib.ListN.{length, take, drop, length-take, length-drop}
 use lib.Ieee.{neg}
 use Rattle.memory.specs.Lists.{table}
@@ -11,39 +12,27 @@ use Rattle.levelling.specs.Shears.{shearOf}
 use Rattle.levelling.specs.Frames.{frame}
 use Rattle.levelling.proofs.SlopeLaws.{within-negated}
 use Rattle.levelling.proofs.FrameLaws.{frame-rows, shear-is, shear-x-is, length-shears}
-use borrow.Author.Needs.{needs}
 use Rattle.levelling.proofs.frame.fill_shears.Statement.{statement}
 use Rattle.levelling.proofs.frame.fill_shears.Tie as tie
-use Rattle.levelling.proofs.frame.fill_shears.Reads as reads
-use Rattle.levelling.proofs.frame.fill_shears.Lts as lts
-use Rattle.levelling.proofs.frame.frame_size.Reads as frame-size-reads
-use Rattle.levelling.proofs.shears.fill_shear.Reads as fill-shear-reads
 
--- src/frame.rt:36:9
 frame-size-requires : tie.Need-frame-size-requires
 frame-size-requires c κs = search needs
 
--- src/frame.rt:39:5
 fill-shear-requires : tie.Need-fill-shear-requires
 fill-shear-requires c κs = search needs
 
--- src/frame.rt:40:16
 mul-fill-shear : tie.Need-mul-fill-shear
 mul-fill-shear c = search needs
 
--- src/frame.rt:40:16
 sub-fill-shear : tie.Need-sub-fill-shear
 sub-fill-shear c = search needs
 
--- src/frame.rt:40:16
 part-fill-shear-start : tie.Need-part-fill-shear-start
 part-fill-shear-start c = search needs
 
--- src/frame.rt:40:16
 part-fill-shear-end : tie.Need-part-fill-shear-end
 part-fill-shear-end c = search needs
 
--- src/frame.rt:40:5
 fill-shear-requires-2 : tie.Need-fill-shear-requires-2
 fill-shear-requires-2 c κs = let f = c .before .before .before in
     let z = f .before .before in
@@ -51,13 +40,13 @@ fill-shear-requires-2 c κs = let f = c .before .before .before in
     let w = p .args .page-w in
     let rows = frame-rows w (p .args .page-h) (p .args .slope) (p .pre .0) (p .pre .1 .0) in
     let e = z .frame-size .ensures .0 .1 in
-    ((omega (arith, rows, e), omega (arith, rows, e), simp (length-take, length-drop) (omega (arith, e, p .pre .1 .1, f .fill-shear .kept))), within-negated (p .args .slope) (p .pre .1 .0))
+    let one = p .pre .1 .0 in
+    let turned = within-negated (p .args .slope) one in
+    ((omega (arith, rows, e), omega (arith, rows, e), simp (length-take, length-drop) (omega (arith, e, p .pre .1 .1, f .fill-shear .kept))), search needs)
 
--- src/frame.rt:32:1
 same-length : tie.Need-same-length
 same-length c = search needs
 
--- src/frame.rt:32:1
 returns : tie.Need-returns
 returns c = let g = c .before .before in
     let f = g .before .before .before .before in

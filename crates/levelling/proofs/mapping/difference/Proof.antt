@@ -1,26 +1,20 @@
 use mathlib.Core.Path.{_∙_}
 use mir.Syntax.{w64}
 use mir.ValLaws.{toZ-ofZ}
-use Rattle.levelling.proofs.Integers.{words-difference, words-difference-fits}
 use borrow.Author.Needs.{needs}
+use Rattle.levelling.proofs.Integers.{words-difference, words-difference-fits}
 use Rattle.levelling.proofs.mapping.difference.Statement.{statement}
 use Rattle.levelling.proofs.mapping.difference.Tie as tie
-use Rattle.levelling.proofs.mapping.difference.Reads as reads
-use Rattle.levelling.proofs.mapping.difference.Lts as lts
 
--- src/mapping.rt:15:5
 cast-result : tie.Need-cast-result
 cast-result c = search needs
 
--- src/mapping.rt:15:16
 cast-result-2 : tie.Need-cast-result-2
 cast-result-2 c = search needs
 
--- src/mapping.rt:15:5
 sub-result : tie.Need-sub-result
 sub-result c = words-difference-fits (c .args .a) (c .args .b) (c .fits .a .fits) (c .fits .b .fits)
 
--- src/mapping.rt:12:1
 returns : tie.Need-returns
 returns c = toZ-ofZ w64 _ (sub-result c) ∙ words-difference (c .args .a) (c .args .b) (c .fits .a .fits) (c .fits .b .fits)
 

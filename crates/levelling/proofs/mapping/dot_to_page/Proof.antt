@@ -1,40 +1,29 @@
-use Rattle.levelling.proofs.MappingLaws.{dot-by}
 use borrow.Author.Needs.{needs}
+use Rattle.levelling.proofs.MappingLaws.{dot-by}
 use Rattle.levelling.proofs.mapping.dot_to_page.Statement.{statement}
 use Rattle.levelling.proofs.mapping.dot_to_page.Tie as tie
-use Rattle.levelling.proofs.mapping.dot_to_page.Reads as reads
-use Rattle.levelling.proofs.mapping.dot_to_page.Lts as lts
-use Rattle.levelling.proofs.mapping.onto_side.Reads as onto-side-reads
 
--- src/mapping.rt:41:31
 mul-onto-side : tie.Need-mul-onto-side
 mul-onto-side c = search needs
 
--- src/mapping.rt:41:31
 shared-slice-read-onto-side : tie.Need-shared-slice-read-onto-side
 shared-slice-read-onto-side c = search needs
 
--- src/mapping.rt:41:9
 onto-side-requires : tie.Need-onto-side-requires
 onto-side-requires c κs = search needs
 
--- src/mapping.rt:42:14
 cast-at : tie.Need-cast-at
 cast-at c = search needs
 
--- src/mapping.rt:43:29
 mul-onto-side-2 : tie.Need-mul-onto-side-2
 mul-onto-side-2 c = search needs
 
--- src/mapping.rt:43:29
 shared-slice-read-onto-side-2 : tie.Need-shared-slice-read-onto-side-2
 shared-slice-read-onto-side-2 c = search needs
 
--- src/mapping.rt:43:9
 onto-side-requires-2 : tie.Need-onto-side-requires-2
 onto-side-requires-2 c κs = search needs
 
--- src/mapping.rt:36:1
 returns : tie.Need-returns
 returns c = let o = c .before .before in
     let a = o .before .before .before .before .args in

@@ -1,46 +1,34 @@
 use mathlib.Core.Path.{_≡_, _∙_}
+use borrow.Author.Needs.{needs}
 use Rattle.labelling.specs.declared.rect.Rect.{Rect}
 use Rattle.labelling.specs.Rects.{union}
 use Rattle.levelling.specs.Frames.{Frame, frameOf}
 use Rattle.levelling.specs.Mapping.{dotToPage, rectToPage}
 use Rattle.levelling.proofs.MappingLaws.{rect-by-corners}
-use borrow.Author.Needs.{needs}
 use Rattle.levelling.proofs.mapping.rect_to_page.Statement.{statement}
 use Rattle.levelling.proofs.mapping.rect_to_page.Tie as tie
-use Rattle.levelling.proofs.mapping.rect_to_page.Reads as reads
-use Rattle.levelling.proofs.mapping.rect_to_page.Lts as lts
-use Rattle.labelling.proofs.rect.Rect.union.Reads as union-reads
-use Rattle.levelling.proofs.mapping.dot_to_page.Reads as dot-to-page-reads
 
--- src/mapping.rt:30:17
 dot-to-page-requires : tie.Need-dot-to-page-requires
 dot-to-page-requires c κs = search needs
 
--- src/mapping.rt:30:79
 dot-to-page-requires-2 : tie.Need-dot-to-page-requires-2
 dot-to-page-requires-2 c κs = search needs
 
--- src/mapping.rt:30:9
 union-requires : tie.Need-union-requires
 union-requires c κs = search needs
 
--- src/mapping.rt:31:17
 dot-to-page-requires-3 : tie.Need-dot-to-page-requires-3
 dot-to-page-requires-3 c κs = search needs
 
--- src/mapping.rt:31:79
 dot-to-page-requires-4 : tie.Need-dot-to-page-requires-4
 dot-to-page-requires-4 c κs = search needs
 
--- src/mapping.rt:31:9
 union-requires-2 : tie.Need-union-requires-2
 union-requires-2 c κs = search needs
 
--- src/mapping.rt:32:5
 union-requires-3 : tie.Need-union-requires-3
 union-requires-3 c κs = search needs
 
--- src/mapping.rt:26:1
 boxed : (f : Frame) (r a b c d upper lower all : Rect) → a ≡ dotToPage f (r .x0) (r .y0) → b ≡ dotToPage f (r .x1) (r .y0) → c ≡ dotToPage f (r .x0) (r .y1) → d ≡ dotToPage f (r .x1) (r .y1)
     → upper ≡ union a b → lower ≡ union c d → all ≡ union upper lower → all ≡ rectToPage f r
 boxed f r a b c d upper lower all ea eb ec ed eu el e =

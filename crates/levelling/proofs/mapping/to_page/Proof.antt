@@ -1,47 +1,34 @@
+use borrow.Author.Needs.{needs}
 use lib.ListN.{getD}
 use Rattle.levelling.proofs.Integers.{words-difference-kept}
 use Rattle.levelling.proofs.MappingLaws.{point-by}
-use borrow.Author.Needs.{needs}
 use Rattle.levelling.proofs.mapping.to_page.Statement.{statement}
 use Rattle.levelling.proofs.mapping.to_page.Tie as tie
-use Rattle.levelling.proofs.mapping.to_page.Reads as reads
-use Rattle.levelling.proofs.mapping.to_page.Lts as lts
-use Rattle.levelling.proofs.mapping.difference.Reads as difference-reads
-use Rattle.levelling.proofs.mapping.onto_side.Reads as onto-side-reads
 
--- src/mapping.rt:17:16
 mul-left : tie.Need-mul-left
 mul-left c = search needs
 
--- src/mapping.rt:17:16
 shared-slice-read-left : tie.Need-shared-slice-read-left
 shared-slice-read-left c = search needs
 
--- src/mapping.rt:18:18
 onto-side-requires : tie.Need-onto-side-requires
 onto-side-requires c κs = search needs
 
--- src/mapping.rt:18:18
 cast-column : tie.Need-cast-column
 cast-column c = search needs
 
--- src/mapping.rt:20:12
 difference-requires : tie.Need-difference-requires
 difference-requires c κs = search needs
 
--- src/mapping.rt:21:26
 mul-difference : tie.Need-mul-difference
 mul-difference c = search needs
 
--- src/mapping.rt:21:26
 shared-slice-read-difference : tie.Need-shared-slice-read-difference
 shared-slice-read-difference c = search needs
 
--- src/mapping.rt:21:12
 difference-requires-2 : tie.Need-difference-requires-2
 difference-requires-2 c κs = search needs
 
--- src/mapping.rt:12:1
 returns : tie.Need-returns
 returns c = let k = c .before in
     let d = k .before in

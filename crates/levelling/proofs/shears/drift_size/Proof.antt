@@ -1,11 +1,8 @@
 use mathlib.Core.Path.{_∙_}
-use Rattle.levelling.proofs.SlopeLaws.{size-by-cast}
 use borrow.Author.Needs.{needs}
+use Rattle.levelling.proofs.SlopeLaws.{size-by-cast}
 use Rattle.levelling.proofs.shears.drift_size.Statement.{statement}
 use Rattle.levelling.proofs.shears.drift_size.Tie as tie
-use Rattle.levelling.proofs.shears.drift_size.Reads as reads
-use Rattle.levelling.proofs.shears.drift_size.Lts as lts
-use Rattle.rounding.proofs.round_to_u32.Reads as round-to-u32-reads
 
 int-to-float-round-to-u32 : tie.Need-int-to-float-round-to-u32
 int-to-float-round-to-u32 c = search needs

@@ -4,26 +4,19 @@ use Prim.Native.Nat.{ℕ, _-_}
 use borrow.Author.Needs.{needs}
 use Rattle.levelling.proofs.shears.shear_entry.Statement.{statement}
 use Rattle.levelling.proofs.shears.shear_entry.Tie as tie
-use Rattle.levelling.proofs.shears.shear_entry.Reads as reads
-use Rattle.levelling.proofs.shears.shear_entry.Lts as lts
-use Rattle.levelling.proofs.shears.drift_size.Reads as drift-size-reads
 
--- src/shears.rt:43:9
 drift-size-requires : tie.Need-drift-size-requires
 drift-size-requires c κs = search needs
 
--- src/shears.rt:44:16
 sub-result : tie.Need-sub-result
 sub-result c = search needs
 
--- src/shears.rt:39:1
 by-test : (size last r : ℕ) (b t : Bool) → r ≡ size → t ≡ b → cond b (last - r) r ≡ cond t (last - size) size
 by-test size last r b t e q = λ i. cond (sym q i) (last - e i) (e i)
 
 returns : tie.Need-returns
 returns c = by-test _ (c .before .before .args .last) (c .before .drift-size .result) true (c .before .before .args .falls) (c .before .drift-size .ensures) (c .if1 .taken)
 
--- src/shears.rt:39:1
 returns-2 : tie.Need-returns-2
 returns-2 c = by-test _ (c .before .before .args .last) (c .before .drift-size .result) false (c .before .before .args .falls) (c .before .drift-size .ensures) (c .if1 .left)
 

@@ -1,18 +1,15 @@
-use mathlib.Core.Path.{_≡_, refl, sym, ap, _∙_}
+use mathlib.Core.Path.{_≡_, refl, sym, ap}
 use mathlib.Core.List.{_++_}
-use Prim.Native.Nat.{ℕ, _+_, _-_, _*_, _≤_, _<_, zero-le}
+use Prim.Native.Nat.{_+_, _-_, _*_, _≤_, zero-le}
 use native.Mathlib.Nat.{zero-mul}
 use native.Mathlib.Omega.{arith}
-use lib.ListN.{length, take, drop, getD, length-take, length-drop}
+use lib.ListN.{length, take, drop, length-take, length-drop}
 use Rattle.memory.specs.Lists.{table}
 use Rattle.memory.proofs.PlaneLaws.{row-end}
 use Rattle.levelling.specs.Frames.{frameOf}
 use Rattle.levelling.proofs.RowLaws.{planeAt, rows-put, rows-all}
-use Rattle.levelling.proofs.plane.level_rows.Statement.{statement}
-use Rattle.levelling.proofs.plane.level_rows.Tie as tie
-use Rattle.levelling.proofs.plane.level_rows.Reads as reads
-use Rattle.levelling.proofs.plane.level_rows.Lts as lts
-use Rattle.levelling.proofs.plane.level_row.Reads as level-row-reads
+use Rattle.levelling.proofs.stretches.level_rows.Statement.{statement}
+use Rattle.levelling.proofs.stretches.level_rows.Tie as tie
 
 abbrev Inv-loop : tie.InvT-loop
 Inv-loop page fill page-w page-h shear shear-x ends w h out₀ r₀ out r = (r ≤ h) × (out ≡ table (planeAt (frameOf page-w page-h shear shear-x w h) fill page) (r * w) ++ drop (r * w) out₀) × (length out ≡ length out₀)
@@ -20,36 +17,29 @@ Inv-loop page fill page-w page-h shear shear-x ends w h out₀ r₀ out r = (r �
 abbrev μ-loop : tie.MeasureT-loop
 μ-loop page fill page-w page-h shear shear-x ends w h out₀ r₀ out r = h - r
 
--- src/plane.rt:90:5
 loop-holds : tie.Need-loop-holds Inv-loop μ-loop
 unfolding table
 loop-holds c = let a = c .before .before .before .before .before .args in
     (zero-le, ap (λ n. table (planeAt (frameOf (a .page-w) (a .page-h) (a .shear .now) (a .shear-x .now) (a .w) (a .h)) (a .fill) (a .page .now)) n ++ drop n (a .out .now)) (sym (zero-mul (a .w))), refl)
 
--- src/plane.rt:91:17
 mul-a : tie.Need-mul-a Inv-loop μ-loop
 mul-a c = let q = c .before .before .before .before .before .before .before in
     omega (arith, row-end (q .args .w) (q .args .h) (c .before .loop .r) (c .loop-test .taken), q .pre .0 .out-size)
 
--- src/plane.rt:92:17
 add-b : tie.Need-add-b Inv-loop μ-loop
 add-b c = let q = c .before .before .before .before .before .before .before in
     omega (arith, row-end (q .args .w) (q .args .h) (c .before .loop .r) (c .loop-test .taken), q .pre .0 .out-size)
 
--- src/plane.rt:93:72
 sub-level-row : tie.Need-sub-level-row Inv-loop μ-loop
 sub-level-row c = omega arith
 
--- src/plane.rt:93:72
 part-level-row-start : tie.Need-part-level-row-start Inv-loop μ-loop
 part-level-row-start c = omega arith
 
--- src/plane.rt:93:72
 part-level-row-end : tie.Need-part-level-row-end Inv-loop μ-loop
 part-level-row-end c = let q = c .before .before .before .before .before .before .before in
     omega (arith, row-end (q .args .w) (q .args .h) (c .before .loop .r) (c .loop-test .taken), q .pre .0 .out-size)
 
--- src/plane.rt:93:9
 level-row-requires : tie.Need-level-row-requires Inv-loop μ-loop
 level-row-requires c κs = let p = c .before .before in
     let q = p .before .before .before .before .before .before in
@@ -57,15 +47,12 @@ level-row-requires c κs = let p = c .before .before in
     let e = row-end (q .args .w) (q .args .h) (p .loop .r) (c .before .loop-test .taken) in
     ((F .page-size, F .columns, q .pre .1 .0, omega (arith, F .rows)), (simp (length-take, length-drop) (omega (arith, e, F .out-size, F .inside (p .loop .r))), q .pre .1 .1))
 
--- src/plane.rt:94:9
 add-r : tie.Need-add-r Inv-loop μ-loop
 add-r c = omega arith
 
--- src/plane.rt:90:5
 loop-less : tie.Need-loop-less Inv-loop μ-loop
 loop-less c = omega arith
 
--- src/plane.rt:90:5
 loop-again : tie.Need-loop-again Inv-loop μ-loop
 loop-again c = let g = c .before .before in
     let p = g .before .before .before in
@@ -81,7 +68,6 @@ loop-again c = let g = c .before .before in
 same-length : tie.Need-same-length Inv-loop μ-loop
 same-length c = omega arith
 
--- src/plane.rt:85:1
 returns : tie.Need-returns Inv-loop μ-loop
 returns c = let p = c .before in
     let a = p .before .before .before .before .before .before .args in

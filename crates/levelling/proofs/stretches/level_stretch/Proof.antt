@@ -1,46 +1,35 @@
 use mathlib.Core.Path.{refl, _∙_}
 use native.Mathlib.Omega.{arith}
+use borrow.Author.Needs.{needs}
 use lib.ListN.{length}
 use Rattle.levelling.proofs.RowLaws.{stretch-above, stretch-below, stretch-inside, stretch-copied}
-use borrow.Author.Needs.{needs}
-use Rattle.levelling.proofs.plane.level_stretch.Statement.{statement}
-use Rattle.levelling.proofs.plane.level_stretch.Tie as tie
-use Rattle.levelling.proofs.plane.level_stretch.Reads as reads
-use Rattle.levelling.proofs.plane.level_stretch.Lts as lts
-use Rattle.memory.proofs.copy_bytes.Reads as copy-bytes-reads
-use Rattle.memory.proofs.fill_bytes.Reads as fill-bytes-reads
+use Rattle.levelling.proofs.stretches.level_stretch.Statement.{statement}
+use Rattle.levelling.proofs.stretches.level_stretch.Tie as tie
 
--- src/plane.rt:19:9
 fill-bytes-requires : tie.Need-fill-bytes-requires
 fill-bytes-requires c κs = search needs
 
--- src/plane.rt:20:9
 same-length : tie.Need-same-length
 same-length c = search needs
 
--- src/plane.rt:20:9
 returns : tie.Need-returns
 returns c = let f = c .before .before in
     let t = f .before .before in
     let a = t .before .before .before .args in
     f .fill-bytes .ensures ∙ stretch-above (a .page .now) (a .fill) (a .page-w) (a .page-h) (a .r) (a .s) (a .c) (length (a .out .now)) (t .if1 .taken)
 
--- src/plane.rt:23:9
 fill-bytes-requires-2 : tie.Need-fill-bytes-requires-2
 fill-bytes-requires-2 c κs = search needs
 
--- src/plane.rt:24:9
 same-length-2 : tie.Need-same-length-2
 same-length-2 c = search needs
 
--- src/plane.rt:24:9
 returns-2 : tie.Need-returns-2
 returns-2 c = let f = c .before .before in
     let t = f .before .before in
     let a = t .before .before .before .before .args in
     f .fill-bytes2 .ensures ∙ stretch-below (a .page .now) (a .fill) (a .page-w) (a .page-h) (a .r) (a .s) (a .c) (length (a .out .now)) (t .before .if1 .left) (t .if2 .taken)
 
--- src/plane.rt:26:16
 mul-from : tie.Need-mul-from
 mul-from c = let e = c in
     let p = e .before .before .before .before in
@@ -48,7 +37,6 @@ mul-from c = let e = c in
     let l = stretch-inside (a .page .now) (a .fill) (a .page-w) (a .page-h) (a .r) (a .s) (a .c) (length (a .out .now)) (e .if2 .left) (p .pre .1) (p .pre .0) in
     omega arith
 
--- src/plane.rt:26:16
 add-from : tie.Need-add-from
 add-from c = let e = c in
     let p = e .before .before .before .before in
@@ -56,7 +44,6 @@ add-from c = let e = c in
     let l = stretch-inside (a .page .now) (a .fill) (a .page-w) (a .page-h) (a .r) (a .s) (a .c) (length (a .out .now)) (e .if2 .left) (p .pre .1) (p .pre .0) in
     omega arith
 
--- src/plane.rt:27:14
 add-to : tie.Need-add-to
 add-to c = let e = c in
     let p = e .before .before .before .before in
@@ -64,15 +51,12 @@ add-to c = let e = c in
     let l = stretch-inside (a .page .now) (a .fill) (a .page-w) (a .page-h) (a .r) (a .s) (a .c) (length (a .out .now)) (e .if2 .left) (p .pre .1) (p .pre .0) in
     omega arith
 
--- src/plane.rt:28:21
 sub-copy-bytes : tie.Need-sub-copy-bytes
 sub-copy-bytes c = search needs
 
--- src/plane.rt:28:21
 part-copy-bytes-start : tie.Need-part-copy-bytes-start
 part-copy-bytes-start c = search needs
 
--- src/plane.rt:28:21
 part-copy-bytes-end : tie.Need-part-copy-bytes-end
 part-copy-bytes-end c = let e = c .before in
     let p = e .before .before .before .before in
@@ -80,15 +64,12 @@ part-copy-bytes-end c = let e = c .before in
     let l = stretch-inside (a .page .now) (a .fill) (a .page-w) (a .page-h) (a .r) (a .s) (a .c) (length (a .out .now)) (e .if2 .left) (p .pre .1) (p .pre .0) in
     omega arith
 
--- src/plane.rt:28:5
 copy-bytes-requires : tie.Need-copy-bytes-requires
 copy-bytes-requires c κs = search needs
 
--- src/plane.rt:14:1
 same-length-3 : tie.Need-same-length-3
 same-length-3 c = search needs
 
--- src/plane.rt:14:1
 returns-3 : tie.Need-returns-3
 returns-3 c = let f = c .before .before in
     let e = f .before .before .before in

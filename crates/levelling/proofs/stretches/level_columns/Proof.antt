@@ -1,17 +1,15 @@
-use mathlib.Core.Path.{_≡_, refl, sym, ap, _∙_}
+use mathlib.Core.Path.{_≡_, refl, ap, _∙_}
 use mathlib.Core.List.{_++_}
-use Prim.Native.Nat.{ℕ, _+_, _-_, _≤_, _<_, zero-le}
+use Prim.Native.Nat.{_-_, _≤_, zero-le}
 use native.Mathlib.Omega.{arith}
+use mir.Facts.{fits-32-64}
 use lib.ListN.{length, take, drop, getD, length-take, length-drop}
 use Rattle.memory.specs.Lists.{table}
 use Rattle.memory.proofs.TableLaws.{table-whole}
-use Rattle.levelling.specs.Planes.{Stretch}
+use Rattle.levelling.specs.Moves.{Stretch}
 use Rattle.levelling.proofs.RowLaws.{columnsAt, stretch-put}
-use Rattle.levelling.proofs.plane.level_columns.Statement.{statement}
-use Rattle.levelling.proofs.plane.level_columns.Tie as tie
-use Rattle.levelling.proofs.plane.level_columns.Reads as reads
-use Rattle.levelling.proofs.plane.level_columns.Lts as lts
-use Rattle.levelling.proofs.plane.level_stretch.Reads as level-stretch-reads
+use Rattle.levelling.proofs.stretches.level_columns.Statement.{statement}
+use Rattle.levelling.proofs.stretches.level_columns.Tie as tie
 
 abbrev Inv-loop : tie.InvT-loop
 Inv-loop page fill page-w page-h shear ends r out₀ c₀ out c = (c ≤ page-w) × (out ≡ table (columnsAt page fill page-w page-h shear r) c ++ drop c out₀) × (length out ≡ length out₀)
@@ -19,70 +17,57 @@ Inv-loop page fill page-w page-h shear ends r out₀ c₀ out c = (c ≤ page-w)
 abbrev μ-loop : tie.MeasureT-loop
 μ-loop page fill page-w page-h shear ends r out₀ c₀ out c = page-w - c
 
--- src/plane.rt:64:5
 loop-holds : tie.Need-loop-holds Inv-loop μ-loop
 loop-holds c = (zero-le, unfold table in refl, refl)
 
--- src/plane.rt:65:17
 mul-e : tie.Need-mul-e Inv-loop μ-loop
 mul-e c = omega arith
 
--- src/plane.rt:65:17
 shared-slice-read-e : tie.Need-shared-slice-read-e Inv-loop μ-loop
 shared-slice-read-e c = omega arith
 
--- src/plane.rt:65:17
 cast-e : tie.Need-cast-e Inv-loop μ-loop
-cast-e c = omega (arith, c .shared-slice-known4 .given (c .before .before .loop .c))
+cast-e c = fits-32-64 (c .shared-slice-known4 .given _)
 
--- src/plane.rt:66:17
 mul-s : tie.Need-mul-s Inv-loop μ-loop
 mul-s c = omega arith
 
--- src/plane.rt:66:17
 shared-slice-read-s : tie.Need-shared-slice-read-s Inv-loop μ-loop
 shared-slice-read-s c = omega arith
 
--- src/plane.rt:66:17
 cast-s : tie.Need-cast-s Inv-loop μ-loop
-cast-s c = omega (arith, c .shared-slice-known5 .given (c .before .before .before .loop .c))
+cast-s c = fits-32-64 (c .shared-slice-known5 .given _)
 
--- src/plane.rt:67:60
 sub-level-stretch : tie.Need-sub-level-stretch Inv-loop μ-loop
 sub-level-stretch c = let p = c .before .before .before in
     let q = p .before .before .before .before .before in
     let S : Stretch (q .args .shear .now) (p .loop .c) (getD (q .args .ends .now) (p .loop .c) 0) = q .pre .1 (p .loop .c) zero-le (omega arith) in
     omega (arith, S .some, S .inside)
 
--- src/plane.rt:67:60
 part-level-stretch-start : tie.Need-part-level-stretch-start Inv-loop μ-loop
 part-level-stretch-start c = let p = c .before .before .before in
     let q = p .before .before .before .before .before in
     let S : Stretch (q .args .shear .now) (p .loop .c) (getD (q .args .ends .now) (p .loop .c) 0) = q .pre .1 (p .loop .c) zero-le (omega arith) in
     omega (arith, S .some, S .inside)
 
--- src/plane.rt:67:60
 part-level-stretch-end : tie.Need-part-level-stretch-end Inv-loop μ-loop
 part-level-stretch-end c = let p = c .before .before .before in
     let q = p .before .before .before .before .before in
     let S : Stretch (q .args .shear .now) (p .loop .c) (getD (q .args .ends .now) (p .loop .c) 0) = q .pre .1 (p .loop .c) zero-le (omega arith) in
     omega (arith, S .some, S .inside)
 
--- src/plane.rt:67:9
 level-stretch-requires : tie.Need-level-stretch-requires Inv-loop μ-loop
 level-stretch-requires c κs = let p = c .before .before .before .before in
     let q = p .before .before .before .before .before in
     let S : Stretch (q .args .shear .now) (p .loop .c) (getD (q .args .ends .now) (p .loop .c) 0) = q .pre .1 (p .loop .c) zero-le (omega arith) in
     (q .pre .0 .0, simp (length-take, length-drop) (omega (arith, S .some, S .inside)))
 
--- src/plane.rt:64:5
 loop-less : tie.Need-loop-less Inv-loop μ-loop
 loop-less c = let p = c .before .before .before .before .before .before .before in
     let q = p .before .before .before .before .before in
     let S : Stretch (q .args .shear .now) (p .loop .c) (getD (q .args .ends .now) (p .loop .c) 0) = q .pre .1 (p .loop .c) zero-le (omega arith) in
     omega (arith, S .some, S .inside)
 
--- src/plane.rt:64:5
 loop-again : tie.Need-loop-again Inv-loop μ-loop
 loop-again c = let p = c .before .before .before .before .before .before .before in
     let q = p .before .before .before .before .before in
@@ -95,11 +80,9 @@ loop-again c = let p = c .before .before .before .before .before .before .before
       omega arith,
     )
 
--- src/plane.rt:59:1
 same-length : tie.Need-same-length Inv-loop μ-loop
 same-length c = omega arith
 
--- src/plane.rt:59:1
 returns : tie.Need-returns Inv-loop μ-loop
 returns c = let p = c .before in
     let a = p .before .before .before .before .before .args in

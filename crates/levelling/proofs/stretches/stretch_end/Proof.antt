@@ -1,51 +1,39 @@
 use Prim.Native.Nat.{_+_}
 use native.Mathlib.Omega.{arith}
-use Rattle.levelling.proofs.RowLaws.{stretch-alone, stretch-longer}
 use borrow.Author.Needs.{needs}
-use Rattle.levelling.proofs.plane.stretch_end.Statement.{statement}
-use Rattle.levelling.proofs.plane.stretch_end.Tie as tie
-use Rattle.levelling.proofs.plane.stretch_end.Reads as reads
-use Rattle.levelling.proofs.plane.stretch_end.Lts as lts
+use Rattle.levelling.proofs.RowLaws.{stretch-alone, stretch-longer}
+use Rattle.levelling.proofs.stretches.stretch_end.Statement.{statement}
+use Rattle.levelling.proofs.stretches.stretch_end.Tie as tie
 
--- src/plane.rt:37:16
 add-next : tie.Need-add-next
 add-next c = search needs
 
--- src/plane.rt:39:12
 mul-if2 : tie.Need-mul-if2
 mul-if2 c = search needs
 
--- src/plane.rt:39:12
 shared-slice-read-if2 : tie.Need-shared-slice-read-if2
 shared-slice-read-if2 c = search needs
 
--- src/plane.rt:39:27
 mul-if2-2 : tie.Need-mul-if2-2
 mul-if2-2 c = search needs
 
--- src/plane.rt:39:27
 shared-slice-read-if2-2 : tie.Need-shared-slice-read-if2-2
 shared-slice-read-if2-2 c = search needs
 
--- src/plane.rt:40:20
 mul-result : tie.Need-mul-result
 mul-result c = search needs
 
--- src/plane.rt:40:20
 shared-slice-read-result : tie.Need-shared-slice-read-result
 shared-slice-read-result c = search needs
 
--- src/plane.rt:40:13
 returns : tie.Need-returns
 returns c = let t = c .before in
     let q = t .before .before .before .before in
     stretch-longer (q .args .shear .now) (q .args .c) _ (t .if2 .taken) (q .pre .1 (q .args .c + 1) (omega arith) (omega arith))
 
--- src/plane.rt:43:5
 cast-result : tie.Need-cast-result
 cast-result c = search needs
 
--- src/plane.rt:33:1
 returns-2 : tie.Need-returns-2
 returns-2 c = stretch-alone (c .before .args .shear .now) (c .before .args .c) (omega arith)
 

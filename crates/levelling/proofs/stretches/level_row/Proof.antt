@@ -1,88 +1,66 @@
-use native.Mathlib.Omega.{arith}
 use mathlib.Core.Path.{_≡_}
 use Prim.Native.Nat.{_+_, _-_}
-use lib.ListN.{length, getD, take, drop, length-take, length-drop}
+use native.Mathlib.Omega.{arith}
 use borrow.Rule.Slice.PartMut.{putMid}
+use borrow.Author.Needs.{needs}
+use lib.ListN.{length, getD, take, drop, length-take, length-drop}
 use Rattle.levelling.specs.Frames.{frameOf}
 use Rattle.levelling.proofs.RowLaws.{row-put-by}
-use borrow.Author.Needs.{needs}
-use Rattle.levelling.proofs.plane.level_row.Statement.{statement}
-use Rattle.levelling.proofs.plane.level_row.Tie as tie
-use Rattle.levelling.proofs.plane.level_row.Reads as reads
-use Rattle.levelling.proofs.plane.level_row.Lts as lts
-use Rattle.levelling.proofs.plane.level_columns.Reads as level-columns-reads
-use Rattle.memory.proofs.fill_bytes.Reads as fill-bytes-reads
+use Rattle.levelling.proofs.stretches.level_row.Statement.{statement}
+use Rattle.levelling.proofs.stretches.level_row.Tie as tie
 
--- src/plane.rt:77:16
 mul-left : tie.Need-mul-left
 mul-left c = search needs
 
--- src/plane.rt:77:16
 shared-slice-read-left : tie.Need-shared-slice-read-left
 shared-slice-read-left c = search needs
 
--- src/plane.rt:77:16
 cast-left : tie.Need-cast-left
 cast-left c = search needs
 
--- src/plane.rt:78:17
 add-right : tie.Need-add-right
 add-right c = search needs
 
--- src/plane.rt:79:16
 sub-fill-bytes : tie.Need-sub-fill-bytes
 sub-fill-bytes c = search needs
 
--- src/plane.rt:79:16
 part-fill-bytes-start : tie.Need-part-fill-bytes-start
 part-fill-bytes-start c = search needs
 
--- src/plane.rt:79:16
 part-fill-bytes-end : tie.Need-part-fill-bytes-end
 part-fill-bytes-end c = search needs
 
--- src/plane.rt:79:5
 fill-bytes-requires : tie.Need-fill-bytes-requires
 fill-bytes-requires c κs = search needs
 
--- src/plane.rt:80:63
 sub-level-columns : tie.Need-sub-level-columns
 sub-level-columns c = search needs
 
--- src/plane.rt:80:63
 part-level-columns-start : tie.Need-part-level-columns-start
 part-level-columns-start c = search needs
 
--- src/plane.rt:80:63
 part-level-columns-end : tie.Need-part-level-columns-end
 part-level-columns-end c = search needs
 
--- src/plane.rt:80:5
 level-columns-requires : tie.Need-level-columns-requires
 level-columns-requires c κs = let p = c .before .before .before .before .before .before .before .before .before .before .before in
     ((p .pre .0 .0, p .pre .0 .1, simp (length-take, length-drop) (omega arith), p .pre .0 .2), p .pre .1 .1)
 
--- src/plane.rt:81:16
 sub-fill-bytes-2 : tie.Need-sub-fill-bytes-2
 sub-fill-bytes-2 c = search needs
 
--- src/plane.rt:81:16
 part-fill-bytes-start-2 : tie.Need-part-fill-bytes-start-2
 part-fill-bytes-start-2 c = search needs
 
--- src/plane.rt:81:16
 part-fill-bytes-end-2 : tie.Need-part-fill-bytes-end-2
 part-fill-bytes-end-2 c = search needs
 
--- src/plane.rt:81:5
 fill-bytes-requires-2 : tie.Need-fill-bytes-requires-2
 fill-bytes-requires-2 c κs = search needs
 
--- src/plane.rt:73:1
 same-length : tie.Need-same-length
 same-length c = search needs
 
--- src/plane.rt:73:1
 returns : tie.Need-returns
 returns c = let g = c .before .before in
     let l = g .before .before .before .before in

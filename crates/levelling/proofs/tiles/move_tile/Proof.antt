@@ -1,0 +1,75 @@
+use mathlib.Core.Path.{_≡_, refl, ap, _∙_}
+use mathlib.Core.Bool.{Bool}
+use mathlib.Core.List.{List}
+use Prim.Native.Nat.{ℕ, _-_, _≤_, zero-le}
+use native.Mathlib.Omega.{arith}
+use lib.ListN.{length}
+use Rattle.memory.proofs.PlaneLaws.{row-end}
+use Rattle.levelling.specs.Frames.{frameOf}
+use Rattle.levelling.specs.Moves.{partly, orRows}
+use Rattle.levelling.proofs.TileLaws.{row-moved}
+use Rattle.levelling.proofs.tiles.move_tile.Statement.{statement}
+use Rattle.levelling.proofs.tiles.move_tile.Tie as tie
+
+abbrev Inv-loop : tie.InvT-loop
+Inv-loop page fill page-w page-h shear shear-x w c n out₀ y₀ out y =
+    (y ≤ page-h)
+    × ((done : ℕ → Bool) (s : List ℕ) → out₀ ≡ partly (frameOf page-w page-h shear shear-x w (length shear-x)) fill page done s → out ≡ partly (frameOf page-w page-h shear shear-x w (length shear-x)) fill page (orRows done page-w c n y) s)
+    × (length out ≡ length out₀)
+
+abbrev μ-loop : tie.MeasureT-loop
+μ-loop page fill page-w page-h shear shear-x w c n out₀ y₀ out y = page-h - y
+
+loop-holds : tie.Need-loop-holds Inv-loop μ-loop
+loop-holds c = (zero-le, (λ done s e. unfold orRows in e), refl)
+
+move-part-requires : tie.Need-move-part-requires Inv-loop μ-loop
+move-part-requires c κs = let p = c .before .before in
+    let q = p .before .before .before .before .before in
+    let a = q .args in
+    let F = q .pre .0 in
+    let e = row-end (a .page-w) (a .page-h) (p .loop .y) (c .before .loop-test .taken) in (
+      (omega (arith, F .columns, q .pre .1), omega (arith, e, F .page-size, q .pre .1), omega (arith, F .out-size)),
+      ((λ k. omega (arith, F .above k)), (λ r. omega (arith, F .inside r, F .columns))),
+    )
+
+add-y : tie.Need-add-y Inv-loop μ-loop
+add-y c = omega arith
+
+loop-less : tie.Need-loop-less Inv-loop μ-loop
+loop-less c = omega arith
+
+loop-again : tie.Need-loop-again Inv-loop μ-loop
+loop-again c = let g = c .before .before in
+    let p = g .before .before .before in
+    let q = p .before .before .before .before .before in
+    let a = q .args in (
+      omega arith,
+      (λ done s e. row-moved (a .page-w) (a .page-h) (a .shear .now) (a .shear-x .now) (a .w) (length (a .shear-x .now)) (a .fill) (a .page .now) (a .out .now) (q .pre .0) done s (p .loop .out) _ (p .loop .y) (a .c) (a .n) (g .before .before .loop-test .taken) (q .pre .1) (p .loop .inv .1 done s e) (g .move-part .ensures)),
+      omega arith,
+    )
+
+same-length : tie.Need-same-length Inv-loop μ-loop
+same-length c = omega arith
+
+returns : tie.Need-returns Inv-loop μ-loop
+returns c = let p = c .before in
+    let a = p .before .before .before .before .before .args in
+    let k : p .loop .y ≡ a .page-h = omega arith in
+    λ done s e.
+    p .loop .inv .1 done s e
+    ∙ ap (λ y. partly (frameOf (a .page-w) (a .page-h) (a .shear .now) (a .shear-x .now) (a .w) (length (a .shear-x .now))) (a .fill) (a .page .now) (orRows done (a .page-w) (a .c) (a .n) y) s) k
+
+pub move-tile-spec : {M : Type 1} → statement M
+move-tile-spec =
+    tie.close
+    (tie.spec
+    Inv-loop
+    μ-loop
+    loop-holds
+    move-part-requires
+    add-y
+    loop-less
+    loop-again
+    same-length
+    returns)

@@ -1,0 +1,178 @@
+// A page plane moved into the frame by frame row, for gentle slopes, where columns next to each other mostly move by the same
+// number of rows: such a stretch is copied at once.
+use memory::copy_bytes;
+use memory::fill_bytes;
+ghost use mathlib.Core.Path.{_≡_};
+ghost use Prim.Native.Nat.{_+_, _*_, _≤_, _<_};
+ghost use lib.ListN.{length, getD};
+ghost use Rattle.memory.specs.Limits.{maxPageSide};
+ghost use Rattle.memory.specs.Lists.{table};
+ghost use Rattle.memory.specs.Words.{over};
+ghost use Rattle.levelling.specs.Frames.{frameOf};
+ghost use Rattle.levelling.specs.Planes.{PlaneFits, levelAt, levelled};
+ghost use Rattle.levelling.specs.Moves.{Stretch, Stretches, columnAt};
+
+// The longest side of a page.
+const MAX_PAGE_SIDE: usize = 8192;
+
+// A page plane moved into the frame, row by row.
+pub fn level_by_stretches(
+    page: &[u8],
+    fill: u8,
+    page_w: usize,
+    page_h: usize,
+    shear: &[u32],
+    shear_x: &[u32],
+    w: usize,
+    h: usize,
+    out: &mut [u8],
+)
+    requires { ⌜ PlaneFits (frameOf «page_w» «page_h» (now shear) (now «shear_x») w h) (now page) (now out) ⌝ ∗ ⌜ «page_w» ≤ maxPageSide ⌝ }
+    ensures { λ _. ⌜ now (out .exit) ≡ over (levelled (frameOf «page_w» «page_h» (now (shear .entry)) (now («shear_x» .entry)) w h) fill (now (page .entry))) (now (out .entry)) ⌝ }
+{
+    let mut ends = [0u32; MAX_PAGE_SIDE];
+    stretch_ends(shear, &mut ends);
+    level_rows(page, fill, page_w, page_h, shear, shear_x, &ends, w, h, out);
+}
+
+// The rows of the frame, one after the other.
+fn level_rows(
+    page: &[u8],
+    fill: u8,
+    page_w: usize,
+    page_h: usize,
+    shear: &[u32],
+    shear_x: &[u32],
+    ends: &[u32],
+    w: usize,
+    h: usize,
+    out: &mut [u8],
+)
+    requires { ⌜ PlaneFits (frameOf «page_w» «page_h» (now shear) (now «shear_x») w h) (now page) (now out) ⌝ ∗ ⌜ «page_w» ≤ length (now ends) ⌝ ∗ ⌜ Stretches (now shear) (now ends) 0 ⌝ }
+    ensures { λ _. ⌜ now (out .exit) ≡ over (levelled (frameOf «page_w» «page_h» (now (shear .entry)) (now («shear_x» .entry)) w h) fill (now (page .entry))) (now (out .entry)) ⌝ }
+{
+    let mut r = 0;
+    while r < h {
+        let a = r * w;
+        let b = a + w;
+        level_row(
+            page,
+            fill,
+            page_w,
+            page_h,
+            shear,
+            shear_x,
+            ends,
+            r,
+            &mut out[a..b],
+        );
+        r += 1;
+    }
+}
+
+// Frame row r: the page's columns between added dots.
+fn level_row(
+    page: &[u8],
+    fill: u8,
+    page_w: usize,
+    page_h: usize,
+    shear: &[u32],
+    shear_x: &[u32],
+    ends: &[u32],
+    r: usize,
+    out: &mut [u8],
+)
+    requires { ⌜ (length (now page) ≡ «page_w» * «page_h») × (length (now shear) ≡ «page_w») × («page_w» ≤ length (now ends)) × (r < length (now «shear_x»)) ⌝ ∗ ⌜ getD (now «shear_x») r 0 + «page_w» ≤ length (now out) ⌝ ∗ ⌜ Stretches (now shear) (now ends) 0 ⌝ }
+    ensures { λ _. ⌜ now (out .exit) ≡ table (λ x. levelAt (frameOf «page_w» «page_h» (now (shear .entry)) (now («shear_x» .entry)) (length (now (out .entry))) (length (now («shear_x» .entry)))) fill (now (page .entry)) x r) (length (now (out .entry))) ⌝ }
+{
+    let left = shear_x[r] as usize;
+    let right = left + page_w;
+    fill_bytes(&mut out[0..left], fill);
+    level_columns(
+        page,
+        fill,
+        page_w,
+        page_h,
+        shear,
+        ends,
+        r,
+        &mut out[left..right],
+    );
+    fill_bytes(&mut out[right..], fill);
+}
+
+// The page's columns in frame row r.
+fn level_columns(
+    page: &[u8],
+    fill: u8,
+    page_w: usize,
+    page_h: usize,
+    shear: &[u32],
+    ends: &[u32],
+    r: usize,
+    out: &mut [u8],
+)
+    requires { ⌜ (length (now page) ≡ «page_w» * «page_h») × (length (now shear) ≡ «page_w») × (length (now out) ≡ «page_w») × («page_w» ≤ length (now ends)) ⌝ ∗ ⌜ Stretches (now shear) (now ends) 0 ⌝ }
+    ensures { λ _. ⌜ now (out .exit) ≡ table (λ c. columnAt (now (page .entry)) fill «page_w» «page_h» r (getD (now (shear .entry)) c 0) c) «page_w» ⌝ }
+{
+    let mut c = 0;
+    while c < page_w {
+        let e = ends[c] as usize;
+        let s = shear[c] as usize;
+        level_stretch(page, fill, page_w, page_h, r, s, c, &mut out[c..e]);
+        c = e;
+    }
+}
+
+// The columns c, c + 1, .. of frame row r, which all move by s rows.
+fn level_stretch(
+    page: &[u8],
+    fill: u8,
+    page_w: usize,
+    page_h: usize,
+    r: usize,
+    s: usize,
+    c: usize,
+    out: &mut [u8],
+)
+    requires { ⌜ length (now page) ≡ «page_w» * «page_h» ⌝ ∗ ⌜ c + length (now out) ≤ «page_w» ⌝ }
+    ensures { λ _. ⌜ now (out .exit) ≡ table (λ i. columnAt (now (page .entry)) fill «page_w» «page_h» r s (c + i)) (length (now (out .entry))) ⌝ }
+{
+    if r < s {
+        fill_bytes(out, fill);
+        return;
+    }
+    if page_h <= r - s {
+        fill_bytes(out, fill);
+        return;
+    }
+    let from = (r - s) * page_w + c;
+    let to = from + out.len();
+    copy_bytes(out, &page[from..to]);
+}
+
+// The end of the stretch that begins at each column, the last column first.
+fn stretch_ends(shear: &[u32], ends: &mut [u32])
+    requires { ⌜ (length (now shear) ≤ length (now ends)) × (length (now shear) ≤ maxPageSide) ⌝ }
+    ensures { λ _. ⌜ Stretches (now (shear .entry)) (now (ends .exit)) 0 ⌝ }
+{
+    let mut c = shear.len();
+    while 0 < c {
+        c -= 1;
+        ends[c] = stretch_end(shear, ends, c);
+    }
+}
+
+// The end of the stretch that begins at column c, by the one that begins behind it.
+fn stretch_end(shear: &[u32], ends: &[u32], c: usize) -> u32
+    requires { ⌜ (c < length (now shear)) × (length (now shear) ≤ length (now ends)) × (length (now shear) ≤ maxPageSide) ⌝ ∗ ⌜ Stretches (now shear) (now ends) (c + 1) ⌝ }
+    ensures { λ r. ⌜ Stretch (now (shear .entry)) c r ⌝ }
+{
+    let next = c + 1;
+    if next < shear.len() {
+        if shear[next] == shear[c] {
+            return ends[next];
+        }
+    }
+    next as u32
+}
