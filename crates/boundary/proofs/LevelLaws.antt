@@ -1,4 +1,4 @@
--- What the limits give, and that a frame's own shears fit it. Assumes nothing.
+-- What the limits give, and that the words which hold a frame's shears are its own. Assumes nothing.
 use mathlib.Core.Path.{_≡_, refl, sym, ap, _∙_, subst}
 use mathlib.Core.Bool.{Bool, true, false, not, cond, _&&_}
 use mathlib.Core.List.{List, _++_, append-assoc}
@@ -7,17 +7,15 @@ use native.Mathlib.Omega.{arith}
 use lib.Dec.{T, eqb, ltb, leb, ltb→lt, leb→le, eqb→eq}
 use lib.IntN.{pos}
 use lib.Ieee.{Float, fin, le}
-use lib.ListN.{length, getD, take, drop}
+use lib.ListN.{length, take, drop}
 use lib.Seq.{take-at, drop-at}
-use Rattle.memory.specs.Lists.{greatest}
 use Rattle.memory.specs.Words.{over}
 use Rattle.memory.specs.Limits.{maxPageSide}
 use Rattle.rounding.proofs.Tests.{yes}
 use Rattle.rounding.proofs.DriftLaws.{WithinOne}
 use Rattle.levelling.specs.Frames.{PageSides, Frame, frame, frameOf}
 use Rattle.levelling.specs.Planes.{PlaneFits, levelled}
-use Rattle.levelling.proofs.ShearLaws.{greatest-bounds}
-use Rattle.levelling.proofs.FrameLaws.{length-shears}
+use Rattle.levelling.proofs.FrameLaws.{length-shears, frame-plane-fits, frame-is-frameOf}
 use Rattle.boundary.specs.Levels.{inLimits, frameWord, lentFits, isLevelled, PlaneTold}
 
 pub split : (a b : Bool) → T (a && b) → T a × T b
@@ -74,21 +72,6 @@ lent-fits page w h frame-w frame-h shears out e =
     let x = split (a && b) c (yes e) in
     let y = split a b (x .0) in
     record { whole = eqb→eq page (w * h) (y .0); words = leb→le (w + frame-h) shears (y .1); bytes = leb→le (frame-w * frame-h) out (x .1) }
-
-pub frame-of : (w h : ℕ) (slope : Float) → frameOf w h (frame w h slope .shear) (frame w h slope .shear-x) (frame w h slope .w) (frame w h slope .h) ≡ frame w h slope
-unfolding frame
-frame-of w h slope = refl
-
-inside : (w h : ℕ) (slope : Float) (r : ℕ) → getD (frame w h slope .shear-x) r 0 + w ≤ frame w h slope .w
-unfolding frame
-inside w h slope r = omega (arith, greatest-bounds (frame w h slope .shear-x) r)
-
-pub plane-fits :
-    (w h : ℕ) (slope : Float) (page out : List ℕ) → Limits w h slope → length page ≡ w * h → frame w h slope .w * frame w h slope .h ≤ length out → PlaneFits (frame w h slope) page out
-unfolding frame
-plane-fits w h slope page out l p o =
-    let s = length-shears w h slope (l .sides) (l .one) in
-    record { page-size = p; columns = s .0; rows = s .1; inside = inside w h slope; out-size = o }
 
 -- the two parts of what lies over the front of a list
 pub front : (a b s : List ℕ) (n : ℕ) → length a ≡ n → take n (over (a ++ b) s) ≡ a
@@ -198,7 +181,7 @@ parts-are w h slope words s fw fh l e p q =
     ∙ ap (λ (k : List ℕ). frameOf w h (f .shear) k fw fh) b
     ∙ ap (λ (k : ℕ). frameOf w h (f .shear) (f .shear-x) k fh) p
     ∙ ap (λ (k : ℕ). frameOf w h (f .shear) (f .shear-x) (f .w) k) q
-    ∙ frame-of w h slope
+    ∙ sym (frame-is-frameOf w h slope (l .sides) (l .one))
   where
     all : (w : ℕ) → w - 0 ≡ w
     all w = omega arith
@@ -212,4 +195,4 @@ pub parts-fit :
     → PlaneFits (frameOf w h (take (w - 0) words) (take (w + fh - w) (drop w words)) fw fh) page out
 parts-fit w h slope words s page out fw fh l e p q n o =
     let b : frame w h slope .w * frame w h slope .h ≤ length out = subst (λ (k : ℕ). frame w h slope .w * k ≤ length out) q (subst (λ (k : ℕ). k * fh ≤ length out) p o) in
-    subst (λ (f : Frame). PlaneFits f page out) (sym (parts-are w h slope words s fw fh l e p q)) (plane-fits w h slope page out l n b)
+    subst (λ (f : Frame). PlaneFits f page out) (sym (parts-are w h slope words s fw fh l e p q)) (frame-plane-fits w h slope (l .sides) (l .one) page out n b)

@@ -2,7 +2,7 @@
 pub mod LabelAnswerLaws
 -- what the word of run extents tells of an outcome
 pub mod ExtentAnswerLaws
--- what the limits of levelling give, and that a frame's own shears fit it
+-- what the limits of levelling give, and that the words which hold a frame's shears are its own
 pub mod LevelLaws
 -- the way back by the words that hold both shears
 pub mod MapLaws
