@@ -5,8 +5,8 @@ use std::time::{Duration, Instant};
 
 /// How often each side is timed, at the most and at the least; between them, until the time is up.
 const MOST_TURNS: u32 = 25;
-const LEAST_TURNS: u32 = 7;
-const TIME: Duration = Duration::from_millis(1500);
+const LEAST_TURNS: u32 = 5;
+const TIME: Duration = Duration::from_millis(800);
 
 pub struct Bench;
 
