@@ -8,6 +8,30 @@
 use std::fs;
 use std::path::{Path, PathBuf};
 
+/// Lines of `segment` in `layout.rs`, from the first of these to the last: those that level the mask ..
+const LEVELLING: [&str; 2] = [
+    "    let applied = if skew_deg.abs() >= p.shear_min_deg {",
+    "    let (width, height) = (full_w, full_h);",
+];
+
+/// .. those with the extents that a glyph is under ..
+const EXTENTS: [&str; 2] = [
+    "    let max_w = p.glyph_max_extent_frac * width as f64;",
+    "    let max_h = p.glyph_max_extent_frac * height as f64;",
+];
+
+/// .. those with the limits of a thin ruling ..
+const LIMITS: [&str; 2] = [
+    "    let run_min = ((p.rule_run_xh * xheight)",
+    "    let thick_max = ((p.rule_max_thick_xh * xheight).round() as usize).max(1);",
+];
+
+/// .. and those that say which kind a component is.
+const KIND: [&str; 2] = [
+    "            let (w, h) = (f64::from(c.width()), f64::from(c.height()));",
+    "                Kind::Glyph\n            }",
+];
+
 /// What the comparison needs of `layout.rs` that is private there. A later part adds its own lines here.
 const LAYOUT_WRAPPERS: &str = r#"
 pub fn compare_extent_through(ink: &[u8], width: usize, height: usize, vertical: bool) -> Vec<u16> {
@@ -61,6 +85,50 @@ impl Original {
         declared(module, &copy)
     }
 
+    /// Lines of `segment`, word for word.
+    fn lines(&self, ends: [&str; 2]) -> String {
+        let text = fs::read_to_string(self.file("pixel/layout.rs")).expect("the original's file is read");
+        let from = text.find(ends[0]).expect("the first line");
+        let length = text[from..].find(ends[1]).expect("the last line") + ends[1].len();
+        text[from..from + length].to_owned()
+    }
+
+    /// Functions of `segment`'s own lines.
+    fn of_lines(&self) -> String {
+        let (levelling, extents) = (self.lines(LEVELLING), self.lines(EXTENTS));
+        let (limits, kind) = (self.lines(LIMITS), self.lines(KIND));
+        format!(
+            "
+pub fn compare_level(ink: Vec<u8>, width: usize, height: usize, skew_deg: f64, p: &LayoutParams) -> Layout {{
+{levelling}
+    Layout {{
+        width, height, page_width, page_height, skew_deg: applied, shear, shear_x, xheight: 1.0, glyph_count: 0,
+        glyph_ink_pixels: 0, ink_pixels: 0, lines: Vec::new(), glyphs: Vec::new(), ink, blocks: Vec::new(),
+        rules: Vec::new(), graphics: Vec::new(), columns: Vec::new(),
+    }}
+}}
+
+pub fn compare_limits(xheight: f64, p: &LayoutParams) -> (usize, usize) {{
+{limits}
+    (run_min, thick_max)
+}}
+
+pub fn compare_kind(c: &Component, width: usize, height: usize, xheight: f64, p: &LayoutParams) -> u32 {{
+{extents}
+    let kind = {{
+{kind}
+    }};
+    match kind {{
+        Kind::Rule => 2,
+        Kind::Graphic => 3,
+        Kind::Glyph => 4,
+        Kind::Speck => 5,
+    }}
+}}
+"
+        )
+    }
+
     fn write(&self, name: &str, items: &[String]) {
         fs::write(self.out.join(name), items.concat()).expect("OUT_DIR takes a file");
     }
@@ -78,12 +146,13 @@ fn main() {
         std::env::var_os("PAGETRIAGE_SRC").map_or_else(|| here.join("../../../shared/docs/src"), PathBuf::from);
     let out = PathBuf::from(std::env::var("OUT_DIR").expect("cargo sets it"));
     let original = Original { source, out };
+    let wrappers = LAYOUT_WRAPPERS.to_owned() + &original.of_lines();
     original.write("root.rs", &[original.unchanged("math", "math.rs")]);
     original.write(
         "pixel.rs",
         &[
             original.unchanged("components", "pixel/components.rs"),
-            original.with_wrappers("layout", "pixel/layout.rs", LAYOUT_WRAPPERS),
+            original.with_wrappers("layout", "pixel/layout.rs", &wrappers),
         ],
     );
 }

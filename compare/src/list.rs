@@ -40,6 +40,21 @@ pub fn answer(x: f64) -> u64 {
     }
 }
 
+/// A mask as words, 64 dots a word, the first dot the highest digit; what is left of the last word is blank.
+pub fn packed(mask: &[u8]) -> Vec<u64> {
+    let word = |dots: &[u8]| {
+        let bit = |(i, &v): (usize, &u8)| u64::from(v != 0) << (63 - i);
+        dots.iter().enumerate().map(bit).sum()
+    };
+    mask.chunks(64).map(word).collect()
+}
+
+/// Many words as one: each is added to what came before times 16,777,619, and the remainder by 4,294,967,291 goes on.
+pub fn hash(words: &[u32]) -> u64 {
+    let step = |h: u64, &word: &u32| (h * 16_777_619 + u64::from(word)) % 4_294_967_291;
+    words.iter().fold(1, step)
+}
+
 /// The whole list, of every part in turn.
 pub fn whole() -> String {
     let mut list = List { text: String::new() };

@@ -1,14 +1,17 @@
 //! Compares this project's functions with the original Rust's, times both, and writes the list that the gate replays.
 //!
-//! `compare run [PART..]` compares, `compare bench [PART..]` times, `compare list` writes the list to standard output,
-//! `compare definitions N` the Rust's answers for N pages as equations over this project's definitions.
-//! No PART means all. The parts are in `parts/`; `parts/mod.rs` says how to add one. The bash scripts `run`, `bench` and
-//! `list` build all that is needed and call this.
+//! `compare run [PART..]` compares, `compare bench [PART..]` times, `compare flat [EXPONENT]` gives the cost of a dot on pages of
+//! growing size, `compare list` writes the list to standard output, `compare definitions N` the Rust's answers for N pages as
+//! equations over this project's definitions. No PART means all. The parts are in `parts/`; `parts/mod.rs` says how to add
+//! one. The bash scripts `run`, `bench`, `list` and `definitions` build all that is needed and call this.
 
 mod bench;
 mod definitions;
+mod lent;
 mod list;
+mod masks;
 mod ours;
+mod pages;
 mod parts;
 mod random;
 mod tally;
@@ -22,6 +25,9 @@ fn main() -> ExitCode {
     let Some((command, names)) = words.split_first() else {
         return usage();
     };
+    if command == "flat" {
+        return flat(names);
+    }
     if let ("definitions", [pages]) = (command.as_str(), names) {
         return pages.parse().map_or_else(
             |_| usage(),
@@ -87,10 +93,24 @@ fn run(chosen: &[&Part], all: bool) -> ExitCode {
     }
 }
 
+/// The cost of a dot, on pages of 2^20 dots up to 2^24, or as high as the argument says.
+fn flat(words: &[String]) -> ExitCode {
+    let most = match words {
+        [] => Some(24),
+        [word] => word.parse().ok().filter(|most| (20..=28).contains(most)),
+        _ => None,
+    };
+    let Some(most) = most else {
+        return usage();
+    };
+    parts::labelling::flat(&mut bench::Bench::new(), most);
+    ExitCode::SUCCESS
+}
+
 fn usage() -> ExitCode {
     let names: Vec<&str> = PARTS.iter().map(|part| part.name).collect();
     eprintln!(
-        "usage: compare run|bench [PART..], compare list or compare definitions N; parts: {}",
+        "usage: compare run|bench [PART..], compare flat [20..28], compare list or compare definitions N; parts: {}",
         names.join(" ")
     );
     ExitCode::from(2)

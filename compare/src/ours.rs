@@ -32,6 +32,108 @@ mod c {
             column_cover_frac: f64,
             shear_min_deg: f64,
         ) -> u8;
+        pub fn novlizeb_label(
+            mask: *const u8,
+            mask_length: usize,
+            width: u32,
+            height: u32,
+            capacity: u32,
+            labels: *mut u32,
+            labels_length: usize,
+            components: *mut u32,
+            components_length: usize,
+            scratch: *mut u32,
+            scratch_length: usize,
+        ) -> u64;
+        pub fn novlizeb_run_extents(
+            mask: *const u8,
+            mask_length: usize,
+            width: u32,
+            height: u32,
+            columns: u8,
+            extents: *mut u32,
+            extents_length: usize,
+        ) -> u64;
+        pub fn novlizeb_applied(least: f64, skew: f64, value: f64) -> f64;
+        pub fn novlizeb_frame_size(page_width: u32, page_height: u32, slope: f64) -> u64;
+        pub fn novlizeb_level_plane(
+            page: *const u8,
+            page_length: usize,
+            fill: u8,
+            page_width: u32,
+            page_height: u32,
+            slope: f64,
+            shears: *mut u32,
+            shears_length: usize,
+            out: *mut u8,
+            out_length: usize,
+        ) -> u8;
+        pub fn novlizeb_to_page_x(shears: *const u32, shears_length: usize, page_width: u32, x: u32, y: u32) -> i64;
+        pub fn novlizeb_to_page_y(shears: *const u32, shears_length: usize, page_width: u32, x: u32, y: u32) -> i64;
+        pub fn novlizeb_rect_to_page_start(
+            shears: *const u32,
+            shears_length: usize,
+            page_width: u32,
+            page_height: u32,
+            x0: u32,
+            y0: u32,
+            x1: u32,
+            y1: u32,
+        ) -> u64;
+        pub fn novlizeb_rect_to_page_end(
+            shears: *const u32,
+            shears_length: usize,
+            page_width: u32,
+            page_height: u32,
+            x0: u32,
+            y0: u32,
+            x1: u32,
+            y1: u32,
+        ) -> u64;
+        pub fn novlizeb_thin_rulings(
+            ink: *const u8,
+            ink_length: usize,
+            width: u32,
+            height: u32,
+            run_min: u32,
+            thick_max: u32,
+            marks: *mut u32,
+            marks_length: usize,
+            counters: *mut u32,
+            counters_length: usize,
+        ) -> u8;
+        pub fn novlizeb_run_min(rule_run_xh: f64, unit: f64) -> u32;
+        pub fn novlizeb_thick_max(rule_max_thick_xh: f64, unit: f64) -> u32;
+        pub fn novlizeb_kind_by_size(
+            glyph_min_area: u32,
+            glyph_max_extent_frac: f64,
+            rule_min_len_xh: f64,
+            rule_max_thick_xh: f64,
+            graphic_min_xh: f64,
+            measured: u8,
+            unit: f64,
+            frame_width: u32,
+            frame_height: u32,
+            area: u32,
+            width: u32,
+            height: u32,
+        ) -> u32;
+    }
+}
+
+/// What an entry answers: document 01's number of its refusal, 0 where it has none, and its value.
+#[derive(Clone, Copy, Debug, PartialEq)]
+pub struct Answer {
+    pub number: u32,
+    pub value: u32,
+}
+
+impl Answer {
+    fn of(word: u64) -> Self {
+        Answer {
+            number: (word >> 32) as u32,
+            value: word as u32,
+        }
     }
 }
 
@@ -88,6 +190,166 @@ pub fn validate(p: &LayoutParams) -> bool {
             p.shear_min_deg,
         )
     })
+}
+
+/// Labelling by itself. The value is the count of pieces.
+pub fn label(
+    mask: &[u8],
+    width: u32,
+    height: u32,
+    capacity: u32,
+    labels: &mut [u32],
+    components: &mut [u32],
+    scratch: &mut [u32],
+) -> Answer {
+    Answer::of(unsafe {
+        c::novlizeb_label(
+            mask.as_ptr(),
+            mask.len(),
+            width,
+            height,
+            capacity,
+            labels.as_mut_ptr(),
+            labels.len(),
+            components.as_mut_ptr(),
+            components.len(),
+            scratch.as_mut_ptr(),
+            scratch.len(),
+        )
+    })
+}
+
+/// Run extents by themselves, along the columns or along the rows. The value is 0.
+pub fn run_extents(mask: &[u8], width: u32, height: u32, columns: bool, extents: &mut [u32]) -> Answer {
+    Answer::of(unsafe {
+        c::novlizeb_run_extents(
+            mask.as_ptr(),
+            mask.len(),
+            width,
+            height,
+            u8::from(columns),
+            extents.as_mut_ptr(),
+            extents.len(),
+        )
+    })
+}
+
+/// The value where the skew is applied, else 0.
+pub fn applied(least: f64, skew: f64, value: f64) -> f64 {
+    unsafe { c::novlizeb_applied(least, skew, value) }
+}
+
+/// The frame's width and height; both 0 where the sides or the slope are outside their limits.
+pub fn frame_size(page_width: u32, page_height: u32, slope: f64) -> (u32, u32) {
+    let word = unsafe { c::novlizeb_frame_size(page_width, page_height, slope) };
+    (word as u32, (word >> 32) as u32)
+}
+
+/// A page plane moved into its frame, both shears beside it; false where something is outside its limits or too short.
+pub fn level_plane(
+    page: &[u8],
+    fill: u8,
+    page_width: u32,
+    page_height: u32,
+    slope: f64,
+    shears: &mut [u32],
+    out: &mut [u8],
+) -> bool {
+    flag(unsafe {
+        c::novlizeb_level_plane(
+            page.as_ptr(),
+            page.len(),
+            fill,
+            page_width,
+            page_height,
+            slope,
+            shears.as_mut_ptr(),
+            shears.len(),
+            out.as_mut_ptr(),
+            out.len(),
+        )
+    })
+}
+
+/// A frame point in page coordinates.
+pub fn to_page(shears: &[u32], page_width: u32, x: u32, y: u32) -> (i64, i64) {
+    let (from, length) = (shears.as_ptr(), shears.len());
+    unsafe {
+        (
+            c::novlizeb_to_page_x(from, length, page_width, x, y),
+            c::novlizeb_to_page_y(from, length, page_width, x, y),
+        )
+    }
+}
+
+/// The page box of a frame box, both as x0, y0, x1, y1.
+pub fn rect_to_page(shears: &[u32], page_width: u32, page_height: u32, corners: [u32; 4]) -> [u32; 4] {
+    let (from, length) = (shears.as_ptr(), shears.len());
+    let [x0, y0, x1, y1] = corners;
+    let (start, end) = unsafe {
+        (
+            c::novlizeb_rect_to_page_start(from, length, page_width, page_height, x0, y0, x1, y1),
+            c::novlizeb_rect_to_page_end(from, length, page_width, page_height, x0, y0, x1, y1),
+        )
+    };
+    [start as u32, (start >> 32) as u32, end as u32, (end >> 32) as u32]
+}
+
+/// The dots of thin rulings: 1 in a horizontal one, 2 in a vertical one, 3 in both; false where something is outside its limits or
+/// too short.
+pub fn thin_rulings(
+    ink: &[u8],
+    width: u32,
+    height: u32,
+    run_min: u32,
+    thick_max: u32,
+    marks: &mut [u32],
+    counters: &mut [u32],
+) -> bool {
+    flag(unsafe {
+        c::novlizeb_thin_rulings(
+            ink.as_ptr(),
+            ink.len(),
+            width,
+            height,
+            run_min,
+            thick_max,
+            marks.as_mut_ptr(),
+            marks.len(),
+            counters.as_mut_ptr(),
+            counters.len(),
+        )
+    })
+}
+
+/// The least run and the greatest thickness of a thin ruling.
+pub fn limits(p: &LayoutParams, unit: f64) -> (u32, u32) {
+    unsafe {
+        (
+            c::novlizeb_run_min(p.rule_run_xh, unit),
+            c::novlizeb_thick_max(p.rule_max_thick_xh, unit),
+        )
+    }
+}
+
+/// The kind of a component of this area, width and height, in a frame of these sides.
+pub fn kind_by_size(p: &LayoutParams, measured: bool, unit: f64, frame: (u32, u32), size: [u32; 3]) -> u32 {
+    unsafe {
+        c::novlizeb_kind_by_size(
+            p.glyph_min_area,
+            p.glyph_max_extent_frac,
+            p.rule_min_len_xh,
+            p.rule_max_thick_xh,
+            p.graphic_min_xh,
+            u8::from(measured),
+            unit,
+            frame.0,
+            frame.1,
+            size[0],
+            size[1],
+            size[2],
+        )
+    }
 }
 
 /// A bool of C.

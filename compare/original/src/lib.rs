@@ -66,6 +66,21 @@ pub fn segment_mask(
     pixel::layout::segment(mask, width, height, skew_deg, &params)
 }
 
+/// `segment`'s own levelling of this mask under this slope, the ink uncut. Of the rest nothing is there but what the methods of
+/// [`pixel::layout::Layout`] need to map back: sides and shears.
+pub fn level_mask(
+    mask: Vec<u8>,
+    width: usize,
+    height: usize,
+    skew_deg: f64,
+    slope: f64,
+    sheet: &pixel::layout::LayoutParams,
+) -> pixel::layout::Layout {
+    let applied = skew_deg.abs() >= sheet.shear_min_deg;
+    libm::set_slope(if applied { slope } else { 0.0 });
+    pixel::layout::compare_level(mask, width, height, skew_deg, sheet)
+}
+
 #[cfg(test)]
 mod tests {
     use super::*;

@@ -20,7 +20,7 @@ pub struct Part {
 
 macro_rules! parts {
     ($($name:ident,)*) => {
-        $(mod $name;)*
+        $(pub mod $name;)*
         pub const PARTS: &[Part] = &[$($name::PART),*];
     };
 }
@@ -29,4 +29,9 @@ parts! {
     rounding,
     sums,
     validate,
+    labelling,
+    levelling,
+    extents,
+    rulings,
+    kinds,
 }

@@ -28,9 +28,9 @@ const BLOCK_MIN_OVERLAP: usize = 12;
 const COLUMN_COVER_FRAC: usize = 16;
 
 /// A sheet as words, in the order of its fields: a float's bits, or the number.
-type Words = [u64; FIELDS];
+pub type Words = [u64; FIELDS];
 
-fn sheet(w: &Words) -> LayoutParams {
+pub fn sheet(w: &Words) -> LayoutParams {
     let float = |i: usize| f64::from_bits(w[i]);
     LayoutParams {
         glyph_min_area: w[0] as u32,
@@ -55,7 +55,7 @@ fn sheet(w: &Words) -> LayoutParams {
 }
 
 /// A random sheet that is valid.
-fn valid(random: &mut Random) -> Words {
+pub fn valid(random: &mut Random) -> Words {
     let mut w = [0; FIELDS];
     for (i, word) in w.iter_mut().enumerate() {
         let most = if random.below(4) == 0 { 1e4 } else { 20.0 };

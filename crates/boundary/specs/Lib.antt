@@ -1,1 +1,12 @@
+-- a parameter sheet of its eighteen numbers
 pub mod Sheet
+-- an answer as one word
+pub mod Answers
+-- labelling called by itself
+pub mod LabelAnswers
+-- run extents called by themselves
+pub mod ExtentAnswers
+-- levelling and the way back
+pub mod Levels
+-- thin rulings and kinds
+pub mod Sorting

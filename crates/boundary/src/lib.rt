@@ -8,6 +8,11 @@ ghost use Rattle.rounding.specs.Rounding.{roundHalfAway, roundToUnsigned, round
 ghost use Rattle.rounding.specs.Sums.{pairwiseSum};
 ghost use Rattle.params.specs.Valid.{valid};
 ghost use Rattle.boundary.specs.Sheet.{sheetOf};
+
+mod levels;
+mod masks;
+mod sorting_parts;
+
 use params::LayoutParams;
 
 // x at the nearest whole number, halves away from zero.

@@ -1,7 +1,8 @@
 // What each kind of case is, and whether this project answers as the Rust did.
 //
-// To add a kind: a function here from the digits of the words to a bool, and its line in agrees. The
-// words of a kind are said above its function; a part of compare/ writes them.
+// To add a kind: a function, here or in a file of its own, from the digits of the words to a bool, and
+// its line in agrees. The words of a kind are said above its function; a part of compare/ writes them.
+use crate::masks;
 use crate::text;
 use params::LayoutParams;
 
@@ -19,6 +20,8 @@ pub fn agrees(kind: u64, body: &[u8]) -> bool {
         6 => round_output(body),
         7 => pairwise_sum(body),
         8 => validate(body),
+        9 => masks::label(body),
+        10 => masks::extents(body),
         _ => false,
     }
 }
@@ -95,24 +98,19 @@ fn pairwise_sum(body: &[u8]) -> bool {
     ours == text::word(body, n)
 }
 
-// The u32 that is the word at i, by its low half.
-fn whole(body: &[u8], i: usize) -> u32 {
-    (text::word(body, i) % 0x1_0000_0000) as u32
-}
-
 // The sheet that the first 18 words are, in the order of its fields.
 fn sheet(body: &[u8]) -> LayoutParams {
     LayoutParams {
-        glyph_min_area: whole(body, 0),
+        glyph_min_area: text::whole(body, 0),
         glyph_max_extent_frac: float(body, 1),
-        xheight_min_area: whole(body, 2),
+        xheight_min_area: text::whole(body, 2),
         xheight_fallback_px: float(body, 3),
         rule_min_len_xh: float(body, 4),
         rule_max_thick_xh: float(body, 5),
         rule_run_xh: float(body, 6),
         graphic_min_xh: float(body, 7),
         smear_xh: float(body, 8),
-        line_min_glyphs: whole(body, 9),
+        line_min_glyphs: text::whole(body, 9),
         line_min_height_xh: float(body, 10),
         line_max_height_xh: float(body, 11),
         block_min_overlap: float(body, 12),

@@ -1,7 +1,7 @@
 // Upper-case hexadecimal digits, and the words of a case.
 
 // The value of a digit, or 16 for a byte that is none.
-fn digit(b: u8) -> u8 {
+pub fn digit(b: u8) -> u8 {
     if b < b'0' {
         16
     } else if b <= b'9' {
@@ -57,6 +57,11 @@ pub fn word(body: &[u8], i: usize) -> u64 {
     } else {
         0
     }
+}
+
+// The u32 that is the word at i, by its low half.
+pub fn whole(body: &[u8], i: usize) -> u32 {
+    (word(body, i) % 0x1_0000_0000) as u32
 }
 
 // The number whose two's complement at 64 bits the word is.

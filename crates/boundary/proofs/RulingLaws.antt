@@ -1,0 +1,91 @@
+-- What the test of thin rulings' arguments gives. Assumes nothing.
+use mathlib.Core.Path.{_≡_, refl, sym, ap, _∙_}
+use mathlib.Core.Bool.{Bool, true, false, not, cond, _&&_}
+use mathlib.Core.List.{List}
+use Prim.Native.Nat.{ℕ, _+_, _*_, _≤_}
+use lib.Dec.{T, eqb, ltb, leb, ltb→lt, leb→le, eqb→eq}
+use lib.ListN.{length}
+use Rattle.memory.specs.Limits.{maxMaskSide, maxMaskDots}
+use Rattle.memory.specs.Lists.{table}
+use Rattle.memory.specs.Words.{over}
+use Rattle.rounding.proofs.Tests.{yes}
+use Rattle.sorting.specs.Answers.{isMaskSide}
+use Rattle.sorting.specs.Rulings.{cutMark}
+use Rattle.sorting.specs.Scans.{PlaneFits}
+use Rattle.boundary.specs.Sorting.{rulingsFit, RulingsTold}
+use Rattle.boundary.proofs.LevelLaws.{is-true, is-false, split}
+
+pub record Fit (mask w h run-min marks counters : ℕ) : Type 0 where
+  pub plane : PlaneFits w h mask marks
+  pub run : 2 ≤ run-min
+  pub across : w + w ≤ counters
+  pub down : h + h ≤ counters
+
+fit-of : (mask w h run-min marks counters : ℕ) → T (rulingsFit mask w h run-min marks counters) → Fit mask w h run-min marks counters
+unfolding rulingsFit
+fit-of mask w h run-min marks counters t =
+    let a = isMaskSide w in
+    let b = isMaskSide h in
+    let c = leb (w * h) maxMaskDots in
+    let d = eqb mask (w * h) in
+    let e = leb (w * h) marks in
+    let f = leb 2 run-min in
+    let g = leb (w + w) counters in
+    let i = leb (h + h) counters in
+    let t7 = split (a && b && c && d && e && f && g) i t in
+    let t6 = split (a && b && c && d && e && f) g (t7 .0) in
+    let t5 = split (a && b && c && d && e) f (t6 .0) in
+    let t4 = split (a && b && c && d) e (t5 .0) in
+    let t3 = split (a && b && c) d (t4 .0) in
+    let t2 = split (a && b) c (t3 .0) in
+    let t1 = split a b (t2 .0) in
+    let x = split (ltb 0 w) (leb w maxMaskSide) (t1 .0) in
+    let y = split (ltb 0 h) (leb h maxMaskSide) (t1 .1) in
+    record {
+      plane = record {
+        wide = ltb→lt 0 w (x .0);
+        narrow = leb→le w maxMaskSide (x .1);
+        high = ltb→lt 0 h (y .0);
+        low = leb→le h maxMaskSide (y .1);
+        few = leb→le (w * h) maxMaskDots (t2 .1);
+        dots = eqb→eq mask (w * h) (t3 .1);
+        room = leb→le (w * h) marks (t4 .1);
+      };
+      run = leb→le 2 run-min (t5 .1);
+      across = leb→le (w + w) counters (t6 .1);
+      down = leb→le (h + h) counters (t7 .1);
+    }
+
+-- the test as the code makes it, from what it was told of the sides and of their product
+pub fit-is :
+    (mask w h run-min marks counters d : ℕ) (a b : Bool) → a ≡ isMaskSide w → b ≡ isMaskSide h → d ≡ w * h
+    → (a && b && leb d 1073741824 && eqb mask d && leb d marks && leb 2 run-min && leb (w + w) counters && leb (h + h) counters) ≡ rulingsFit mask w h run-min marks counters
+unfolding rulingsFit
+fit-is mask w h run-min marks counters d a b e f g =
+    ap (λ (t : Bool). t && b && leb d 1073741824 && eqb mask d && leb d marks && leb 2 run-min && leb (w + w) counters && leb (h + h) counters) e
+    ∙ ap (λ (t : Bool). isMaskSide w && t && leb d 1073741824 && eqb mask d && leb d marks && leb 2 run-min && leb (w + w) counters && leb (h + h) counters) f
+    ∙ ap
+    (λ (k : ℕ). isMaskSide w && isMaskSide h && leb k 1073741824 && eqb mask k && leb k marks && leb 2 run-min && leb (w + w) counters && leb (h + h) counters)
+    g
+
+pub rulings-held : (mask w h run-min marks counters : ℕ) (b : Bool) → b ≡ rulingsFit mask w h run-min marks counters → not b ≡ false → Fit mask w h run-min marks counters
+rulings-held mask w h run-min marks counters b e n = fit-of mask w h run-min marks counters (yes (sym e ∙ is-true b n))
+
+told :
+    (done : Bool) (run-min thick-max w h : ℕ) (m marks : List ℕ) (r : Bool) (marks' : List ℕ) → r ≡ done
+    → marks' ≡ cond r (over (table (cutMark run-min thick-max w h m) (w * h)) marks) marks
+    → RulingsTold done run-min thick-max w h m marks r marks'
+told done run-min thick-max w h m marks r marks' e a =
+    record { answer = e; marked = a ∙ ap (λ (t : Bool). cond t (over (table (cutMark run-min thick-max w h m) (w * h)) marks) marks) e }
+
+pub rulings-refused :
+    (run-min thick-max w h : ℕ) (m marks : List ℕ) (counters : ℕ) (b : Bool) → b ≡ rulingsFit (length m) w h run-min (length marks) counters → not b ≡ true
+    → RulingsTold (rulingsFit (length m) w h run-min (length marks) counters) run-min thick-max w h m marks false marks
+rulings-refused run-min thick-max w h m marks counters b e n = told _ run-min thick-max w h m marks false marks (sym (is-false b n) ∙ e) refl
+
+pub rulings-marked :
+    (run-min thick-max w h : ℕ) (m marks : List ℕ) (counters : ℕ) (b : Bool) (marks' : List ℕ) → b ≡ rulingsFit (length m) w h run-min (length marks) counters
+    → not b ≡ false
+    → marks' ≡ over (table (cutMark run-min thick-max w h m) (w * h)) marks
+    → RulingsTold (rulingsFit (length m) w h run-min (length marks) counters) run-min thick-max w h m marks true marks'
+rulings-marked run-min thick-max w h m marks counters b marks' e n a = told _ run-min thick-max w h m marks true marks' (sym (is-true b n) ∙ e) a

@@ -1,0 +1,35 @@
+-- `boundary::sorting_parts::rulings_fit` meets its contract, test by test. Assumes nothing.
+use Rattle.boundary.proofs.RulingLaws.{fit-is}
+use borrow.Author.Needs.{needs}
+use Rattle.boundary.proofs.sorting_parts.rulings_fit.Statement.{statement}
+use Rattle.boundary.proofs.sorting_parts.rulings_fit.Tie as tie
+
+dots-of-requires : tie.Need-dots-of-requires
+dots-of-requires c κs = search needs
+
+is-mask-side-requires : tie.Need-is-mask-side-requires
+is-mask-side-requires c κs = search needs
+
+is-mask-side-requires-2 : tie.Need-is-mask-side-requires-2
+is-mask-side-requires-2 c κs = search needs
+
+add-result : tie.Need-add-result
+add-result c = search needs
+
+add-result-2 : tie.Need-add-result-2
+add-result-2 c = search needs
+
+returns : tie.Need-returns
+returns c =
+    fit-is _ _ _ _ _ _ _ _ _ (c .before .is-mask-side .ensures) (c .is-mask-side2 .ensures) (c .before .before .dots-of .ensures)
+
+pub rulings-fit-spec : {M : Type 1} → statement M
+rulings-fit-spec =
+    tie.close
+    (tie.spec
+    dots-of-requires
+    is-mask-side-requires
+    is-mask-side-requires-2
+    add-result
+    add-result-2
+    returns)

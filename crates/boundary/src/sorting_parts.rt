@@ -1,0 +1,165 @@
+// Thin rulings, and the kind of a component by its size.
+ghost use mathlib.Core.Path.{_≡_};
+ghost use mathlib.Core.Bool.{true};
+ghost use Prim.Native.Nat.{_*_};
+ghost use lib.ListN.{length};
+ghost use Rattle.params.specs.Valid.{zero};
+ghost use Rattle.sorting.specs.Answers.{isMaskSide};
+ghost use Rattle.sorting.specs.Kinds.{kindBySize};
+ghost use Rattle.sorting.specs.Rulings.{runMin, thickMax};
+ghost use Rattle.boundary.specs.Sorting.{rulingsFit, RulingsTold, unitFor, sizeSheet};
+use params::LayoutParams;
+use sorting::Unit;
+
+fn is_mask_side(n: u32) -> bool
+    ensures { λ r. ⌜ r ≡ isMaskSide n ⌝ }
+{
+    (0 < n) & (n <= 131072)
+}
+
+// The product of two numbers of 32 bits, which 64 bits hold.
+fn dots_of(width: u32, height: u32) -> usize
+    ensures { λ r. ⌜ r ≡ width * height ⌝ }
+{
+    (width as usize) * (height as usize)
+}
+
+fn rulings_fit(
+    mask: usize,
+    width: u32,
+    height: u32,
+    run_min: u32,
+    marks: usize,
+    counters: usize,
+) -> bool
+    ensures { λ r. ⌜ r ≡ rulingsFit mask width height «run_min» marks counters ⌝ }
+{
+    let w = width as usize;
+    let h = height as usize;
+    let dots = dots_of(width, height);
+    is_mask_side(width)
+        & is_mask_side(height)
+        & (dots <= 1073741824)
+        & (mask == dots)
+        & (dots <= marks)
+        & (2 <= run_min)
+        & (w + w <= counters)
+        & (h + h <= counters)
+}
+
+// The dots of thin rulings, a word a dot: 1 in a horizontal one, 2 in a vertical one, 3 in both. False,
+// and nothing written, where something is outside its limits or too short.
+#[no_mangle]
+pub extern "C" fn novlizeb_thin_rulings(
+    ink: &[u8],
+    width: u32,
+    height: u32,
+    run_min: u32,
+    thick_max: u32,
+    marks: &mut [u32],
+    counters: &mut [u32],
+) -> bool
+    ensures { λ r. ⌜ RulingsTold (rulingsFit (length (now (ink .entry))) width height «run_min» (length (now (marks .entry))) (length (now (counters .entry)))) «run_min» «thick_max» width height (now (ink .entry)) (now (marks .entry)) r (now (marks .exit)) ⌝ }
+{
+    if !rulings_fit(
+        ink.len(),
+        width,
+        height,
+        run_min,
+        marks.len(),
+        counters.len(),
+    ) {
+        return false;
+    }
+    sorting::thin_rulings(ink, width, height, run_min, thick_max, marks, counters);
+    true
+}
+
+fn unit_for(measured: bool, value: f64) -> Unit
+    ensures { λ r. ⌜ r ≡ unitFor measured value ⌝ }
+{
+    if measured {
+        Unit::Measured(value)
+    } else {
+        Unit::Assumed(value)
+    }
+}
+
+fn size_sheet(
+    glyph_min_area: u32,
+    glyph_max_extent_frac: f64,
+    rule_min_len_xh: f64,
+    rule_max_thick_xh: f64,
+    rule_run_xh: f64,
+    graphic_min_xh: f64,
+) -> LayoutParams
+    ensures { λ r. ⌜ r ≡ sizeSheet «glyph_min_area» «glyph_max_extent_frac» «rule_min_len_xh» «rule_max_thick_xh» «rule_run_xh» «graphic_min_xh» ⌝ }
+{
+    LayoutParams {
+        glyph_min_area,
+        glyph_max_extent_frac,
+        xheight_min_area: 0,
+        xheight_fallback_px: 0.0,
+        rule_min_len_xh,
+        rule_max_thick_xh,
+        rule_run_xh,
+        graphic_min_xh,
+        smear_xh: 0.0,
+        line_min_glyphs: 0,
+        line_min_height_xh: 0.0,
+        line_max_height_xh: 0.0,
+        block_min_overlap: 0.0,
+        block_gap_margin_lines: 0.0,
+        block_max_gap_lines: 0.0,
+        column_gap_xh: 0.0,
+        column_cover_frac: 0.0,
+        shear_min_deg: 0.0,
+    }
+}
+
+// The least run of a thin ruling, in dots.
+#[no_mangle]
+pub extern "C" fn novlizeb_run_min(rule_run_xh: f64, unit: f64) -> u32
+    ensures { λ r. ⌜ r ≡ runMin (sizeSheet 0 zero zero zero «rule_run_xh» zero) unit ⌝ }
+{
+    sorting::run_min(size_sheet(0, 0.0, 0.0, 0.0, rule_run_xh, 0.0), unit)
+}
+
+// Its greatest thickness.
+#[no_mangle]
+pub extern "C" fn novlizeb_thick_max(rule_max_thick_xh: f64, unit: f64) -> u32
+    ensures { λ r. ⌜ r ≡ thickMax (sizeSheet 0 zero zero «rule_max_thick_xh» zero zero) unit ⌝ }
+{
+    sorting::thick_max(size_sheet(0, 0.0, 0.0, rule_max_thick_xh, 0.0, 0.0), unit)
+}
+
+// The kind of a component of this area, width and height, in a frame w wide and h high: 2 rule, 3
+// graphic, 4 glyph, 5 speck. `value` is the unit, which does not show whether it was measured.
+#[no_mangle]
+pub extern "C" fn novlizeb_kind_by_size(
+    glyph_min_area: u32,
+    glyph_max_extent_frac: f64,
+    rule_min_len_xh: f64,
+    rule_max_thick_xh: f64,
+    graphic_min_xh: f64,
+    measured: bool,
+    value: f64,
+    w: u32,
+    h: u32,
+    area: u32,
+    width: u32,
+    height: u32,
+) -> u32
+    ensures { λ r. ⌜ r ≡ kindBySize (sizeSheet «glyph_min_area» «glyph_max_extent_frac» «rule_min_len_xh» «rule_max_thick_xh» zero «graphic_min_xh») value w h area width height ⌝ }
+{
+    let sheet = size_sheet(
+        glyph_min_area,
+        glyph_max_extent_frac,
+        rule_min_len_xh,
+        rule_max_thick_xh,
+        0.0,
+        graphic_min_xh,
+    );
+    let unit = unit_for(measured, value);
+    sorting::kind_by_size(sheet, unit, w, h, area, width, height)
+}
