@@ -316,9 +316,25 @@ fn refused(tally: &mut Tally, lent: &mut Lent) {
     }
 }
 
+/// Words that are not the shears of such a page, or a row that they do not have: zeros.
+fn no_row(tally: &mut Tally) {
+    let shears = [0, 1, 1, 2, 2, 1, 1, 0];
+    for (page_width, y) in [(0, 0), (4, 4), (8, 0), (9, 0), (4, u32::MAX), (u32::MAX, u32::MAX)] {
+        let input = || format!("{page_width} wide, row {y}");
+        tally.equal("to_page", (0, 0), ours::to_page(&shears, page_width, 0, y), input);
+        for corners in [[0, y, 0, 0], [0, 0, 0, y]] {
+            let ours = ours::rect_to_page(&shears, page_width, 2, corners);
+            tally.equal("rect_to_page", [0; 4], ours, input);
+        }
+    }
+    let ours = ours::rect_to_page(&shears, 4, 0, [0, 0, 5, 3]);
+    tally.equal("rect_to_page", [0; 4], ours, || "0 high".to_owned());
+}
+
 fn compare(tally: &mut Tally) {
     let mut random = Random::new();
     let mut lent = Lent::new();
+    no_row(tally);
     applied(tally, &mut random);
     small_pages(tally, &mut lent, &mut random);
     random_pages(tally, &mut lent, &mut random);
