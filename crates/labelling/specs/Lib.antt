@@ -26,5 +26,7 @@ pub mod RecordWords
 pub mod Painting
 -- the components' records, run by run
 pub mod Tallying
+-- the components of any mask in scratch: runs, numbers, sizes
+pub mod Sizes
 -- what labelling called by itself answers and leaves
 pub mod Answer

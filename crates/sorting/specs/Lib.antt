@@ -12,6 +12,8 @@ pub mod Units
 pub mod Kinds
 -- a whole ink plane sorted: cuts, components after the cut, kinds, lists and counts
 pub mod Sorted
+-- where a segmentation keeps what it has found, in scratch
+pub mod Scratch
 -- what the functions hand on to each other
 pub mod Scans
 -- rows or columns walked alike
