@@ -54,3 +54,17 @@ pub mod PitchLaws
 pub mod SmoothedRuns
 -- the frame place of a page dot, and the dots listed
 pub mod DotLaws
+-- turns over stretches of ink and of blank dots
+pub mod StretchLaws
+-- the numbers of components, run by run
+pub mod RunNumberLaws
+-- the dots of the smoothed mask, by the glyph dots of their row
+pub mod SmoothedDots
+-- the words of smoothing
+pub mod RowWordLaws
+-- the walk over the runs of rows
+pub mod RowRunLaws
+-- one run more in that walk, and its ends
+pub mod RowStepLaws
+-- that walk seen from a part of the words
+pub mod PartWalkLaws

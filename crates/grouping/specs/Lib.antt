@@ -2,6 +2,8 @@
 pub mod Smoothing
 -- text lines, and the line of each glyph
 pub mod Lines
+-- what smoothing on the runs of rows asks and leaves
+pub mod RowRuns
 -- blocks of lines
 pub mod Blocks
 -- columns of the page

@@ -8,6 +8,7 @@ mod number;
 mod numbers;
 mod pitch;
 mod record;
+mod smooth;
 mod summary;
 
 pub use block::blocks;
@@ -18,6 +19,7 @@ pub use dots::count_dots;
 pub use dots::write_dots;
 pub use pitch::median_pitch;
 pub use pitch::twenty_line_measure;
+pub use smooth::smooth_runs;
 pub use summary::Summary;
 pub use summary::Totals;
 pub use summary::median_glyph_height;
