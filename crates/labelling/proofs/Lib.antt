@@ -42,7 +42,11 @@ pub mod TallyLaws
 pub mod RecordSweepLaws
 -- the stages one after the other
 pub mod StageLaws
+-- the sizes of the first k runs' components, and one run more
+pub mod SizeSweepLaws
 -- which number a call is refused with, and what it leaves
 pub mod EntryLaws
 -- what a reader wants to know of the labelling
 pub mod Theorems
+-- the components of a mask in scratch: what runs, numbers and sizes tell
+pub mod SizeLaws

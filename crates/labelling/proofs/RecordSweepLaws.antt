@@ -34,7 +34,7 @@ use Rattle.labelling.proofs.TallyLaws.{record-put, record-append, table
 pub first-low : (w c : ℕ) (t : List ℕ) (k : ℕ) → firstRun w c t k ≤ k
 first-low w c t k = firsts-right (touching w t) c .low k
 
-first-same : (w c : ℕ) (t : List ℕ) (k : ℕ) → firstRun w c t (firstRun w c t k) ≡ firstRun w c t k
+pub first-same : (w c : ℕ) (t : List ℕ) (k : ℕ) → firstRun w c t (firstRun w c t k) ≡ firstRun w c t k
 first-same w c t k = let F = firsts-right (touching w t) c in sym (along F (F .sound k))
 
 module _ (rep : ℕ → ℕ) (low : (k : ℕ) → rep k ≤ k) (idem : (k : ℕ) → rep (rep k) ≡ rep k) where
@@ -119,12 +119,12 @@ module _ (w c : ℕ) (s comps₀ : List ℕ) (A : Tallyable w c s comps₀) wher
       let m = mod-lt (start k + (end k - start k - 1)) (A .list .wide) in
       omega arith
 
-  run-absorbed : (k : ℕ) (p : Component) → k < c → absorbDots w (start k) (end k - start k) p ≡ absorbedRun p (start k % w) (end k - start k - 1) (start k / w)
+  pub run-absorbed : (k : ℕ) (p : Component) → k < c → absorbDots w (start k) (end k - start k) p ≡ absorbedRun p (start k % w) (end k - start k - 1) (start k / w)
   run-absorbed k p l =
       ap (λ z. absorbDots w (start k) z p) (let h = A .list .order .some k l in let e : end k - start k ≡ suc (end k - start k - 1) = omega arith in e)
       ∙ absorb-run w (start k) (end k - start k - 1) p (A .list .wide) (run-rows k l)
 
-  run-bounded : (q k x : ℕ) → k ≤ c → ((j : ℕ) → j < k → end j ≤ x) → Bounded (recordTo k q) x
+  pub run-bounded : (q k x : ℕ) → k ≤ c → ((j : ℕ) → j < k → end j ≤ x) → Bounded (recordTo k q) x
   unfolding componentRuns
   run-bounded q zero x l h = record { area = omega arith; sum-x = omega arith; sum-y = omega arith }
   run-bounded q (suc k) x l h =

@@ -8,6 +8,7 @@ mod paint;
 mod record;
 mod rect;
 mod runs;
+mod sizes;
 mod tally;
 mod words;
 
@@ -21,3 +22,4 @@ pub use number::number_runs;
 pub use paint::paint_runs;
 pub use rect::Rect;
 pub use runs::extract_runs;
+pub use sizes::label_sizes;
