@@ -4,7 +4,7 @@ use mathlib.Core.Bool.{Bool, false, cond, not}
 use mathlib.Core.List.{List}
 use lib.ListN.{getD, length}
 use lib.Dec.{ltb}
-use Prim.Native.Nat.{ℕ, suc, _+_, _*_, _/_, _%_, _≤_, _<_}
+use Prim.Native.Nat.{ℕ, suc, _+_, _-_, _*_, _/_, _%_, _≤_, _<_}
 use Rattle.memory.specs.Lists.{occurs}
 use Rattle.memory.specs.Limits.{maxMaskSide, maxMaskDots}
 use Rattle.labelling.specs.declared.component.Component.{Component}
@@ -47,6 +47,15 @@ pub record PlaneFits (w h mask-length words : ℕ) : Type 0 where
   pub few : w * h ≤ maxMaskDots
   pub dots : mask-length ≡ w * h
   pub room : w * h ≤ words
+
+-- the same with the marks from word `marks` on, and two words a place of the longest line before them; a run of 2 is the least
+pub record RulingsRoom (w h run-min mask-length marks words : ℕ) : Type 0 where
+  pub plane : PlaneFits w h mask-length (words - marks)
+  pub before : marks ≤ words
+  pub run : 2 ≤ run-min
+  pub across : w + w ≤ marks
+  pub down : h + h ≤ marks
+  pub short : marks ≤ 4294967295
 
 -- counts by value of the n entries of a list
 pub record CountsOf (counts : List ℕ) (n : ℕ) (l : List ℕ) : Type 0 where
