@@ -32,6 +32,8 @@ pub mod RunLinkLaws
 pub mod NumberLaws
 -- turns written row by row
 pub mod ExtractLaws
+-- turns of the dots that pass a test, by ink and marks
+pub mod MarkedLaws
 -- nine words
 pub mod NineLaws
 -- labels painted run by run

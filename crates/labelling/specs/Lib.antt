@@ -30,5 +30,7 @@ pub mod Tallying
 pub mod Sizes
 -- these sizes, run by run
 pub mod Sizing
+-- which dots count, by ink and a mark for each
+pub mod Marked
 -- what labelling called by itself answers and leaves
 pub mod Answer

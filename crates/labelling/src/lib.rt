@@ -3,6 +3,7 @@
 mod component;
 mod entry;
 mod link;
+mod marked;
 mod number;
 mod paint;
 mod record;
@@ -18,6 +19,8 @@ pub use entry::label;
 pub use link::find;
 pub use link::link_runs;
 pub use link::unite;
+pub use marked::Test;
+pub use marked::extract_marked;
 pub use number::number_runs;
 pub use paint::paint_runs;
 pub use rect::Rect;
