@@ -1,9 +1,9 @@
 -- Extents as loops find them: run by run along a row, by counts down and up the columns.
 use mathlib.Core.Path.{_≡_, refl, sym, ap, _∙_}
 use mathlib.Core.Bool.{Bool, true, false, cond, _&&_, _||_, true≢false}
-use mathlib.Core.List.{List}
+use mathlib.Core.List.{List, _++_}
 use Prim.Native.Nat.{ℕ, zero, suc, _+_, _-_, _*_, _/_, _%_, _^_, _≤_, _<_, min}
-use native.Mathlib.Nat.{mod-eq-sub-mod, div-eq-of-lt, div-eq-sub-div, add-mod-right, add-div-right, div-lt-iff-lt-mul, div-le-self, mul-comm, mul-suc, suc-mul, mul-le-mul-right, lt-of-le-of-lt, mul-le-mul, le-pred-of-lt}
+use native.Mathlib.Nat.{le-refl, mod-eq-sub-mod, div-eq-of-lt, div-eq-sub-div, add-mod-right, add-div-right, div-lt-iff-lt-mul, div-le-self, mul-comm, mul-suc, suc-mul, mul-le-mul-right, lt-of-le-of-lt, mul-le-mul, le-pred-of-lt}
 use native.Mathlib.Decide.{decLt}
 use native.Mathlib.Omega.{arith}
 use borrow.Author.Tests.{lt-ltb, le-ltb}
@@ -13,15 +13,15 @@ use borrow.Rule.Slice.PartMut.{putMid}
 use mir.Val.{boolByte}
 use Rattle.memory.specs.Lists.{table}
 use Rattle.memory.specs.Words.{over}
-use Rattle.memory.proofs.TableLaws.{length-table, getD-table}
+use Rattle.memory.proofs.TableLaws.{length-table, getD-table, table-ext}
 use Rattle.memory.specs.Limits.{maxExtent}
 use Rattle.labelling.specs.Labels.{isInk}
 use Rattle.sorting.specs.Extents.{inkAt, behind, runThrough, extent}
-use Rattle.sorting.specs.Scans.{ScannedTo, Starts, blank, TakesUp, countDown, cappedCount, columnExtent, rowExtent}
+use Rattle.sorting.specs.Scans.{ScannedTo, Starts, clear, blank, RowTo, singleDot, TakesUp, countDown, cappedCount, columnExtent, rowExtent}
 use Rattle.sorting.proofs.MaskLaws.{inkAt-dot, dot-column, dot-row}
-use Rattle.sorting.proofs.OverLaws.{until-below, until-from, getD-part, length-part, length-over, over-at, over-unique, over-up, over-down, over-part, over-ended}
+use Rattle.sorting.proofs.OverLaws.{until-below, until-from, getD-part, length-part, length-over, over-at, over-unique, over-up, over-down, over-part, over-ended, over-whole}
 use Rattle.sorting.specs.Scans.{until}
-use Rattle.sorting.proofs.RunLaws.{behind-off, behind-le, ahead-off, runThrough-ends, runThrough-off, runThrough-next, runThrough-counted, starts-run}
+use Rattle.sorting.proofs.RunLaws.{behind-off, behind-le, ahead-off, runThrough-ends, runThrough-off, runThrough-next, runThrough-counted, starts-run, starts-zero}
 
 pub product-fits : (a b : ℕ) → a < 2 ^ 32 → b < 2 ^ 32 → a * b < 2 ^ 64
 product-fits a b ha hb = lt-of-le-of-lt (mul-le-mul (le-pred-of-lt ha) (le-pred-of-lt hb)) (lit< tt)
@@ -360,19 +360,129 @@ pub side-le : (w h : ℕ) → 0 < w * h → w ≤ w * h
 side-le w zero l = let e : w * 0 ≡ 0 = omega arith in omega arith
 side-le w (suc h) l = let e : w * suc h ≡ w * h + w = mul-suc w h in omega arith
 
--- one turn along a row: a stretch of blanks, then a run
-pub row-loop : (row s e t₁ t₂ : List ℕ) (x b k v : ℕ) → length row ≡ length s → Starts (isInk row) x
-    → ScannedTo (isInk row) false x (length row) b → ScannedTo (isInk row) true b (length row) k
-    → e ≡ over (table (until x (extent (isInk row) (length row)) (λ j. getD s j 0)) (length row)) s
-    → t₁ ≡ replicate (length (take (b - x) (drop x e))) 0
-    → t₂ ≡ replicate (length (take (k - b) (drop b (putMid x (b - x) e t₁)))) v → v ≡ min (k - b) maxExtent
-    → putMid b (k - b) (putMid x (b - x) e t₁) t₂ ≡ over (table (until k (extent (isInk row) (length row)) (λ j. getD s j 0)) (length row)) s
-row-loop row s e t₁ t₂ x b k v q S B I held f₁ f₂ c =
-    let g : ℕ → ℕ = λ j. getD s j 0 in
-    let F = extent (isInk row) (length row) in
-    let first : putMid x (b - x) e t₁ ≡ over (table (until b F g) (length row)) s = stretch-filled F g (length row) s e t₁ x b 0 (omega arith) (B .low) (B .high) held f₁ (row-blank row x b k S B I) in
-    stretch-filled F g (length row) s (putMid x (b - x) e t₁) t₂ b k v (omega arith) (I .low) (I .high) first f₂
-    (λ j l u. row-ink row x b k S B I j l u ∙ sym c)
+-- the first entries of a table, none yet
+pub table-begun : (f : ℕ → ℕ) (s : List ℕ) → s ≡ table f 0 ++ drop 0 s
+unfolding table
+table-begun f s = refl
+
+pub single-bit : (row : List ℕ) (k : ℕ) → boolByte (ltb 0 (getD row k 0)) ≡ singleDot row k
+unfolding isInk
+single-bit row k = go (ltb 0 (getD row k 0))
+  where
+    go : (b : Bool) → boolByte b ≡ cond b 1 0
+    go true = refl
+    go false = refl
+
+-- A row, from start to start
+
+module _ (row : List ℕ) where
+  abbrev F : ℕ → ℕ
+  F = extent (isInk row) (length row)
+
+  -- nothing has its extent yet
+  pub row-begun : (e : List ℕ) → e ≡ table (singleDot row) (length row) → RowTo row 0 e
+  row-begun e h =
+      record {
+        inside = omega arith;
+        starts = starts-zero (isInk row);
+        held = h ∙ table-ext (singleDot row) (until 0 F (singleDot row)) (length row) (λ k l. sym (until-from 0 F (singleDot row) k (omega arith)));
+      }
+
+  module _ (x : ℕ) (e : List ℕ) (R : RowTo row x e) where
+    pub row-size : length e ≡ length row
+    row-size = ap length (R .held) ∙ length-table (until x F (singleDot row)) (length row)
+
+    module _ (to : ℕ) (further : x < to) (none : (k : ℕ) → x ≤ k → k < to → (isInk row k && isInk row (k + 1)) ≡ false) where
+      first-off : (a b : Bool) → (a && b) ≡ false → b ≡ true → a ≡ false
+      first-off true b h q = absurd (true≢false (sym q ∙ h))
+      first-off false b h q = refl
+
+      alone-before : (k : ℕ) → x ≤ k → k < to → isInk row k ≡ true → behind (isInk row) k ≡ 0
+      alone-before k l u on = go (decLt x k)
+        where
+          go : Dec (x < k) → behind (isInk row) k ≡ 0
+          go (yes d) =
+              let z : k - 1 + 1 ≡ k = omega arith in
+              let y : suc (k - 1) ≡ k = omega arith in
+              ap (behind (isInk row)) (sym y)
+              ∙ behind-off (isInk row) (k - 1) (first-off (isInk row (k - 1)) (isInk row k) (ap (λ t. isInk row (k - 1) && isInk row t) (sym z) ∙ none (k - 1) (omega arith) (omega arith)) on)
+          go (no d) = let z : x ≡ k = omega arith in ap (behind (isInk row)) (sym z) ∙ starts-run (isInk row) x (R .starts) (ap (isInk row) z ∙ on)
+
+      -- where no two dots join, each is a run of its own
+      alone : (k : ℕ) → x ≤ k → k < to → F k ≡ singleDot row k
+      unfolding extent
+      alone k l u = go (isInk row k) refl
+        where
+          go : (b : Bool) → isInk row k ≡ b → min (runThrough (isInk row) (length row) k) maxExtent ≡ cond b 1 0
+          go false f = let q = runThrough-off (isInk row) (length row) k f in omega arith
+          go true f =
+              let off : isInk row (k + 1) ≡ false = sym (ap (λ t. t && isInk row (k + 1)) f) ∙ none k l u in
+              let q =
+              runThrough-ends (isInk row) (length row) k (k + 1) (let z = ink-inside row k f in omega arith) (alone-before k l u f) (ahead-off (isInk row) (k + 1) (length row - (k + 1)) off)
+              (λ j a b. ap (isInk row) (let z : j ≡ k = omega arith in z) ∙ f) k (le-refl k) (omega arith) in
+              omega arith
+
+      pub row-skip : to ≤ length row → RowTo row to e
+      row-skip l =
+          record {
+            inside = l;
+            starts = go (isInk row to) refl;
+            held = R .held ∙ table-ext (until x F (singleDot row)) (until to F (singleDot row)) (length row) (λ k u. same k (decLt k x) (decLt k to));
+          }
+        where
+          go : (b : Bool) → isInk row to ≡ b → Starts (isInk row) to
+          go false f = blank f
+          go true f =
+              let z : to - 1 + 1 ≡ to = omega arith in
+              let y : suc (to - 1) ≡ to = omega arith in
+              clear
+              (ap (behind (isInk row)) (sym y)
+              ∙ behind-off (isInk row) (to - 1) (first-off (isInk row (to - 1)) (isInk row to) (ap (λ t. isInk row (to - 1) && isInk row t) (sym z) ∙ none (to - 1) (omega arith) (omega arith)) f))
+
+          same : (k : ℕ) → Dec (k < x) → Dec (k < to) → until x F (singleDot row) k ≡ until to F (singleDot row) k
+          same k (yes a) b = until-below x F (singleDot row) k a ∙ sym (until-below to F (singleDot row) k (omega arith))
+          same k (no a) (yes b) = until-from x F (singleDot row) k (omega arith) ∙ (sym (alone k (omega arith) b) ∙ sym (until-below to F (singleDot row) k b))
+          same k (no a) (no b) = until-from x F (singleDot row) k (omega arith) ∙ sym (until-from to F (singleDot row) k (omega arith))
+
+    -- the last dot is a run of its own where it is a start
+    pub row-done : length row ≤ x + 1 → e ≡ table F (length row)
+    row-done l = go (decLt x (length row))
+      where
+        all : (to : ℕ) → to ≡ length row → RowTo row to e → e ≡ table F (length row)
+        all to q T = T .held ∙ table-ext (until to F (singleDot row)) F (length row) (λ k u. until-below to F (singleDot row) k (omega arith))
+
+        and-off : (a b : Bool) → b ≡ false → (a && b) ≡ false
+        and-off true b h = h
+        and-off false b h = refl
+
+        go : Dec (x < length row) → e ≡ table F (length row)
+        go (yes d) = all (length row) refl (row-skip (length row) d (λ k a b. and-off (isInk row k) (isInk row (k + 1)) (ink-past row (k + 1) (omega arith))) (le-refl (length row)))
+        go (no d) = all x (let h = R .inside in let z : x ≡ length row = omega arith in z) R
+
+    -- one run more, after a stretch of blanks
+    pub row-run : (b k v : ℕ) (t : List ℕ) → ScannedTo (isInk row) false x (length row) b → ScannedTo (isInk row) true b (length row) k
+        → t ≡ replicate (length (take (k - b) (drop b e))) v → v ≡ min (k - b) maxExtent → RowTo row k (putMid b (k - b) e t)
+    row-run b k v t B I h c =
+        record {
+          inside = I .high;
+          starts = row-starts row x b k (R .starts) B I;
+          held =
+              stretch-filled F (singleDot row) (length row) e e t b k v (omega (arith, row-size)) (I .low) (I .high) blanks h (λ j l u. row-ink row x b k (R .starts) B I j l u ∙ sym c)
+              ∙ over-whole (until k F (singleDot row)) (length row) e (sym row-size);
+        }
+      where
+        same : (j : ℕ) → Dec (j < x) → Dec (j < b) → until x F (singleDot row) j ≡ until b F (singleDot row) j
+        same j (yes u) w = until-below x F (singleDot row) j u ∙ sym (until-below b F (singleDot row) j (let l = B .low in omega arith))
+        same j (no u) (yes w) =
+            until-from x F (singleDot row) j (omega arith)
+            ∙ (ap (λ t. cond t 1 0) (B .all j (omega arith) w) ∙ (sym (row-blank row x b k (R .starts) B I j (omega arith) w) ∙ sym (until-below b F (singleDot row) j w)))
+        same j (no u) (no w) = until-from x F (singleDot row) j (omega arith) ∙ sym (until-from b F (singleDot row) j (omega arith))
+
+        blanks : e ≡ over (table (until b F (singleDot row)) (length row)) e
+        blanks =
+            R .held
+            ∙ (table-ext (until x F (singleDot row)) (until b F (singleDot row)) (length row) (λ j u. same j (decLt j x) (decLt j b))
+            ∙ sym (over-whole (until b F (singleDot row)) (length row) e (sym row-size)))
 
 -- one row more
 pub rows-loop : (w h y : ℕ) (m s e t : List ℕ) → 0 < w → y < h → length m ≡ w * h → w * h ≤ length s

@@ -5,8 +5,9 @@ use mathlib.Core.List.{List}
 use lib.ListN.{getD, length}
 use lib.Dec.{ltb}
 use Prim.Native.Nat.{ℕ, suc, _+_, _-_, _*_, _/_, _%_, _≤_, _<_, min}
-use Rattle.memory.specs.Lists.{occurs}
+use Rattle.memory.specs.Lists.{occurs, table}
 use Rattle.memory.specs.Limits.{maxMaskSide, maxMaskDots, maxExtent}
+use Rattle.labelling.specs.Labels.{isInk}
 use Rattle.labelling.specs.declared.component.Component.{Component}
 use Rattle.sorting.specs.Extents.{inkAt, behind, extent}
 
@@ -25,6 +26,16 @@ pub data Starts (p : ℕ → Bool) (x : ℕ) : Type 0 where
 -- f below i, g from i on
 unfoldable pub until : ℕ → (ℕ → ℕ) → (ℕ → ℕ) → ℕ → ℕ
 until i f g k = cond (ltb k i) (f k) (g k)
+
+-- the extent of a dot that is a run of its own
+abbrev pub singleDot : List ℕ → ℕ → ℕ
+singleDot row k = cond (isInk row k) 1 0
+
+-- the dots of a row before x, a start, have their extents, and the others as if each were a run of its own
+pub record RowTo (row : List ℕ) (x : ℕ) (extents : List ℕ) : Type 0 where
+  pub inside : x ≤ length row
+  pub starts : Starts (isInk row) x
+  pub held : extents ≡ table (until x (extent (isInk row) (length row)) (singleDot row)) (length row)
 
 -- how many ink dots in a row, down its column, end at dot i
 abbrev pub countDown : ℕ → List ℕ → ℕ → ℕ

@@ -10,7 +10,7 @@ ghost use Rattle.memory.specs.Limits.{maxExtent};
 ghost use Rattle.labelling.specs.Labels.{isInk};
 ghost use Rattle.sorting.specs.Extents.{extent, rowExtents, columnExtents};
 ghost use Rattle.sorting.specs.Answers.{extentsRefusal, isMaskSide, extentsOutcome, runExtents};
-ghost use Rattle.sorting.specs.Scans.{ScannedTo, PlaneFits, TakesUp, cappedCount, columnExtent, until};
+ghost use Rattle.sorting.specs.Scans.{ScannedTo, PlaneFits, RowTo, singleDot, TakesUp, cappedCount, columnExtent, until};
 use memory::refuse_if;
 
 // The longest side of a mask, the most dots, and the greatest extent told.
@@ -98,19 +98,71 @@ fn row_extents(mask: &[u8], width: u32, height: u32, extents: &mut [u32])
     }
 }
 
-// One row, run by run.
+// One row: each dot as a run of its own, then the runs of those stretches where dots join.
 fn extents_of_row(row: &[u8], extents: &mut [u32])
     requires { ⌜ (length (now row) ≡ length (now extents)) × (length (now row) ≤ 131072) ⌝ }
     ensures { λ _. ⌜ now (extents .exit) ≡ table (extent (isInk (now (row .entry))) (length (now (row .entry)))) (length (now (row .entry))) ⌝ }
 {
+    single_dots(row, extents);
     let mut x: usize = 0;
-    while x < row.len() {
-        let blank = blank_end(row, x);
-        fill(&mut extents[x..blank], 0);
-        let ink = ink_end(row, blank);
-        fill(&mut extents[blank..ink], capped(ink - blank));
-        x = ink;
+    while x + 1 < row.len() {
+        x = extents_from(row, x, extents);
     }
+}
+
+// 1 at each ink dot, else 0.
+fn single_dots(row: &[u8], extents: &mut [u32])
+    requires { ⌜ length (now row) ≡ length (now extents) ⌝ }
+    ensures { λ _. ⌜ now (extents .exit) ≡ table (singleDot (now (row .entry))) (length (now (row .entry))) ⌝ }
+{
+    let mut i: usize = 0;
+    while i < row.len() {
+        extents[i] = (0 < row[i]) as u32;
+        i += 1;
+    }
+}
+
+// From the start x on to the next one: a stretch where no two dots join is as it is to be.
+fn extents_from(row: &[u8], x: usize, extents: &mut [u32]) -> usize
+    requires { ⌜ (x + 1 < length (now row)) × (RowTo (now row) x (now extents)) ⌝ }
+    ensures { λ r. ⌜ (x < r) × (RowTo (now (row .entry)) r (now (extents .exit))) ⌝ }
+{
+    let to = stretch_end(x, row.len() - 1);
+    if !goes_on(row, 1, x, to) {
+        return to;
+    }
+    extents_of_runs(row, x, to, extents)
+}
+
+// Where the stretch from x on ends: at most 64 dots, none from `end` on.
+fn stretch_end(x: usize, end: usize) -> usize
+    requires { ⌜ x < end ⌝ }
+    ensures { λ r. ⌜ (x < r) × (r ≤ end) ⌝ }
+{
+    if 64 < end - x { x + 64 } else { end }
+}
+
+// Run by run, until one ends at `to` or past it.
+fn extents_of_runs(row: &[u8], x: usize, to: usize, extents: &mut [u32]) -> usize
+    requires { ⌜ (x < to) × (to ≤ length (now row)) × (RowTo (now row) x (now extents)) ⌝ }
+    ensures { λ r. ⌜ (x < r) × (RowTo (now (row .entry)) r (now (extents .exit))) ⌝ }
+{
+    let mut s = x;
+    while s < to {
+        s = extents_of_run(row, s, extents);
+    }
+    s
+}
+
+// The first run from the start x on; gives where it ends.
+fn extents_of_run(row: &[u8], x: usize, extents: &mut [u32]) -> usize
+    requires { ⌜ (x < length (now row)) × (RowTo (now row) x (now extents)) ⌝ }
+    ensures { λ r. ⌜ (x < r) × (RowTo (now (row .entry)) r (now (extents .exit))) ⌝ }
+{
+    let blank = blank_end(row, x);
+    let ink = ink_end(row, blank);
+    fill(&mut extents[blank..ink], capped(ink - blank));
+    ink
 }
 
 // The first place from x on that is ink, or the end.
