@@ -97,10 +97,9 @@ mod c {
             height: u32,
             run_min: u32,
             thick_max: u32,
-            marks: *mut u32,
-            marks_length: usize,
-            counters: *mut u32,
-            counters_length: usize,
+            words: *mut u32,
+            words_length: usize,
+            marks: u32,
         ) -> u8;
         pub fn novlizeb_run_min(rule_run_xh: f64, unit: f64) -> u32;
         pub fn novlizeb_thick_max(rule_max_thick_xh: f64, unit: f64) -> u32;
@@ -295,16 +294,16 @@ pub fn rect_to_page(shears: &[u32], page_width: u32, page_height: u32, corners: 
     [start as u32, (start >> 32) as u32, end as u32, (end >> 32) as u32]
 }
 
-/// The dots of thin rulings: 1 in a horizontal one, 2 in a vertical one, 3 in both; false where something is outside its limits or
-/// too short.
+/// The dots of thin rulings from word `marks` on: 1 in a horizontal one, 2 in a vertical one, 3 in both; false where something is
+/// outside its limits or too short.
 pub fn thin_rulings(
     ink: &[u8],
     width: u32,
     height: u32,
     run_min: u32,
     thick_max: u32,
-    marks: &mut [u32],
-    counters: &mut [u32],
+    words: &mut [u32],
+    marks: u32,
 ) -> bool {
     flag(unsafe {
         c::novlizeb_thin_rulings(
@@ -314,10 +313,9 @@ pub fn thin_rulings(
             height,
             run_min,
             thick_max,
-            marks.as_mut_ptr(),
-            marks.len(),
-            counters.as_mut_ptr(),
-            counters.len(),
+            words.as_mut_ptr(),
+            words.len(),
+            marks,
         )
     })
 }

@@ -29,27 +29,20 @@ fn rust_marks(ink: &[u8], width: usize, run_min: u32, thick_max: u32) -> Vec<u32
     a.iter().zip(&b).map(|(&a, &b)| u32::from(a) + 2 * u32::from(b)).collect()
 }
 
-/// The memory that a call is lent.
-struct Lent {
-    marks: Words,
-    counters: Words,
-}
-
-/// A mask with these limits, and three words of each memory to spare.
-fn one(tally: &mut Tally, lent: &mut Lent, ink: &[u8], width: usize, run_min: u32, thick_max: u32) {
+/// A mask with these limits: words before the marks, three more than are needed, and three past them.
+fn one(tally: &mut Tally, lent: &mut Words, ink: &[u8], width: usize, run_min: u32, thick_max: u32) {
     let (dots, height) = (ink.len(), ink.len() / width);
     let input = || format!("{}, run {run_min}, thickness {thick_max}", shown(ink, width));
-    let needed = 2 * width.max(height);
-    let marks = lent.marks.lend(dots + 3);
-    let counters = lent.counters.lend(needed + 3);
-    let done = ours::thin_rulings(ink, width as u32, height as u32, run_min, thick_max, marks, counters);
+    let marks = 2 * width.max(height) + 3;
+    let words = lent.lend(marks + dots + 3);
+    let done = ours::thin_rulings(ink, width as u32, height as u32, run_min, thick_max, words, marks as u32);
     tally.equal("the answer", true, done, input);
     let rust = rust_marks(ink, width, run_min, thick_max);
-    tally.equal("cut masks", &rust[..], &lent.marks.0[..dots], input);
-    tally.equal("marks past the dots", None, lent.marks.written_from(dots), input);
+    tally.equal("cut masks", &rust[..], &lent.0[marks..marks + dots], input);
+    tally.equal("words past the marks", None, lent.written_from(marks + dots), input);
 }
 
-fn large_masks(tally: &mut Tally, lent: &mut Lent, random: &mut Random) {
+fn large_masks(tally: &mut Tally, lent: &mut Words, random: &mut Random) {
     for (width, height) in [(1000, 700), (2000, 40), (40, 2000), (1, 3000), (3000, 1), (70_000, 2), (2, 70_000)] {
         for kind in KINDS {
             let ink = kind.page(width, height, random);
@@ -61,8 +54,8 @@ fn large_masks(tally: &mut Tally, lent: &mut Lent, random: &mut Random) {
 }
 
 /// What is outside its limits or too short: nothing written.
-fn refused(tally: &mut Tally, lent: &mut Lent) {
-    // width, height, length of the ink, run, marks, counters
+fn refused(tally: &mut Tally, lent: &mut Words) {
+    // width, height, length of the ink, run, words from the marks on, words before them
     let calls = [
         (0, 1, 0, 2, 9, 9),
         (1, 0, 0, 2, 9, 9),
@@ -78,21 +71,22 @@ fn refused(tally: &mut Tally, lent: &mut Lent) {
         (3, 2, 6, 0, 6, 6),
     ];
     for call in calls {
-        let (width, height, ink, run_min, marks, counters) = call;
-        let lent_marks = lent.marks.lend(marks);
-        let lent_counters = lent.counters.lend(counters);
-        let done = ours::thin_rulings(&vec![1; ink], width, height, run_min, 1, lent_marks, lent_counters);
+        let (width, height, ink, run_min, behind, marks) = call;
+        let words = lent.lend(marks + behind);
+        let done = ours::thin_rulings(&vec![1; ink], width, height, run_min, 1, words, marks as u32);
         tally.equal("the refusal", false, done, || format!("{call:?}"));
-        tally.equal("marks when refused", None, lent.marks.written_from(0), || format!("{call:?}"));
+        tally.equal("words when refused", None, lent.written_from(0), || format!("{call:?}"));
     }
+    // the marks lie past the words
+    let words = lent.lend(40);
+    let done = ours::thin_rulings(&[1; 6], 3, 2, 2, 1, words, 41);
+    tally.equal("the refusal", false, done, || "marks past the words".to_string());
+    tally.equal("words when refused", None, lent.written_from(0), || "marks past the words".to_string());
 }
 
 fn compare(tally: &mut Tally) {
     let mut random = Random::new();
-    let mut lent = Lent {
-        marks: Words::new(),
-        counters: Words::new(),
-    };
+    let mut lent = Words::new();
     masks::every_small_mask(&mut random, &mut |_, ink, width| {
         for (run_min, thick_max) in [(2, 1), (2, 2), (3, 1), (3, 2), (3, 4), (4, 3)] {
             one(tally, &mut lent, ink, width, run_min, thick_max);
@@ -109,8 +103,7 @@ fn compare(tally: &mut Tally) {
 /// Pages of 2048 x 3072, with the limits that text of that size has.
 fn bench(bench: &mut Bench) {
     let (width, height, run_min, thick_max) = (2048usize, 3072usize, 76u32, 6u32);
-    let mut marks = vec![1; width * height];
-    let mut counters = vec![1; 2 * height];
+    let mut words = vec![1; 2 * height + width * height];
     for kind in KINDS.into_iter().filter(|kind| !matches!(kind, Kind::Dot)) {
         let ink = kind.page(width, height, &mut Random::new());
         bench.stage(
@@ -123,7 +116,7 @@ fn bench(bench: &mut Bench) {
             || {
                 let (width, height) = (width as u32, height as u32);
                 let ink = black_box(&ink);
-                black_box(ours::thin_rulings(ink, width, height, run_min, thick_max, &mut marks, &mut counters));
+                black_box(ours::thin_rulings(ink, width, height, run_min, thick_max, &mut words, 2 * height));
             },
         );
     }

@@ -1,17 +1,19 @@
 -- What the test of thin rulings' arguments gives. Assumes nothing.
 use mathlib.Core.Path.{_≡_, refl, sym, ap, _∙_}
-use mathlib.Core.Bool.{Bool, true, false, not, cond, _&&_}
+use mathlib.Core.Bool.{Bool, true, false, not, cond, _&&_, true≢false}
 use mathlib.Core.List.{List}
-use Prim.Native.Nat.{ℕ, _+_, _*_, _≤_}
+use Prim.Native.Nat.{ℕ, _+_, _-_, _*_, _≤_, _<_}
+use native.Mathlib.Nat.{mul-pos}
+use native.Mathlib.Omega.{arith}
 use lib.Dec.{T, eqb, ltb, leb, ltb→lt, leb→le, eqb→eq}
-use lib.ListN.{length}
+use lib.ListN.{drop}
 use Rattle.memory.specs.Limits.{maxMaskSide, maxMaskDots}
 use Rattle.memory.specs.Lists.{table}
 use Rattle.memory.specs.Words.{over}
 use Rattle.rounding.proofs.Tests.{yes}
 use Rattle.sorting.specs.Answers.{isMaskSide}
 use Rattle.sorting.specs.Rulings.{cutMark}
-use Rattle.sorting.specs.Scans.{PlaneFits}
+use Rattle.sorting.specs.Scans.{PlaneFits, RulingsRoom}
 use Rattle.boundary.specs.Sorting.{rulingsFit, RulingsTold}
 use Rattle.boundary.proofs.LevelLaws.{is-true, is-false, split}
 
@@ -68,24 +70,31 @@ fit-is mask w h run-min marks counters d a b e f g =
     (λ (k : ℕ). isMaskSide w && isMaskSide h && leb k 1073741824 && eqb mask k && leb k marks && leb 2 run-min && leb (w + w) counters && leb (h + h) counters)
     g
 
-pub rulings-held : (mask w h run-min marks counters : ℕ) (b : Bool) → b ≡ rulingsFit mask w h run-min marks counters → not b ≡ false → Fit mask w h run-min marks counters
-rulings-held mask w h run-min marks counters b e n = fit-of mask w h run-min marks counters (yes (sym e ∙ is-true b n))
+pub rulings-held :
+    (mask w h run-min marks words : ℕ) (b : Bool) → marks ≤ 4294967295 → b ≡ rulingsFit mask w h run-min (words - marks) marks → not b ≡ false
+    → RulingsRoom w h run-min mask marks words
+rulings-held mask w h run-min marks words b l e n =
+    let f = fit-of mask w h run-min (words - marks) marks (yes (sym e ∙ is-true b n)) in
+    let z : 0 < w * h = mul-pos (f .plane .wide) (f .plane .high) in
+    let r = f .plane .room in
+    record { plane = f .plane; before = omega arith; run = f .run; across = f .across; down = f .down; short = l }
 
-told :
-    (done : Bool) (run-min thick-max w h : ℕ) (m marks : List ℕ) (r : Bool) (marks' : List ℕ) → r ≡ done
-    → marks' ≡ cond r (over (table (cutMark run-min thick-max w h m) (w * h)) marks) marks
-    → RulingsTold done run-min thick-max w h m marks r marks'
-told done run-min thick-max w h m marks r marks' e a =
-    record { answer = e; marked = a ∙ ap (λ (t : Bool). cond t (over (table (cutMark run-min thick-max w h m) (w * h)) marks) marks) e }
+module _ (fit : Bool) (run-min thick-max w h marks : ℕ) (m words : List ℕ) (b : Bool) (e : b ≡ fit) where
+  pub rulings-refused : not b ≡ true → RulingsTold fit run-min thick-max w h marks m words false words
+  rulings-refused n =
+      let f : fit ≡ false = sym e ∙ is-false b n in
+      record {
+        answer = sym f;
+        marked = sym (ap (λ (t : Bool). cond t (over (table (cutMark run-min thick-max w h m) (w * h)) (drop marks words)) (drop marks words)) f);
+        kept = λ _. refl;
+      }
 
-pub rulings-refused :
-    (run-min thick-max w h : ℕ) (m marks : List ℕ) (counters : ℕ) (b : Bool) → b ≡ rulingsFit (length m) w h run-min (length marks) counters → not b ≡ true
-    → RulingsTold (rulingsFit (length m) w h run-min (length marks) counters) run-min thick-max w h m marks false marks
-rulings-refused run-min thick-max w h m marks counters b e n = told _ run-min thick-max w h m marks false marks (sym (is-false b n) ∙ e) refl
-
-pub rulings-marked :
-    (run-min thick-max w h : ℕ) (m marks : List ℕ) (counters : ℕ) (b : Bool) (marks' : List ℕ) → b ≡ rulingsFit (length m) w h run-min (length marks) counters
-    → not b ≡ false
-    → marks' ≡ over (table (cutMark run-min thick-max w h m) (w * h)) marks
-    → RulingsTold (rulingsFit (length m) w h run-min (length marks) counters) run-min thick-max w h m marks true marks'
-rulings-marked run-min thick-max w h m marks counters b marks' e n a = told _ run-min thick-max w h m marks true marks' (sym (is-true b n) ∙ e) a
+  pub rulings-marked : (words' : List ℕ) → not b ≡ false → drop marks words' ≡ over (table (cutMark run-min thick-max w h m) (w * h)) (drop marks words)
+      → RulingsTold fit run-min thick-max w h marks m words true words'
+  rulings-marked words' n a =
+      let f : fit ≡ true = sym e ∙ is-true b n in
+      record {
+        answer = sym f;
+        marked = a ∙ sym (ap (λ (t : Bool). cond t (over (table (cutMark run-min thick-max w h m) (w * h)) (drop marks words)) (drop marks words)) f);
+        kept = λ k. absurd (true≢false (sym f ∙ k));
+      }

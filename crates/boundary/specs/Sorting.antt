@@ -5,7 +5,7 @@ use mathlib.Core.List.{List}
 use Prim.Native.Nat.{ℕ, _+_, _*_}
 use lib.Dec.{eqb, leb}
 use lib.Ieee.{Float}
-use lib.ListN.{length}
+use lib.ListN.{length, drop}
 use Rattle.memory.specs.Limits.{maxMaskDots}
 use Rattle.memory.specs.Lists.{table}
 use Rattle.memory.specs.Words.{over}
@@ -17,7 +17,7 @@ use Rattle.sorting.specs.declared.Unit.{Unit}
 use Rattle.sorting.specs.declared.Unit.the-variants.{Measured, Assumed}
 use Rattle.boundary.specs.Sheet.{sheetOf}
 
--- a mask within its limits and of its length, a word a dot for the marks, a least run of 2, and two counters a place of the longest line
+-- a mask within its limits and of its length, a word a dot for the marks, a least run of 2, and two words a place of the longest line before them
 unfoldable pub rulingsFit : ℕ → ℕ → ℕ → ℕ → ℕ → ℕ → Bool
 rulingsFit mask w h run-min marks counters =
     isMaskSide w
@@ -29,10 +29,11 @@ rulingsFit mask w h run-min marks counters =
     && leb (w + w) counters
     && leb (h + h) counters
 
--- the answer; the marks of both cut masks over the front of the words, or all as it was
-pub record RulingsTold (done : Bool) (run-min thick-max w h : ℕ) (m marks : List ℕ) (r : Bool) (marks' : List ℕ) : Type 0 where
+-- the answer; the marks of both cut masks from word `marks` on, or all as it was
+pub record RulingsTold (done : Bool) (run-min thick-max w h marks : ℕ) (m words : List ℕ) (r : Bool) (words' : List ℕ) : Type 0 where
   pub answer : r ≡ done
-  pub marked : marks' ≡ cond done (over (table (cutMark run-min thick-max w h m) (w * h)) marks) marks
+  pub marked : drop marks words' ≡ cond done (over (table (cutMark run-min thick-max w h m) (w * h)) (drop marks words)) (drop marks words)
+  pub kept : done ≡ false → words' ≡ words
 
 -- a unit, measured or assumed
 abbrev pub unitFor : Bool → Float → Unit

@@ -1,7 +1,7 @@
 // Thin rulings, and the kind of a component by its size.
 ghost use mathlib.Core.Path.{_≡_};
 ghost use mathlib.Core.Bool.{true};
-ghost use Prim.Native.Nat.{_*_};
+ghost use Prim.Native.Nat.{_*_, _-_};
 ghost use lib.ListN.{length};
 ghost use Rattle.params.specs.Valid.{zero};
 ghost use Rattle.sorting.specs.Answers.{isMaskSide};
@@ -47,8 +47,15 @@ fn rulings_fit(
         & (h + h <= counters)
 }
 
-// The dots of thin rulings, a word a dot: 1 in a horizontal one, 2 in a vertical one, 3 in both. False,
-// and nothing written, where something is outside its limits or too short.
+// How many words lie from word `marks` on.
+fn words_behind(words: usize, marks: usize) -> usize
+    ensures { λ r. ⌜ r ≡ words - marks ⌝ }
+{
+    if marks <= words { words - marks } else { 0 }
+}
+
+// The dots of thin rulings, a word a dot from word `marks` on: 1 in a horizontal one, 2 in a vertical one, 3 in
+// both; the words before are worked in. False, and nothing written, where something is outside its limits or too short.
 #[no_mangle]
 pub extern "C" fn novlizeb_thin_rulings(
     ink: &[u8],
@@ -56,22 +63,17 @@ pub extern "C" fn novlizeb_thin_rulings(
     height: u32,
     run_min: u32,
     thick_max: u32,
-    marks: &mut [u32],
-    counters: &mut [u32],
+    words: &mut [u32],
+    marks: u32,
 ) -> bool
-    ensures { λ r. ⌜ RulingsTold (rulingsFit (length (now (ink .entry))) width height «run_min» (length (now (marks .entry))) (length (now (counters .entry)))) «run_min» «thick_max» width height (now (ink .entry)) (now (marks .entry)) r (now (marks .exit)) ⌝ }
+    ensures { λ r. ⌜ RulingsTold (rulingsFit (length (now (ink .entry))) width height «run_min» (length (now (words .entry)) - marks) marks) «run_min» «thick_max» width height marks (now (ink .entry)) (now (words .entry)) r (now (words .exit)) ⌝ }
 {
-    if !rulings_fit(
-        ink.len(),
-        width,
-        height,
-        run_min,
-        marks.len(),
-        counters.len(),
-    ) {
+    let from = marks as usize;
+    let behind = words_behind(words.len(), from);
+    if !rulings_fit(ink.len(), width, height, run_min, behind, from) {
         return false;
     }
-    sorting::thin_rulings(ink, width, height, run_min, thick_max, marks, counters);
+    sorting::thin_rulings(ink, width, height, run_min, thick_max, words, from);
     true
 }
 

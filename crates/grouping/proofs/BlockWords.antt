@@ -2,26 +2,28 @@
 use mathlib.Core.Path.{_≡_, refl, sym, ap, _∙_, subst}
 use mathlib.Core.Bool.{Bool, true, false, cond}
 use mathlib.Core.List.{List, [], _∷_, _++_, map, append-assoc}
-use Prim.Native.Nat.{ℕ, zero, suc, _+_, _*_, _≤_, _<_, min, max}
+use Prim.Native.Nat.{ℕ, zero, suc, _+_, _-_, _*_, _≤_, _<_, min, max}
 use native.Mathlib.Nat.{le-refl, not-suc-le-zero, mul-le-mul-right, suc-mul}
 use native.Mathlib.Decide.{ℕ-discrete}
 use native.Mathlib.Omega.{arith}
 use native.Mathlib.Numerals.{add-one}
 use borrow.Author.Tests.{eq-eqb, ne-eqb, eqb-true}
-use lib.ListN.{getD, length, set, take, drop, length-append, length-set, length-map, length-drop}
-use lib.Seq.{sets, sets-eq, take-at, drop-at, drop-append-add, set-split, split-at, ext-getD, getD-set-same, getD-set-other}
+use lib.ListN.{getD, length, set, take, drop, take-append-drop, length-append, length-set, length-map, length-drop}
+use lib.Seq.{sets, sets-eq, take-at, drop-at, drop-append-add, set-split, split-at, ext-getD, getD-set-same, getD-set-other, getD-take, length-take-le}
+use borrow.Rule.Slice.PartMut.{putMid}
 use lib.Dec.{eqb}
 use Rattle.memory.specs.Lists.{table, upto, keep, countIf}
 use Rattle.memory.specs.Words.{over}
 use Rattle.memory.specs.Records.{encoded}
 use Rattle.memory.proofs.TableLaws.{length-table, getD-table}
 use Rattle.memory.proofs.RecordLaws.{length-encoded, record-more, record-at}
+use Rattle.memory.proofs.PartLaws.{tail-part, tail-put}
 use Rattle.labelling.specs.Rects.{union}
 use Rattle.labelling.specs.Classes.{firstOf}
 use Rattle.labelling.specs.declared.rect.Rect.{Rect}
 use Rattle.grouping.specs.Blocks.{Block, noRect, opensBlock, blockNumber, unionAll, blockOf, blocksOf}
 use Rattle.grouping.specs.Numbering.{blockBox, blockFields, Grown}
-use Rattle.grouping.specs.Words.{blockRecord}
+use Rattle.grouping.specs.Words.{blockRecord, putAt, lineBox, lineBoxes}
 use Rattle.grouping.proofs.ListLaws.{keep-snoc-yes, keep-snoc-no, upto-suc, map-append, keep-few}
 use Rattle.grouping.proofs.CountLaws.{Placed, count-below, count-length, count-place, place-count}
 use Rattle.grouping.proofs.BlockLaws.{getD-map}
@@ -335,3 +337,54 @@ pub written-all : (ls : List Rect) (fs out₀ out : List ℕ) (count i : ℕ) �
 written-all ls fs out₀ out count i w e =
     let z = blocks-to-all ls fs i e in
     (w .count-is ∙ ap length z, w .words ∙ ap (λ (t : List Block). over (encoded blockRecord t) out₀) z)
+
+-- The same behind the lines, in one slice: the blocks stand from word `at` on, and what lies before stays
+
+pub record WrittenBehind (ls : List Rect) (fs words₀ words : List ℕ) (at count i : ℕ) : Type 0 where
+  pub front : take at words ≡ take at words₀
+  pub written : Written ls fs (drop at words₀) (drop at words) count i
+
+pub behind-none : (ls : List Rect) (fs words : List ℕ) (at : ℕ) → WrittenBehind ls fs words words at 0 0
+behind-none ls fs words at = record { front = refl; written = written-none ls fs (drop at words) }
+
+-- a line before `at` is as it was
+pub line-there : (words₀ words : List ℕ) (at i : ℕ) → take at words ≡ take at words₀ → i * 8 + 8 ≤ at → lineBox words i ≡ lineBox words₀ i
+line-there words₀ words at i e h =
+    let same : (j : ℕ) → j < at → getD words j 0 ≡ getD words₀ j 0 = λ j l. sym (getD-take at words j 0 l) ∙ (ap (λ (z : List ℕ). getD z j 0) e ∙ getD-take at words₀ j 0 l) in
+    λ t. record {
+      x0 = same (i * 8) (omega arith) t;
+      y0 = same (i * 8 + 1) (omega arith) t;
+      x1 = same (i * 8 + 2) (omega arith) t;
+      y1 = same (i * 8 + 3) (omega arith) t;
+    }
+
+pub behind-more : (ls : List Rect) (fs words₀ words part : List ℕ) (at count i : ℕ) → ((k : ℕ) → firstOf fs k ≤ k) → ((k : ℕ) → firstOf fs (firstOf fs k) ≡ firstOf fs k)
+    → WrittenBehind ls fs words₀ words at count i → length words ≡ length words₀ → at + (count * 5 + 5) ≤ length words
+    → (l : Rect) (r b : ℕ) → l ≡ getD ls i noRect → b ≡ blockNumber fs i → Grown l b count (take (length words - at) (drop at words)) part r
+    → WrittenBehind ls fs words₀ (putMid at (length words - at) words part) at r (i + 1)
+behind-more ls fs words₀ words part at count i low idem w len room l r b el eb g =
+    let put = tail-put at words part in
+    let size : length (take at words) ≡ at = length-take-le at words (omega arith) in
+    let d : length (drop at words) ≡ length words - at = length-drop at words in
+    let d₀ : length (drop at words₀) ≡ length words₀ - at = length-drop at words₀ in
+    record {
+      front = ap (take at) put ∙ (take-at (take at words) part at size ∙ w .front);
+      written = subst (λ (z : List ℕ). Written ls fs (drop at words₀) z r (i + 1)) (sym (ap (drop at) put ∙ drop-at (take at words) part at size))
+          (written-more ls fs (drop at words₀) (drop at words) count i low idem (w .written) l part r b el eb (omega arith) (omega arith)
+          (subst (λ (z : List ℕ). Grown l b count z part r) (tail-part at words) g));
+    }
+
+-- as long as it was
+pub behind-long : (words part : List ℕ) (at : ℕ) → at ≤ length words → length part ≡ length (take (length words - at) (drop at words))
+    → length (putMid at (length words - at) words part) ≡ length words
+behind-long words part at h e =
+    let d = length-drop at words in
+    let f = ap length (tail-part at words) in
+    let g = length-take-le at words h in
+    ap length (tail-put at words part) ∙ (length-append (take at words) part ∙ (let z : length (take at words) + length part ≡ length words = omega arith in z))
+
+pub behind-all : (ls : List Rect) (fs words₀ words : List ℕ) (at count i : ℕ) → WrittenBehind ls fs words₀ words at count i → i ≡ length ls
+    → (count ≡ length (blocksOf ls fs)) × (words ≡ putAt at (encoded blockRecord (blocksOf ls fs)) words₀)
+behind-all ls fs words₀ words at count i w e =
+    let z = written-all ls fs (drop at words₀) (drop at words) count i (w .written) e in
+    (z .0, sym (take-append-drop at words) ∙ (λ t. w .front t ++ z .1 t))

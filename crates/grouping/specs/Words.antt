@@ -1,8 +1,9 @@
 -- Lines, blocks, columns and glyphs as words (01, "Records lie in lent words"), in the order of 01's printed sheet.
 use mathlib.Core.List.{List, [], _∷_, _++_}
 use Prim.Native.Nat.{ℕ, _+_, _*_, _≤_, _<_}
-use lib.ListN.{getD, length}
+use lib.ListN.{getD, length, take, drop}
 use Rattle.memory.specs.Lists.{table}
+use Rattle.memory.specs.Words.{over}
 use Rattle.labelling.specs.declared.rect.Rect.{Rect}
 use Rattle.grouping.specs.Blocks.{Block}
 use Rattle.grouping.specs.Layouts.{TextLine, GlyphBox}
@@ -38,6 +39,10 @@ columnRecord c = c .x0 ∷ c .x1 ∷ []
 abbrev pub glyphRecord : GlyphBox → List ℕ
 glyphRecord g = g .bbox .x0 ∷ g .bbox .y0 ∷ g .bbox .x1 ∷ g .bbox .y1 ∷ g .area ∷ g .line ∷ []
 
+-- v from word `at` on; what lies before and past it stays
+abbrev pub putAt : ℕ → List ℕ → List ℕ → List ℕ
+putAt at v s = take at s ++ over v (drop at s)
+
 -- word j of each of n records of k words
 abbrev pub fields : ℕ → ℕ → List ℕ → ℕ → List ℕ
 fields k j s n = table (λ i. getD s (i * k + j) 0) n
@@ -72,8 +77,8 @@ pub record Lines (w h n : ℕ) (s : List ℕ) : Type 0 where
   pub room : n * lineWords ≤ length s
   pub boxes : (i : ℕ) → i < n → Inside w h (lineBox s i)
 
--- n lines of a frame h high that go by y0, with so many words of scratch and for the blocks
-pub record Groupable (n h : ℕ) (s : List ℕ) (scratch out : ℕ) : Type 0 where
+-- n lines of a frame h high that go by y0, with so many words of scratch
+pub record Groupable (n h : ℕ) (s : List ℕ) (scratch : ℕ) : Type 0 where
   pub w : ℕ
   pub lines : Lines w h n s
   pub narrow : w ≤ 4294967295
@@ -82,4 +87,3 @@ pub record Groupable (n h : ℕ) (s : List ℕ) (scratch out : ℕ) : Type 0 whe
   pub by-top : ByTop n s
   pub heights : h + 1 ≤ scratch
   pub parents : n ≤ scratch
-  pub room : n * blockWords ≤ out

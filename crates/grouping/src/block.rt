@@ -12,7 +12,7 @@ ghost use Rattle.grouping.specs.Blocks.{lineGap, sharedColumns, overlapp
 ghost use Rattle.grouping.specs.Numbering.{withBlocks};
 ghost use Rattle.labelling.specs.Rects.{height};
 ghost use Rattle.sorting.specs.Units.{median};
-ghost use Rattle.grouping.specs.Words.{Inside, Lines, ByTop, Groupable, lineWords, lineBox, lineBoxes, blockRecord};
+ghost use Rattle.grouping.specs.Words.{Inside, Lines, ByTop, Groupable, lineWords, blockWords, lineBox, lineBoxes, blockRecord, putAt};
 ghost use Rattle.memory.specs.Records.{encoded};
 ghost use Rattle.grouping.specs.Counts.{counts};
 ghost use Rattle.grouping.specs.Joining.{joins, Joined};
@@ -31,30 +31,30 @@ use labelling::unite;
 use params::LayoutParams;
 use sorting::median_of_counts;
 
-// Groups the n lines, which go by y0, into blocks: writes the number of its block into each line and a record a block, five words,
-// into `out`; answers how many blocks there are.
+// Groups the n lines at the front of the words, which go by y0, into blocks: writes the number of its block into each line and a record a
+// block, five words, from the word `at` on; answers how many blocks there are.
 pub fn blocks(
-    lines: &mut [u32],
+    words: &mut [u32],
     n: usize,
     sheet: LayoutParams,
     h: u32,
+    at: usize,
     scratch: &mut [u32],
-    out: &mut [u32],
 ) -> usize
-    requires { ⌜ Groupable n h (now lines) (length (now scratch)) (length (now out)) ⌝ }
-    ensures { λ r. ⌜ (r ≡ length (blocksOf (lineBoxes (now (lines .entry)) n) (blockFirsts sheet (lineBoxes (now (lines .entry)) n))))
-        × (now (out .exit) ≡ over (encoded blockRecord (blocksOf (lineBoxes (now (lines .entry)) n) (blockFirsts sheet (lineBoxes (now (lines .entry)) n)))) (now (out .entry)))
-        × (now (lines .exit) ≡ withBlocks (blockNumber (blockFirsts sheet (lineBoxes (now (lines .entry)) n))) n (now (lines .entry))) ⌝ }
+    requires { ⌜ Groupable n h (now words) (length (now scratch)) × (n * lineWords ≤ at) × (at + n * blockWords ≤ length (now words)) ⌝ }
+    ensures { λ r. ⌜ (r ≡ length (blocksOf (lineBoxes (now (words .entry)) n) (blockFirsts sheet (lineBoxes (now (words .entry)) n))))
+        × (now (words .exit) ≡ withBlocks (blockNumber (blockFirsts sheet (lineBoxes (now (words .entry)) n))) n
+        (putAt at (encoded blockRecord (blocksOf (lineBoxes (now (words .entry)) n) (blockFirsts sheet (lineBoxes (now (words .entry)) n)))) (now (words .entry)))) ⌝ }
 {
-    number_lines(&lines[..], n, sheet, h, scratch);
-    let count = write_blocks(&lines[..], n, &scratch[..], out);
-    write_numbers(lines, n, &scratch[..]);
+    number_lines(&words[..], n, sheet, h, scratch);
+    let count = write_blocks(words, n, &scratch[..], at);
+    write_numbers(words, n, &scratch[..]);
     count
 }
 
 // The number of the block of each line, in the first n words of scratch.
 fn number_lines(lines: &[u32], n: usize, sheet: LayoutParams, h: u32, scratch: &mut [u32])
-    requires { ⌜ ((room : ℕ) × Groupable n h (now lines) (length (now scratch)) room) ⌝ }
+    requires { ⌜ Groupable n h (now lines) (length (now scratch)) ⌝ }
     ensures { λ _. ⌜ ((k : ℕ) → k < n → getD (now (scratch .exit)) k 0 ≡ blockNumber (blockFirsts sheet (lineBoxes (now (lines .entry)) n)) k) ⌝ }
 {
     let limits = gap_limits(lines, n, sheet, h, scratch);

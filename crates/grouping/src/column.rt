@@ -3,7 +3,7 @@ ghost use mathlib.Core.Path.{_≡_};
 ghost use mathlib.Core.List.{List, _∷_, []};
 ghost use mathlib.Core.Bool.{_&&_};
 ghost use Prim.Native.Nat.{ℕ, _+_, _*_, _-_, _≤_, _<_};
-ghost use lib.ListN.{length, getD};
+ghost use lib.ListN.{length, getD, drop};
 ghost use lib.Seq.{sets};
 ghost use Rattle.memory.specs.Lists.{table, greatest, keep, upto};
 ghost use Rattle.memory.specs.Words.{over};
@@ -21,24 +21,25 @@ pub struct Column {
     pub x1: u32,
 }
 
-// Writes the columns that n lines of a frame w wide and h high give, two words a column, and answers how many there are.
+// Writes the columns of a frame w wide, two words each, over the front of the results, from the n lines that stand in them from the
+// word `lines` on; answers how many there are.
 pub fn columns(
-    lines: &[u32],
+    results: &mut [u32],
+    lines: usize,
     n: usize,
     sheet: LayoutParams,
     unit: f64,
     w: usize,
     scratch: &mut [u32],
-    out: &mut [u32],
 ) -> usize
-    requires { ⌜ ((h : ℕ) × Lines w h n (now lines)) × (n ≤ 4294967295) × (w ≤ maxFrameWidth) × (2 * w ≤ length (now scratch)) × (2 * w ≤ length (now out)) ⌝ }
-    ensures { λ r. ⌜ (r ≡ length (columnsOf sheet unit w (lineBoxes (now (lines .entry)) n)))
-        × (now (out .exit) ≡ over (encoded columnRecord (columnsOf sheet unit w (lineBoxes (now (lines .entry)) n))) (now (out .entry))) ⌝ }
+    requires { ⌜ ((h : ℕ) × Lines w h n (drop lines (now results))) × (lines ≤ length (now results)) × (n ≤ 4294967295) × (w ≤ maxFrameWidth) × (2 * w ≤ length (now scratch)) × (2 * w ≤ length (now results)) ⌝ }
+    ensures { λ r. ⌜ (r ≡ length (columnsOf sheet unit w (lineBoxes (drop lines (now (results .entry))) n)))
+        × (now (results .exit) ≡ over (encoded columnRecord (columnsOf sheet unit w (lineBoxes (drop lines (now (results .entry))) n))) (now (results .entry))) ⌝ }
 {
-    let busiest = fill_cover(lines, n, w, scratch);
+    let busiest = fill_cover(&results[lines..], n, w, scratch);
     let gap = rounding::round_to_u32(sheet.column_gap_xh * unit);
     let frac = sheet.column_cover_frac;
-    write_columns(scratch, w, frac, busiest, gap, out)
+    write_columns(scratch, w, frac, busiest, gap, results)
 }
 
 // The count of lines over each frame column, and the greatest of these counts.

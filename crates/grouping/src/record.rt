@@ -4,12 +4,11 @@ ghost use mathlib.Core.List.{List, _∷_, []};
 ghost use Prim.Native.Nat.{ℕ, _+_, _*_, _≤_, _<_};
 ghost use lib.ListN.{length, getD};
 ghost use lib.Seq.{sets};
-ghost use Rattle.memory.specs.Words.{over};
 ghost use Rattle.memory.specs.Records.{encoded};
 ghost use Rattle.labelling.specs.Classes.{firstOf};
 ghost use Rattle.grouping.specs.Blocks.{blockNumber, blocksOf};
 ghost use Rattle.grouping.specs.Numbering.{blockBox, blockFields, Grown};
-ghost use Rattle.grouping.specs.Words.{Lines, lineWords, blockWords, lineBox, lineBoxes, blockRecord};
+ghost use Rattle.grouping.specs.Words.{Lines, lineWords, blockWords, lineBoxes, blockRecord, putAt};
 use crate::block::line_box;
 use crate::numbers::wide;
 use labelling::Rect;
@@ -17,29 +16,30 @@ use labelling::Rect;
 // The words of a block.
 const BLOCK_WORDS: usize = 5;
 
-// Writes the record of each block, from the numbers of the n lines' blocks; answers how many there are.
-pub fn write_blocks(lines: &[u32], n: usize, numbers: &[u32], out: &mut [u32]) -> usize
-    requires { ⌜ ((w h : ℕ) × Lines w h n (now lines)) × (n ≤ 4294967295) × (n ≤ length (now numbers)) × (n * blockWords ≤ length (now out))
+// Writes the record of each block from the word `at` on, from the n lines before it and the numbers of their blocks; answers how many
+// there are.
+pub fn write_blocks(words: &mut [u32], n: usize, numbers: &[u32], at: usize) -> usize
+    requires { ⌜ ((w h : ℕ) × Lines w h n (now words)) × (n ≤ 4294967295) × (n ≤ length (now numbers)) × (n * lineWords ≤ at) × (at + n * blockWords ≤ length (now words))
         × ((fs : List ℕ) × ((k : ℕ) → firstOf fs k ≤ k) × ((k : ℕ) → firstOf fs (firstOf fs k) ≡ firstOf fs k) × ((k : ℕ) → k < n → getD (now numbers) k 0 ≡ blockNumber fs k)) ⌝ }
     ensures { λ r. ⌜ ((fs : List ℕ) → ((k : ℕ) → firstOf fs k ≤ k) → ((k : ℕ) → firstOf fs (firstOf fs k) ≡ firstOf fs k) → ((k : ℕ) → k < n → getD (now (numbers .entry)) k 0 ≡ blockNumber fs k)
-        → (r ≡ length (blocksOf (lineBoxes (now (lines .entry)) n) fs)) × (now (out .exit) ≡ over (encoded blockRecord (blocksOf (lineBoxes (now (lines .entry)) n) fs)) (now (out .entry)))) ⌝ }
+        → (r ≡ length (blocksOf (lineBoxes (now (words .entry)) n) fs)) × (now (words .exit) ≡ putAt at (encoded blockRecord (blocksOf (lineBoxes (now (words .entry)) n) fs)) (now (words .entry)))) ⌝ }
 {
     let mut count = 0;
     let mut i = 0;
     while i < n {
         let b = wide(numbers[i]);
-        count = add_line(lines, i, b, count, out);
+        let line = line_box(&words[..], i);
+        count = add_line(line, b, count, &mut words[at..]);
         i += 1;
     }
     count
 }
 
-// Line i in block b, of `count` so far: it opens the block, or the block grows.
-fn add_line(lines: &[u32], i: usize, b: usize, count: usize, out: &mut [u32]) -> usize
-    requires { ⌜ (i * lineWords + lineWords ≤ length (now lines)) × (b ≤ count) × (count * blockWords + blockWords ≤ length (now out)) × (b < count → getD (now out) (b * blockWords + 4) 0 < 4294967295) ⌝ }
-    ensures { λ r. ⌜ Grown (lineBox (now (lines .entry)) i) b count (now (out .entry)) (now (out .exit)) r ⌝ }
+// A line in block b, of `count` so far: it opens the block, or the block grows.
+fn add_line(line: Rect, b: usize, count: usize, out: &mut [u32]) -> usize
+    requires { ⌜ (b ≤ count) × (count * blockWords + blockWords ≤ length (now out)) × (b < count → getD (now out) (b * blockWords + 4) 0 < 4294967295) ⌝ }
+    ensures { λ r. ⌜ Grown line b count (now (out .entry)) (now (out .exit)) r ⌝ }
 {
-    let line = line_box(lines, i);
     if b == count {
         put_block(out, b, line, 1);
         return count + 1;

@@ -32,6 +32,8 @@ pub mod RunLinkLaws
 pub mod NumberLaws
 -- turns written row by row
 pub mod ExtractLaws
+-- turns of the dots that pass a test, by ink and marks
+pub mod MarkedLaws
 -- nine words
 pub mod NineLaws
 -- labels painted run by run
@@ -42,7 +44,11 @@ pub mod TallyLaws
 pub mod RecordSweepLaws
 -- the stages one after the other
 pub mod StageLaws
+-- the sizes of the first k runs' components, and one run more
+pub mod SizeSweepLaws
 -- which number a call is refused with, and what it leaves
 pub mod EntryLaws
 -- what a reader wants to know of the labelling
 pub mod Theorems
+-- the components of a mask in scratch: what runs, numbers and sizes tell
+pub mod SizeLaws

@@ -8,7 +8,7 @@ use native.Mathlib.Omega.{arith}
 use lib.ListN.{getD, length, set, length-set}
 use lib.Seq.{getD-set-same, getD-set-other}
 use Rattle.labelling.specs.Classes.{renamed}
-use Rattle.labelling.specs.Forests.{joinF, Forest, Found, United}
+use Rattle.labelling.specs.Forests.{joinF, Forest, Found, United, Joined}
 use Rattle.labelling.proofs.FirstLaws.{renamed-case, joinF-b, min-case, max-case}
 
 -- what stands at j after a store at i
@@ -34,6 +34,36 @@ forest-new f p j F own l =
       root = at-set (λ k v. k < suc j → v ≡ k → f k ≡ k) p j j l (λ _ _. own) (λ k ne lk. F .root k (omega arith));
     }
 
+-- j, whose class a run r before it has, gets r for its parent
+pub forest-under : (f : ℕ → ℕ) (p : List ℕ) (j r : ℕ) → Forest f p j → f r ≡ f j → r < j → j < length p → Forest f (set p j r) (suc j)
+forest-under f p j r F e lr l =
+    record {
+      down = at-set (λ k v. k < suc j → v ≤ k) p j r l (λ _. omega arith) (λ k ne lk. F .down k (omega arith));
+      same = at-set (λ k v. k < suc j → f v ≡ f k) p j r l (λ _. e) (λ k ne lk. F .same k (omega arith));
+      root = at-set (λ k v. k < suc j → v ≡ k → f k ≡ k) p j r l (λ _ q. absurd (omega arith)) (λ k ne lk. F .root k (omega arith));
+    }
+
+-- another naming that agrees below n
+forest-ext : (f g : ℕ → ℕ) (p : List ℕ) (n : ℕ) → ((i : ℕ) → i < n → g i ≡ f i) → Forest f p n → Forest g p n
+forest-ext f g p n e F =
+    record {
+      down = F .down;
+      same = λ j l. e (getD p j 0) (let h = F .down j l in omega arith) ∙ (F .same j l ∙ sym (e j l));
+      root = λ j l q. e j l ∙ F .root j l q;
+    }
+
+-- j, alone so far, joins the class of k before it: nothing changes below j
+pub forest-fresh : (f : ℕ → ℕ) (p : List ℕ) (k j : ℕ) → ((i : ℕ) → f i ≤ i) → f j ≡ j → k < j → Forest f p j → Forest (joinF f k j) p j
+forest-fresh f p k j low own l F =
+    forest-ext f (joinF f k j) p j
+    (λ i li. renamed-miss (max (f k) (f j)) (min (f k) (f j)) (f i) (λ z. absurd (let a = low k in let b = low i in omega arith))) F
+
+-- the name of two classes joined is its own
+joinF-least : (f : ℕ → ℕ) → ((k : ℕ) → f (f k) ≡ f k) → (a b lo : ℕ) → lo ≡ min (f a) (f b) → joinF f a b lo ≡ min (f a) (f b)
+joinF-least f idem a b lo el =
+    ap (renamed (max (f a) (f b)) (min (f a) (f b))) (ap f el ∙ min-case (λ z. f z ≡ z) (f a) (f b) (idem a) (idem b))
+    ∙ renamed-case (λ z. z ≡ min (f a) (f b)) (max (f a) (f b)) (min (f a) (f b)) (min (f a) (f b)) (λ _. refl) (λ _. refl)
+
 -- the larger of two roots gets the smaller for its parent
 pub forest-join : (f : ℕ → ℕ) → ((k : ℕ) → f (f k) ≡ f k) → (p : List ℕ) (n a b hi lo : ℕ) → Forest f p n → hi ≡ max (f a) (f b) → lo ≡ min (f a) (f b) → hi < n → n ≤ length p
     → Forest (joinF f a b) (set p hi lo) n
@@ -54,9 +84,7 @@ forest-join f idem p n a b hi lo F eh el l len =
     at-hi = renamed-hit (max (f a) (f b)) (min (f a) (f b)) (f hi) (ap f eh ∙ max-case (λ z. f z ≡ z) (f a) (f b) (idem a) (idem b)) ∙ sym el
 
     at-lo : joinF f a b lo ≡ min (f a) (f b)
-    at-lo =
-        ap (renamed (max (f a) (f b)) (min (f a) (f b))) (ap f el ∙ min-case (λ z. f z ≡ z) (f a) (f b) (idem a) (idem b))
-        ∙ renamed-case (λ z. z ≡ min (f a) (f b)) (max (f a) (f b)) (min (f a) (f b)) (min (f a) (f b)) (λ _. refl) (λ _. refl)
+    at-lo = joinF-least f idem a b lo el
 
 module _ {p p₁ : List ℕ} {root k other : ℕ} (G : Found p p₁ k other) where
   pub united-lower : other < root → United p (set p₁ root other) root k other
@@ -79,6 +107,31 @@ module _ {p p₁ : List ℕ} {root k other : ℕ} (G : Found p p₁ k other) whe
             let h = low k in
             (forest-join f idem p₁ n k j other root (G .keep f n lk len F) (omega arith) (omega arith) (omega arith) (omega arith), (let z : root ≡ min (f k) (f j) = omega arith in z) ∙ sym (joinF-b f k j));
       }
+
+-- one parent, one class
+pub joined-same : (p : List ℕ) (member k : ℕ) → getD p k 0 ≡ member → Joined p p member k member
+joined-same p member k e =
+    record {
+      len = refl;
+      joined = λ f n j lk lm len low idem q F.
+          let s : f k ≡ f j = sym (F .same k lk) ∙ (ap f e ∙ q) in
+          let same : (i : ℕ) → joinF f k j i ≡ f i = λ i. renamed-case (λ z. z ≡ f i) (max (f k) (f j)) (min (f k) (f j)) (f i) (λ h. omega arith) (λ _. refl) in
+          (forest-ext f (joinF f k j) p n (λ i _. same i) F, same member ∙ (q ∙ sym (same j)), lm);
+    }
+
+-- the root of the one, and the other's class
+pub joined-roots : {p p₁ p' : List ℕ} {member root k r : ℕ} → Found p p₁ member root → United p₁ p' root k r → Joined p p' member k r
+joined-roots {p} {p₁} {p'} {member} {root} {k} {r} G U =
+    record {
+      len = U .len ∙ G .len;
+      joined = λ f n j lk lm len low idem q F.
+          let e : root ≡ f member = G .root f n lm len F in
+          let g = G .len in
+          let h = G .low in
+          let J = U .joined f n j lk (omega arith) (omega arith) low idem (sym (e ∙ q)) (G .keep f n lm len F) in
+          let m : r ≡ min (f k) (f j) = J .1 ∙ joinF-b f k j in
+          (J .0, joinF-least f idem k j r m ∙ sym (joinF-b f k j), (let a = low k in omega arith));
+    }
 
 -- own parent just where it names its class
 pub forest-root : (f : ℕ → ℕ) (p : List ℕ) (n : ℕ) → ((k : ℕ) → f k ≤ k) → Forest f p n → (k : ℕ) → k < n → f k ≡ k → getD p k 0 ≡ k

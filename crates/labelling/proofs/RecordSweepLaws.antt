@@ -3,7 +3,7 @@ use mathlib.Core.Path.{_≡_, refl, sym, ap, _∙_}
 use mathlib.Core.List.{List, [], _∷_, _++_}
 use mathlib.Core.Bool.{cond}
 use Prim.Native.Nat.{ℕ, zero, suc, _+_, _-_, _*_, _/_, _%_, _≤_, _<_, max}
-use native.Mathlib.Nat.{le-refl, div-le-self, mod-lt, mul-suc, mul-le-mul-left}
+use native.Mathlib.Nat.{le-refl, div-le-self, div-add-mod', mod-lt, suc-mul, mul-suc, mul-le-mul-left}
 use native.Mathlib.Numerals.{add-one}
 use native.Mathlib.Decide.{ℕ-discrete, decLt}
 use native.Mathlib.Omega.{arith}
@@ -34,7 +34,7 @@ use Rattle.labelling.proofs.TallyLaws.{record-put, record-append, table
 pub first-low : (w c : ℕ) (t : List ℕ) (k : ℕ) → firstRun w c t k ≤ k
 first-low w c t k = firsts-right (touching w t) c .low k
 
-first-same : (w c : ℕ) (t : List ℕ) (k : ℕ) → firstRun w c t (firstRun w c t k) ≡ firstRun w c t k
+pub first-same : (w c : ℕ) (t : List ℕ) (k : ℕ) → firstRun w c t (firstRun w c t k) ≡ firstRun w c t k
 first-same w c t k = let F = firsts-right (touching w t) c in sym (along F (F .sound k))
 
 module _ (rep : ℕ → ℕ) (low : (k : ℕ) → rep k ≤ k) (idem : (k : ℕ) → rep (rep k) ≡ rep k) where
@@ -119,12 +119,12 @@ module _ (w c : ℕ) (s comps₀ : List ℕ) (A : Tallyable w c s comps₀) wher
       let m = mod-lt (start k + (end k - start k - 1)) (A .list .wide) in
       omega arith
 
-  run-absorbed : (k : ℕ) (p : Component) → k < c → absorbDots w (start k) (end k - start k) p ≡ absorbedRun p (start k % w) (end k - start k - 1) (start k / w)
+  pub run-absorbed : (k : ℕ) (p : Component) → k < c → absorbDots w (start k) (end k - start k) p ≡ absorbedRun p (start k % w) (end k - start k - 1) (start k / w)
   run-absorbed k p l =
       ap (λ z. absorbDots w (start k) z p) (let h = A .list .order .some k l in let e : end k - start k ≡ suc (end k - start k - 1) = omega arith in e)
       ∙ absorb-run w (start k) (end k - start k - 1) p (A .list .wide) (run-rows k l)
 
-  run-bounded : (q k x : ℕ) → k ≤ c → ((j : ℕ) → j < k → end j ≤ x) → Bounded (recordTo k q) x
+  pub run-bounded : (q k x : ℕ) → k ≤ c → ((j : ℕ) → j < k → end j ≤ x) → Bounded (recordTo k q) x
   unfolding componentRuns
   run-bounded q zero x l h = record { area = omega arith; sum-x = omega arith; sum-y = omega arith }
   run-bounded q (suc k) x l h =
@@ -150,6 +150,33 @@ module _ (w c : ℕ) (s comps₀ : List ℕ) (A : Tallyable w c s comps₀) wher
   record-small q k l =
       bounded-small (run-bounded q k (start k) (omega arith) (λ j lj. A .list .order .rising j k lj l))
       (let o = A .list .order .some k l in let i = A .within k l in omega arith)
+
+-- the dots from `start` up to `end` lie in row y, from column x to column `last`
+pub record Columns (w start end x last y : ℕ) : Type 0 where
+  pub from : x ≡ start % w
+  pub upto : last ≡ x + (end - start - 1)
+  pub row : y ≡ start / w
+
+-- the row that dot `start` lies in starts at `base`
+pub row-base : (w start y : ℕ) → y ≡ start / w → (y * w ≤ start) × (start - y * w ≡ start % w)
+row-base w start y e =
+    let m : y * w ≡ start / w * w = ap (λ z. z * w) e in
+    let d = div-add-mod' start w in
+    (omega arith, omega arith)
+
+pub row-columns : (w start end y : ℕ) → y ≡ start / w → start < end → Columns w start end (start - y * w) (end - y * w - 1) y
+row-columns w start end y e l =
+    let r = row-base w start y e in
+    let r₀ = r .0 in
+    record { from = r .1; upto = omega arith; row = e }
+
+-- `rows` end no later than the row of the next run
+pub rows-next : (w start next rows : ℕ) → rows ≡ start / w + 1 → start ≤ next → rows * w ≤ next + w
+rows-next w start next rows e l =
+    let m : rows * w ≡ suc (start / w) * w = ap (λ z. z * w) (let q : rows ≡ suc (start / w) = omega arith in q) in
+    let n : suc (start / w) * w ≡ start / w * w + w = suc-mul (start / w) w in
+    let d = div-add-mod' start w in
+    omega arith
 
 -- the first k runs are tallied
 pub record TallySweep (w c : ℕ) (s comps₀ comps : List ℕ) (k count : ℕ) : Type 0 where
@@ -262,19 +289,27 @@ module _ {w c : ℕ} {s comps₀ comps : List ℕ} {k count : ℕ} (S : TallySwe
           (ap (λ z. recordOf (take 9 (drop ((N - 1) * 9) z))) (S .words)
           ∙ (record-read (table g C) rest (N - 1) noDots (omega arith) ∙ getD-table g C (N - 1) noDots (omega arith)))
 
-  pub tally-asks : (number start end : ℕ) → number ≡ N → start ≡ startOf (take (2 * c) s) k → end ≡ endOf (take (2 * c) s) 0 k → RunTallyable comps number count start end w
-  tally-asks number start end en es ee =
+  pub tally-asks : (number start end x last y : ℕ) → number ≡ N → start ≡ startOf (take (2 * c) s) k → end ≡ endOf (take (2 * c) s) 0 k → Columns w start end x last y
+      → RunTallyable comps number count x last y
+  tally-asks number start end x last y en es ee K =
       let p = number-room in
       let q = tally-long S in
-      rw (en, es, ee)
+      let i = S .asks .within k lk in
+      let o = S .asks .list .order .some k lk in
+      let h = run-width w c s comps₀ A k lk in
+      let m = ap (λ z. z % w) es in
+      let d = div-le-self start w in
+      let k₁ = K .from in
+      let k₂ = K .upto in
+      let k₃ = K .row in
+      let g = S .asks .list .narrow in
+      rw en
       (record {
         counted = some-number;
         room = omega arith;
-        wide = S .asks .list .wide;
-        narrow = S .asks .list .narrow;
-        some = S .asks .list .order .some k lk;
-        dots = S .asks .within k lk;
-        row = run-width w c s comps₀ A k lk;
+        some = omega arith;
+        narrow = omega arith;
+        low = omega arith;
         small = rw held-is (record-small w c s comps₀ A (N - 1) k lk);
       })
 
@@ -291,22 +326,25 @@ module _ {w c : ℕ} {s comps₀ comps : List ℕ} {k count : ℕ} (S : TallySwe
   unfolding componentRuns
   other-is q ne = rw (ne-eqb N (suc q) ne) refl
 
-  pub tally-more : (number start end : ℕ) → number ≡ N → start ≡ startOf (take (2 * c) s) k → end ≡ endOf (take (2 * c) s) 0 k → (comps' : List ℕ) (count' : ℕ)
-      → comps' ≡ tallied comps number count start end w → count' ≡ max count number → TallySweep w c s comps₀ comps' (k + 1) count'
-  tally-more number start end en es ee comps' count' ew ec =
+  pub tally-more : (number start end x last y : ℕ) → number ≡ N → start ≡ startOf (take (2 * c) s) k → end ≡ endOf (take (2 * c) s) 0 k → Columns w start end x last y
+      → (comps' : List ℕ) (count' : ℕ) → comps' ≡ tallied comps number count x (last - x) y → count' ≡ max count number → TallySweep w c s comps₀ comps' (k + 1) count'
+  tally-more number start end x last y en es ee K comps' count' ew ec =
+      let k₂ = K .upto in
+      let d : last - x ≡ endOf (take (2 * c) s) 0 k - startOf (take (2 * c) s) k - 1 = omega arith in
       record {
         asks = S .asks;
         upto = omega arith;
         count-is = ec ∙ (ap (λ z. max z number) (S .count-is) ∙ (ap (max C) en ∙ (next-count ∙ ap (countIf (isRoot f)) (sym (add-one k)))));
         words =
             ew
-            ∙ (ap (λ z. tallied comps z count start end w) en
-            ∙ (ap (λ z. tallied comps N count z end w) es
-            ∙ (ap (λ z. tallied comps N count (startOf (take (2 * c) s) k) z w) ee
+            ∙ (ap (λ z. tallied comps z count x (last - x) y) en
+            ∙ (ap (λ z. tallied comps N count z (last - x) y) (K .from ∙ ap (λ z. z % w) es)
+            ∙ (ap (λ z. tallied comps N count (startOf (take (2 * c) s) k % w) z y) d
+            ∙ (ap (λ z. tallied comps N count (startOf (take (2 * c) s) k % w) (endOf (take (2 * c) s) 0 k - startOf (take (2 * c) s) k - 1) z) (K .row ∙ ap (λ z. z / w) es)
             ∙ (ap (λ z. take ((N - 1) * 9) comps ++ (recordWords z ++ drop ((N - 1) * 9 + 9) comps)) absorbed-is
             ∙ (ap (λ z. take ((N - 1) * 9) z ++ (recordWords (g' (N - 1)) ++ drop ((N - 1) * 9 + 9) z)) (S .words)
             ∙ (records-more g g' C N (countIf (isRoot f) (suc k)) comps₀ (sym next-count) (count-step (isRoot f) k) some-number number-room other-is
-            ∙ ap (λ z. over (records w c s z) comps₀) (sym (add-one k))))))));
+            ∙ ap (λ z. over (records w c s z) comps₀) (sym (add-one k)))))))));
       }
 
 pub tally-done : {w c : ℕ} {s comps₀ comps : List ℕ} {k count : ℕ} → TallySweep w c s comps₀ comps k count → c ≤ k → comps ≡ over (records w c s c) comps₀

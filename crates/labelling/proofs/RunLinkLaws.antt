@@ -2,23 +2,25 @@
 use mathlib.Core.Path.{_≡_, refl, sym, ap, _∙_, subst}
 use mathlib.Core.List.{List, [], _++_}
 use mathlib.Core.Bool.{Bool, true, false, _&&_}
-use Prim.Native.Nat.{ℕ, zero, suc, _+_, _-_, _*_, _/_, _≤_, _<_}
+use Prim.Native.Nat.{ℕ, zero, suc, _+_, _-_, _*_, _/_, _≤_, _<_, min, max}
 use native.Mathlib.Nat.{le-refl, not-suc-le-zero, suc-mul, mul-le-mul-right, div-add-mod', mul-add-div-right, div-eq-of-lt}
 use native.Mathlib.Numerals.{add-one}
 use native.Mathlib.Decide.{ℕ-discrete, decLt}
 use native.Mathlib.Omega.{arith}
 use borrow.Author.Tests.{le-leb, lt-leb, eq-eqb, ne-eqb}
 use lib.ListN.{getD, length, set, take, drop, length-append, length-drop, length-set}
-use lib.Seq.{getD-take, take-at, drop-at, length-take-le, take-set-le, drop-set-add}
+use lib.Seq.{getD-take, getD-drop, take-at, drop-at, length-take-le, take-set-le, drop-set-add}
 use lib.Dec.{eqb, leb}
 use Rattle.memory.specs.Limits.{maxMaskSide}
+use Rattle.labelling.specs.Classes.{renamed}
 use Rattle.labelling.specs.InkRuns.{startOf, endOf, touchRuns}
-use Rattle.labelling.specs.Forests.{Forest, United, joinF}
-use Rattle.labelling.specs.Linking.{touching, Order, RunList, Kept, Linked, Joining, Under, Linkable, Joinable, Skipped, LinkedOne, RowLinkable, LinkedTo, RowEnd, AllLinked, firstRun}
+use Rattle.labelling.specs.Forests.{Forest, Seen, Joined, joinF}
+use Rattle.labelling.specs.Linking.{touching, Order, RunList, Kept, Linked, Joining, Under, Linkable, Joinable, Skipped, Parented, LinkedOne, RowLinkable, LinkedTo, RowEnd, AllLinked, firstRun}
 use Rattle.labelling.proofs.LinkLaws.{seen-none, seen-skip, seen-join, seen-next, seen-all}
 use Rattle.labelling.proofs.TouchLaws.{row-rise}
 use Rattle.labelling.proofs.TransferLaws.{named-firsts}
-use Rattle.labelling.proofs.ParentLaws.{forest-new}
+use Rattle.labelling.proofs.ParentLaws.{forest-new, forest-under, forest-fresh}
+use Rattle.labelling.proofs.FirstLaws.{joinF-a, joinF-b}
 
 and-off : (x : Bool) → (x && false) ≡ false
 and-off true = refl
@@ -101,48 +103,98 @@ module _ {w c : ℕ} {s : List ℕ} (R : RunList w c s) where
 
 -- The sweep over the runs above run j: those below k are passed
 
-pub record Sweep (w c : ℕ) (s₀ s : List ℕ) (first to j k root : ℕ) : Type 0 where
-  pub list : RunList w c s₀
-  pub under : Under w c (take (2 * c) s₀) first to j
-  pub reach : first < to → startOf (take (2 * c) s₀) j ≤ endOf (take (2 * c) s₀) 0 first + w
+pub record Sweep (w c : ℕ) (s₀ s : List ℕ) (first to j k member : ℕ) : Type 0 where
+  pub asks : Joinable w c s₀ first to j
   pub kept : Kept c s₀ s
-  pub from : first ≤ k
+  pub from : first < k
   pub upto : k ≤ to
-  pub joining : Joining w c (take (2 * c) s₀) (drop (2 * c) s) j k root
+  pub joining : Joining w c (take (2 * c) s₀) (drop (2 * c) s) j k member
 
-module _ {w c first to j : ℕ} {s₀ s : List ℕ} {k root : ℕ} (S : Sweep w c s₀ s first to j k root) where
-  sweep-low : root ≤ j
-  sweep-low = let e = S .joining .own in let h = S .joining .seen .low j in omega arith
+module _ {w c first to j : ℕ} {s : List ℕ} (A : Joinable w c s first to j) where
+  -- run j has met those before `first`, none of which it touches
+  met-before : Seen (touching w (take (2 * c) s)) c (A .linked .rep) j first
+  met-before =
+      let L = A .linked in
+      seen-skip (touching w (take (2 * c) s)) c (L .rep) j 0 first (omega arith) (L .seen) (λ a l₁ l₂ l₃. A .under .left a j l₂ (le-refl j) (A .under .high))
 
-  -- what `unite` asks
-  pub sweep-asks : k < to → (k < length (drop (2 * c) s)) × (root < length (drop (2 * c) s)) × (k < 4294967296) × (root < 4294967296) × ((i : ℕ) → i ≤ k → getD (drop (2 * c) s) i 0 ≤ i)
+  -- run j touches none from `first` on
+  none-touched : ((a : ℕ) → first ≤ a → a < j → touching w (take (2 * c) s) a j ≡ false) → Parented w c s s j j
+  none-touched h =
+      let L = A .linked in
+      let u₁ = A .under .low in
+      let u₂ = A .under .mid in
+      record {
+        kept = kept-none c s;
+        low = le-refl j;
+        linked =
+            record {
+              rep = L .rep;
+              seen = seen-next (touching w (take (2 * c) s)) c (L .rep) j (seen-skip (touching w (take (2 * c) s)) c (L .rep) j first j (omega arith) met-before (λ a l₁ l₂ l₃. h a l₁ l₂));
+              forest = forest-new (L .rep) (drop (2 * c) s) j (L .forest) (L .seen .own refl) (parents-long (A .list) j (A .under .high));
+            };
+      }
+
+  pub none-above : to ≤ first → Parented w c s s j j
+  none-above h = none-touched (λ a l₁ l₂. A .under .beside a (omega arith) l₂)
+
+  pub none-left : first < to → endOf (take (2 * c) s) 0 j < startOf (take (2 * c) s) first + w → Parented w c s s j j
+  none-left l h = none-touched (λ a l₁ l₂. let u = A .under .high in stop-right w c (take (2 * c) s) (A .list .order) first a j l₁ (omega arith) h)
+
+  -- run j touches `first`, whose parent is of its class then
+  pub sweep-first : first < to → startOf (take (2 * c) s) first + w ≤ endOf (take (2 * c) s) 0 j → (member : ℕ) → member ≡ getD s (2 * c + first) 0 → Sweep w c s s first to j (first + 1) member
+  sweep-first l t member em =
+      let L = A .linked in
+      let f = L .rep in
+      let p = drop (2 * c) s in
+      let u₁ = A .under .mid in
+      let below : first < j = omega arith in
+      let e : member ≡ getD p first 0 = em ∙ sym (getD-drop (2 * c) s first 0) in
+      let touch : touching w (take (2 * c) s) first j ≡ true = touch-sure w (take (2 * c) s) first j (A .under .above first (le-refl first) l) t (A .reach l) in
+      let d = L .forest .down first below in
+      record {
+        asks = A;
+        kept = kept-none c s;
+        from = omega arith;
+        upto = omega arith;
+        joining =
+            record {
+              rep = joinF f first j;
+              seen = rw (add-one first) (seen-join (touching w (take (2 * c) s)) c f j first below (A .under .high) touch met-before);
+              forest = forest-fresh f p first j (L .seen .low) (L .seen .own refl) below (L .forest);
+              own = ap (joinF f first j) e ∙ (ap (renamed (max (f first) (f j)) (min (f first) (f j))) (L .forest .same first below) ∙ (joinF-a f first j ∙ sym (joinF-b f first j)));
+              low = omega arith;
+            };
+      }
+
+module _ {w c first to j : ℕ} {s₀ s : List ℕ} {k member : ℕ} (S : Sweep w c s₀ s first to j k member) where
+  -- what `join` asks
+  pub sweep-asks : k < to
+      → (k < length (drop (2 * c) s)) × (member < length (drop (2 * c) s)) × (k < 4294967296) × (member < 4294967296) × ((i : ℕ) → i ≤ max member k → getD (drop (2 * c) s) i 0 ≤ i)
   sweep-asks l =
-      let u₁ = S .under .mid in
-      let u₂ = S .under .high in
-      let h = sweep-low in
-      let f = S .list .few in
-      let L = kept-list (S .kept) (S .list) in
-      (parents-long L k (omega arith), parents-long L root (omega arith), omega arith, omega arith, λ i q. S .joining .forest .down i (omega arith))
+      let u₁ = S .asks .under .mid in
+      let u₂ = S .asks .under .high in
+      let h = S .joining .low in
+      let f = S .asks .list .few in
+      let L = kept-list (S .kept) (S .asks .list) in
+      (parents-long L k (omega arith), parents-long L member (omega arith), omega arith, omega arith, λ i q. S .joining .forest .down i (omega arith))
 
-  pub sweep-more : k < to → startOf (take (2 * c) s₀) k + w ≤ endOf (take (2 * c) s₀) 0 j → (p : List ℕ) (r : ℕ) → United (drop (2 * c) s) p root k r
+  pub sweep-more : k < to → startOf (take (2 * c) s₀) k + w ≤ endOf (take (2 * c) s₀) 0 j → (p : List ℕ) (r : ℕ) → Joined (drop (2 * c) s) p member k r
       → Sweep w c s₀ (take (2 * c) s ++ p) first to j (k + 1) r
   sweep-more l t p r U =
-      let u₁ = S .under .mid in
-      let u₂ = S .under .high in
+      let A = S .asks in
+      let u₁ = A .under .mid in
+      let u₂ = A .under .high in
       let fr = S .from in
-      let L = kept-list (S .kept) (S .list) in
+      let L = kept-list (S .kept) (A .list) in
       let t₀ = take (2 * c) s₀ in
       let J = S .joining in
-      let lo = sweep-low in
-      let e₁ = S .reach (omega arith) in
-      let e₂ = ends-up w c t₀ (S .list .order) first k (S .from) (omega arith) in
-      let touch : touching w t₀ k j ≡ true = touch-sure w t₀ k j (S .under .above k (S .from) l) t (omega arith) in
-      let n : suc j ≤ length (drop (2 * c) s) = parents-long L j u₂ in
-      let F = U .joined (J .rep) (suc j) j (omega arith) (omega arith) n (J .seen .low) (J .seen .idem) (J .own) (J .forest) in
+      let e₁ = A .reach (omega arith) in
+      let e₂ = ends-up w c t₀ (A .list .order) first k (omega arith) (omega arith) in
+      let touch : touching w t₀ k j ≡ true = touch-sure w t₀ k j (A .under .above k (omega arith) l) t (omega arith) in
+      let n : j < length (drop (2 * c) s) = parents-long L j u₂ in
+      let F = U .joined (J .rep) j j (omega arith) (J .low) (omega arith) (J .seen .low) (J .seen .idem) (J .own) (J .forest) in
       record {
-        list = S .list;
-        under = S .under;
-        reach = S .reach;
+        asks = A;
         kept = kept-trans (S .kept) (kept-parents L p (U .len));
         from = omega arith;
         upto = omega arith;
@@ -151,95 +203,81 @@ module _ {w c first to j : ℕ} {s₀ s : List ℕ} {k root : ℕ} (S : Sweep w 
               rep = joinF (J .rep) k j;
               seen = rw (add-one k) (seen-join (touching w t₀) c (J .rep) j k (omega arith) u₂ touch (J .seen));
               forest = rw (new-parents L p) (F .0);
-              own = sym (F .1);
+              own = F .1;
+              low = F .2;
             };
       }
 
   -- run j touches none of those left
-  sweep-done : ((a : ℕ) → k ≤ a → a < j → touching w (take (2 * c) s₀) a j ≡ false) → LinkedTo w c s₀ s (suc j)
+  sweep-done : ((a : ℕ) → k ≤ a → a < j → touching w (take (2 * c) s₀) a j ≡ false) → Parented w c s₀ s j member
   sweep-done h =
-      let u₁ = S .under .mid in
+      let A = S .asks in
+      let u₁ = A .under .mid in
       let u₂ = S .upto in
       let J = S .joining in
+      let l = J .low in
       record {
         kept = S .kept;
+        low = omega arith;
         linked =
             record {
               rep = J .rep;
               seen = seen-next (touching w (take (2 * c) s₀)) c (J .rep) j (seen-skip (touching w (take (2 * c) s₀)) c (J .rep) j k j (omega arith) (J .seen) (λ a l₁ l₂ l₃. h a l₁ l₂));
-              forest = J .forest;
+              forest = forest-under (J .rep) (drop (2 * c) s) j member (J .forest) (J .own) (J .low) (parents-long (kept-list (S .kept) (A .list)) j (A .under .high));
             };
       }
 
-  pub sweep-stop : endOf (take (2 * c) s₀) 0 j < startOf (take (2 * c) s₀) k + w → LinkedTo w c s₀ s (suc j)
-  sweep-stop h = sweep-done (λ a l₁ l₂. let u = S .under .high in stop-right w c (take (2 * c) s₀) (S .list .order) k a j l₁ (omega arith) h)
+  pub sweep-stop : k < to → endOf (take (2 * c) s₀) 0 j < startOf (take (2 * c) s₀) k + w → Parented w c s₀ s j member
+  sweep-stop l h = sweep-done (λ a l₁ l₂. let u = S .asks .under .high in stop-right w c (take (2 * c) s₀) (S .asks .list .order) k a j l₁ (omega arith) h)
 
-  pub sweep-end : to ≤ k → LinkedTo w c s₀ s (suc j)
-  sweep-end h = sweep-done (λ a l₁ l₂. S .under .beside a (omega arith) l₂)
+  pub sweep-end : to ≤ k → Parented w c s₀ s j member
+  sweep-end h = sweep-done (λ a l₁ l₂. S .asks .under .beside a (omega arith) l₂)
 
 -- One run
 
-module _ {w c i to j : ℕ} {s : List ℕ} (A : Linkable w c s i to j) where
-  own-kept : Kept c s (set s (2 * c + j) j)
-  own-kept = record { len = length-set s (2 * c + j) j; runs = take-set-le (2 * c) s (2 * c + j) j (omega arith) }
+module _ {w c i to j : ℕ} {s : List ℕ} (A : Linkable w c s i to j) (first start : ℕ) (K : Skipped w i to start s first) (e : start ≡ getD s (2 * j) 0) where
+  start-is : start ≡ startOf (take (2 * c) s) j
+  start-is = e ∙ kept-word (kept-none c s) (2 * j) (let h = A .under .high in omega arith)
 
-  module _ (first start : ℕ) (K : Skipped w i to start (set s (2 * c + j) j) first) (e : start ≡ getD (set s (2 * c + j) j) (2 * j) 0) where
-    start-is : start ≡ startOf (take (2 * c) s) j
-    start-is = e ∙ kept-word own-kept (2 * j) (let h = A .under .high in omega arith)
+  passed : (a k : ℕ) → a < first → j ≤ k → k < c → touching w (take (2 * c) s) a k ≡ false
+  passed a k l l₂ l₃ = go (decLt a i)
+    where
+      go : Dec (a < i) → touching w (take (2 * c) s) a k ≡ false
+      go (yes q) = A .under .left a k q l₂ l₃
+      go (no q) =
+          let u = K .upto in
+          let v = A .under .mid in
+          let h = K .left a (omega arith) l in
+          let x = kept-word (kept-none c s) (2 * a + 1) (omega arith) in
+          let y = start-is in
+          skip-left w c (take (2 * c) s) (A .list .order) a a j k (le-refl a) (omega arith) l₂ l₃ (omega arith)
 
-    passed : (a k : ℕ) → a < first → j ≤ k → k < c → touching w (take (2 * c) s) a k ≡ false
-    passed a k l l₂ l₃ = go (decLt a i)
-      where
-        go : Dec (a < i) → touching w (take (2 * c) s) a k ≡ false
-        go (yes q) = A .under .left a k q l₂ l₃
-        go (no q) =
-            let u = K .upto in
-            let v = A .under .mid in
-            let h = K .left a (omega arith) l in
-            let x = kept-word own-kept (2 * a + 1) (omega arith) in
-            let y = start-is in
-            skip-left w c (take (2 * c) s) (A .list .order) a a j k (le-refl a) (omega arith) l₂ l₃ (omega arith)
+  pub one-joinable : Joinable w c s first to j
+  one-joinable =
+      record {
+        list = A .list;
+        under =
+            record {
+              low = K .upto;
+              mid = A .under .mid;
+              high = A .under .high;
+              left = passed;
+              above = λ a l. let h = K .from in A .under .above a (omega arith);
+              beside = A .under .beside;
+            };
+        reach = λ l. let u = A .under .mid in let v = A .under .high in let x = K .here l in let y = start-is in let z = kept-word (kept-none c s) (2 * first + 1) (omega arith) in omega arith;
+        linked = A .linked;
+      }
 
-    under-first : Under w c (take (2 * c) s) first to j
-    under-first =
-        record {
-          low = K .upto;
-          mid = A .under .mid;
-          high = A .under .high;
-          left = passed;
-          above = λ a l. let h = K .from in A .under .above a (omega arith);
-          beside = A .under .beside;
-        }
-
-    pub one-joinable : Joinable w c (set s (2 * c + j) j) first to j
-    one-joinable =
-        let t = take (2 * c) s in
-        let q = own-kept .runs in
-        let h = A .under .high in
-        let L = A .linked in
-        record {
-          list = kept-list own-kept (A .list);
-          under = rw q under-first;
-          reach = rw q (λ l. let u = A .under .mid in let x = K .here l in let y = start-is in let z = kept-word own-kept (2 * first + 1) (omega arith) in omega arith);
-          joining =
-              rw (q, drop-set-add (2 * c) s j j)
-              (record {
-                rep = L .rep;
-                seen = seen-skip (touching w t) c (L .rep) j 0 first (omega arith) (L .seen) (λ a l₁ l₂ l₃. passed a j l₂ (le-refl j) h);
-                forest = forest-new (L .rep) (drop (2 * c) s) j (L .forest) (L .seen .own refl) (parents-long (A .list) j h);
-                own = L .seen .own refl;
-              });
-        }
-
-    pub one-linked : (s' : List ℕ) → LinkedTo w c (set s (2 * c + j) j) s' (suc j) → LinkedOne w c s s' i to j first
-    one-linked s' l =
-        record {
-          kept = kept-trans own-kept (l .kept);
-          from = K .from;
-          upto = K .upto;
-          left = passed;
-          linked = subst (λ t. Linked w c t (drop (2 * c) s') (suc j)) (own-kept .runs) (l .linked);
-        }
+  pub one-linked : (s' : List ℕ) (r : ℕ) → Parented w c s s' j r → LinkedOne w c s (set s' (2 * c + j) r) i to j first
+  one-linked s' r P =
+      record {
+        kept = kept-trans (P .kept) (record { len = length-set s' (2 * c + j) r; runs = take-set-le (2 * c) s' (2 * c + j) r (omega arith) });
+        from = K .from;
+        upto = K .upto;
+        left = passed;
+        linked = subst (λ p. Linked w c (take (2 * c) s) p (suc j)) (sym (drop-set-add (2 * c) s' j r)) (P .linked);
+      }
 
 -- One row: the runs below j are linked, and those before i touch none from j on
 
@@ -312,7 +350,7 @@ row-at w base y s hw e l₁ l₂ =
     let z : (s - base) / w ≡ 0 = div-eq-of-lt (let h : s - base < w = omega arith in h) in
     ap (λ n. n / w) q ∙ (mul-add-div-right hw y (s - base) ∙ (let x : y + (s - base) / w ≡ y = omega arith in x))
 
-row-above : (w base y s : ℕ) → 0 < w → base ≡ y * w → base ≤ s + w → s < base → s / w + 1 ≡ y
+pub row-above : (w base y s : ℕ) → 0 < w → base ≡ y * w → base ≤ s + w → s < base → s / w + 1 ≡ y
 row-above w base zero s hw e l₁ l₂ = absurd (let z : zero * w ≡ 0 = omega arith in omega arith)
 row-above w base (suc y) s hw e l₁ l₂ =
     let m : suc y * w ≡ y * w + w = suc-mul y w in

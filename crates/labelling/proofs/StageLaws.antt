@@ -32,7 +32,7 @@ use Rattle.memory.proofs.PartLaws.{tail-part, tail-put}
 use Rattle.labelling.proofs.RecordSweepLaws.{first-low}
 
 -- the labelling by the words that hold its runs
-labelling-by-words : (w h : ℕ) (m : List ℕ) → 0 < w → (t : List ℕ) (c : ℕ) → t ≡ turns w m (w * h) → c ≡ runCount w m (w * h)
+pub labelling-by-words : (w h : ℕ) (m : List ℕ) → 0 < w → (t : List ℕ) (c : ℕ) → t ≡ turns w m (w * h) → c ≡ runCount w m (w * h)
     → labelling w h m
     ≡ record {
       labels = table (runLabel w m (firstRun w c t)) (w * h);
@@ -51,7 +51,7 @@ labelling-by-words w h m hw t c et ec =
       components = table (λ q. componentRuns w (startOf t) (endOf t 0) (firstRun w z t) (suc q) z) (countIf (isRoot (firstRun w z t)) z);
     }) (sym ec))
 
-half-fits : (w h : ℕ) → 0 < w → h * ((w + 1) / 2) ≤ w * h
+pub half-fits : (w h : ℕ) → 0 < w → h * ((w + 1) / 2) ≤ w * h
 half-fits w h hw = let e = mul-comm w h in let g : h * ((w + 1) / 2) ≤ h * w = mul-le-mul-left h (let q : (w + 1) / 2 ≤ w = omega arith in q) in omega arith
 
 module _ {w h : ℕ} {m : List ℕ} {P : ℕ} {labels comps s₀ : List ℕ} (W : Workable w h m P labels comps s₀) where

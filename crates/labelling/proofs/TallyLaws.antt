@@ -2,7 +2,7 @@
 use mathlib.Core.Path.{_≡_, refl, sym, ap, _∙_}
 use mathlib.Core.List.{List, [], _∷_, _++_, append-assoc}
 use Prim.Native.Nat.{ℕ, zero, suc, _+_, _-_, _*_, _/_, _%_, _≤_, _<_}
-use native.Mathlib.Nat.{not-suc-le-zero, le-of-suc-le-suc, suc-mul, div-le-self, mod-add-div'}
+use native.Mathlib.Nat.{not-suc-le-zero, le-of-suc-le-suc, suc-mul, mod-add-div'}
 use native.Mathlib.Decide.{ℕ-discrete}
 use native.Mathlib.Omega.{arith}
 use borrow.Rule.Slice.PartMut.{putMid}
@@ -27,23 +27,11 @@ nine-part at s = ap (λ z. take z (drop at s)) (let e : at + 9 - at ≡ 9 = omeg
 nine-put : (at : ℕ) (s v : List ℕ) → putMid at (at + 9 - at) s v ≡ take at s ++ (v ++ drop (at + 9) s)
 nine-put at s v = ap (λ z. take at s ++ (v ++ z)) (drop-drop (at + 9 - at) at s ∙ ap (λ z. drop z s) (let e : at + (at + 9 - at) ≡ at + 9 = omega arith in e))
 
-pub run-tallied : (s : List ℕ) (number count start end w : ℕ) (before after : Component) (v : List ℕ)
-    → before ≡ heldRecord s number count
-    → after ≡ absorbedRun before (start % w) (start % w + (end - start - 1) - start % w) (start / w)
-    → v ≡ recordWords after
-    → putMid ((number - 1) * 9) ((number - 1) * 9 + 9 - (number - 1) * 9) s v ≡ tallied s number count start end w
-run-tallied s number count start end w before after v eb ea ev =
+pub run-tallied : (s : List ℕ) (number count x d y : ℕ) (before after : Component) (v : List ℕ) → before ≡ heldRecord s number count → after ≡ absorbedRun before x d y → v ≡ recordWords after
+    → putMid ((number - 1) * 9) ((number - 1) * 9 + 9 - (number - 1) * 9) s v ≡ tallied s number count x d y
+run-tallied s number count x d y before after v eb ea ev =
     nine-put ((number - 1) * 9) s v
-    ∙ ap (λ z. take ((number - 1) * 9) s ++ (z ++ drop ((number - 1) * 9 + 9) s))
-    (ev ∙ ap recordWords
-    (ea ∙ (ap (λ z. absorbedRun z (start % w) (start % w + (end - start - 1) - start % w) (start / w)) eb
-    ∙ ap (λ z. absorbedRun (heldRecord s number count) (start % w) z (start / w)) (back (start % w) (end - start - 1)))))
-  where
-    back : (x d : ℕ) → x + d - x ≡ d
-    back x d = omega arith
-
-pub row-small : (start w : ℕ) → start / w ≤ start
-row-small start w = div-le-self start w
+    ∙ ap (λ z. take ((number - 1) * 9) s ++ (z ++ drop ((number - 1) * 9 + 9) s)) (ev ∙ ap recordWords (ea ∙ ap (λ z. absorbedRun z x d y) eb))
 
 -- Records in a list of them
 

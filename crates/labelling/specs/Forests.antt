@@ -46,3 +46,9 @@ pub record United (p p' : List ℕ) (root k r : ℕ) : Type 0 where
   pub len : length p' ≡ length p
   pub joined : (f : ℕ → ℕ) (n j : ℕ) → k < n → root < n → n ≤ length p → ((i : ℕ) → f i ≤ i) → ((i : ℕ) → f (f i) ≡ f i) → f j ≡ root → Forest f p n
       → Forest (joinF f k j) p' n × (r ≡ joinF f k j j)
+
+-- the class of k and that of `member` have become one, and r is of it
+pub record Joined (p p' : List ℕ) (member k r : ℕ) : Type 0 where
+  pub len : length p' ≡ length p
+  pub joined : (f : ℕ → ℕ) (n j : ℕ) → k < n → member < n → n ≤ length p → ((i : ℕ) → f i ≤ i) → ((i : ℕ) → f (f i) ≡ f i) → f member ≡ f j → Forest f p n
+      → Forest (joinF f k j) p' n × (joinF f k j r ≡ joinF f k j j) × (r < n)

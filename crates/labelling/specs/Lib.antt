@@ -28,5 +28,9 @@ pub mod Painting
 pub mod Tallying
 -- the components of any mask in scratch: runs, numbers, sizes
 pub mod Sizes
+-- these sizes, run by run
+pub mod Sizing
+-- which dots count, by ink and a mark for each
+pub mod Marked
 -- what labelling called by itself answers and leaves
 pub mod Answer

@@ -3,7 +3,7 @@ use mathlib.Core.Path.{_≡_}
 use mathlib.Core.Bool.{Bool, false}
 use mathlib.Core.List.{List}
 use Prim.Native.Nat.{ℕ, suc, _+_, _*_, _/_, _≤_, _<_}
-use lib.ListN.{length, take, drop}
+use lib.ListN.{length, set, take, drop}
 use Rattle.memory.specs.Limits.{maxMaskSide, maxMaskDots}
 use Rattle.labelling.specs.Classes.{firstOf, firsts}
 use Rattle.labelling.specs.Forests.{Seen, Forest}
@@ -41,12 +41,13 @@ pub record Linked (w c : ℕ) (t p : List ℕ) (j : ℕ) : Type 0 where
   pub seen : Seen (touching w t) c rep j 0
   pub forest : Forest rep p j
 
--- run j has met those below k, and `root` is its root
-pub record Joining (w c : ℕ) (t p : List ℕ) (j k root : ℕ) : Type 0 where
+-- run j has met those below k, and `member` is of its class
+pub record Joining (w c : ℕ) (t p : List ℕ) (j k member : ℕ) : Type 0 where
   pub rep : ℕ → ℕ
   pub seen : Seen (touching w t) c rep j k
-  pub forest : Forest rep p (suc j)
-  pub own : rep j ≡ root
+  pub forest : Forest rep p j
+  pub own : rep member ≡ rep j
+  pub low : member < j
 
 -- run j stands under the runs from i up to `to`, and touches no other before it; those before i touch none from j on
 pub record Under (w c : ℕ) (t : List ℕ) (i to j : ℕ) : Type 0 where
@@ -63,12 +64,18 @@ pub record Linkable (w c : ℕ) (s : List ℕ) (i to j : ℕ) : Type 0 where
   pub under : Under w c (take (2 * c) s) i to j
   pub linked : Linked w c (take (2 * c) s) (drop (2 * c) s) j
 
--- what joining run j, its own parent so far, asks: the runs before `first` are passed, and it ends far enough right
+-- what a parent for run j asks: the runs before `first` are passed, and it ends far enough right
 pub record Joinable (w c : ℕ) (s : List ℕ) (first to j : ℕ) : Type 0 where
   pub list : RunList w c s
   pub under : Under w c (take (2 * c) s) first to j
   pub reach : first < to → startOf (take (2 * c) s) j ≤ endOf (take (2 * c) s) 0 first + w
-  pub joining : Joining w c (take (2 * c) s) (drop (2 * c) s) j first j
+  pub linked : Linked w c (take (2 * c) s) (drop (2 * c) s) j
+
+-- with the parent r run j is linked too
+pub record Parented (w c : ℕ) (s s' : List ℕ) (j r : ℕ) : Type 0 where
+  pub kept : Kept c s s'
+  pub low : r ≤ j
+  pub linked : Linked w c (take (2 * c) s) (set (drop (2 * c) s') j r) (suc j)
 
 -- r is the first run, from i up to `to`, that does not end left of the dot `start` in the row below
 pub record Skipped (w i to start : ℕ) (t : List ℕ) (r : ℕ) : Type 0 where

@@ -18,11 +18,10 @@ use Rattle.labelling.specs.declared.component.Component.{Component}
 unfoldable pub heldRecord : List ℕ → ℕ → ℕ → Component
 heldRecord s number count = cond (ltb count number) noDots (recordOf (take 9 (drop ((number - 1) * 9) s)))
 
--- the words with the run absorbed
+-- the words with the run from column x to column x + d of row y absorbed
 abbrev pub tallied : List ℕ → ℕ → ℕ → ℕ → ℕ → ℕ → List ℕ
-tallied s number count start end w =
-    take ((number - 1) * 9) s
-    ++ (recordWords (absorbedRun (heldRecord s number count) (start % w) (end - start - 1) (start / w)) ++ drop ((number - 1) * 9 + 9) s)
+tallied s number count x d y =
+    take ((number - 1) * 9) s ++ (recordWords (absorbedRun (heldRecord s number count) x d y) ++ drop ((number - 1) * 9 + 9) s)
 
 -- a record whose numbers have room for a run more
 pub record Small (c : Component) : Type 0 where
@@ -31,14 +30,12 @@ pub record Small (c : Component) : Type 0 where
   pub sum-y : c .«sum_y» ≤ 2 ^ 60
 
 -- a run within a row, a number that has room, and a record that has
-pub record RunTallyable (s : List ℕ) (number count start end w : ℕ) : Type 0 where
+pub record RunTallyable (s : List ℕ) (number count x last y : ℕ) : Type 0 where
   pub counted : 0 < number
   pub room : number * 9 ≤ length s
-  pub wide : 0 < w
-  pub narrow : w ≤ maxMaskSide
-  pub some : start < end
-  pub dots : end ≤ maxMaskDots
-  pub row : start % w + (end - start - 1) < w
+  pub some : x ≤ last
+  pub narrow : last < maxMaskSide
+  pub low : y ≤ maxMaskDots
   pub small : Small (heldRecord s number count)
 
 -- the words of the components' records, of the first k of the c runs that the words s hold

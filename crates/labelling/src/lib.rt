@@ -3,11 +3,13 @@
 mod component;
 mod entry;
 mod link;
+mod marked;
 mod number;
 mod paint;
 mod record;
 mod rect;
 mod runs;
+mod sizes;
 mod tally;
 mod words;
 
@@ -17,7 +19,10 @@ pub use entry::label;
 pub use link::find;
 pub use link::link_runs;
 pub use link::unite;
+pub use marked::Test;
+pub use marked::extract_marked;
 pub use number::number_runs;
 pub use paint::paint_runs;
 pub use rect::Rect;
 pub use runs::extract_runs;
+pub use sizes::label_sizes;

@@ -1,12 +1,12 @@
 // Linking: a parent for each run of ink, by union-find over the runs. A run list of c runs is 3c words: start and end of each run
 // (the end excluded), then the parent of each. Nothing here sees a mask: any run list is linked so.
 ghost use mathlib.Core.Path.{_≡_};
-ghost use Prim.Native.Nat.{ℕ, suc, _+_, _*_, _≤_, _<_};
-ghost use lib.ListN.{length, getD};
+ghost use Prim.Native.Nat.{ℕ, _+_, _*_, _≤_, _<_, max};
+ghost use lib.ListN.{length, getD, take};
 ghost use Rattle.memory.specs.Limits.{maxMaskSide};
-ghost use Rattle.labelling.specs.Forests.{Found, United};
-ghost use Rattle.labelling.specs.InkRuns.{startOf};
-ghost use Rattle.labelling.specs.Linking.{RunList, Linkable, Joinable, RowLinkable, Skipped, LinkedOne, LinkedTo, RowEnd, AllLinked};
+ghost use Rattle.labelling.specs.Forests.{Found, United, Joined};
+ghost use Rattle.labelling.specs.InkRuns.{startOf, endOf};
+ghost use Rattle.labelling.specs.Linking.{RunList, Linkable, Joinable, RowLinkable, Skipped, Parented, LinkedOne, LinkedTo, RowEnd, AllLinked};
 use crate::words::wide;
 
 // The root of run x; each second parent on the way is passed over from now on.
@@ -54,22 +54,49 @@ fn skip_left(runs: &[u32], w: usize, i: usize, to: usize, start: usize) -> usize
     k
 }
 
-// Joins run j, its own parent so far, with those of the runs from `first` up to `to`, in the row above, that it touches.
-fn join_touching(words: &mut [u32], c: usize, w: usize, first: usize, to: usize, j: usize)
-    requires { ⌜ Joinable w c (now words) first to j ⌝ }
-    ensures { λ _. ⌜ LinkedTo w c (now (words .entry)) (now (words .exit)) (suc j) ⌝ }
+// The classes of run k and of `member` become one; answers a run of it. Two runs with one parent need no search for their root, which may lie far off.
+fn join(parents: &mut [u32], member: usize, k: usize) -> usize
+    requires { ⌜ (k < length (now parents)) × (member < length (now parents)) × (k < 4294967296) × (member < 4294967296) × ((i : ℕ) → i ≤ max member k → getD (now parents) i 0 ≤ i) ⌝ }
+    ensures { λ r. ⌜ Joined (now (parents .entry)) (now (parents .exit)) member k r ⌝ }
+{
+    if wide(parents[k]) == member {
+        return member;
+    }
+    let root = find(parents, member);
+    unite(parents, root, k)
+}
+
+// Joins the runs from `first` up to `to`, in the row above, that run j touches, `first` among them; answers a run of their class.
+fn join_touching(words: &mut [u32], c: usize, w: usize, first: usize, to: usize, j: usize) -> usize
+    requires { ⌜ Joinable w c (now words) first to j × (first < to) × (startOf (take (2 * c) (now words)) first + w ≤ endOf (take (2 * c) (now words)) 0 j) ⌝ }
+    ensures { λ r. ⌜ Parented w c (now (words .entry)) (now (words .exit)) j r ⌝ }
 {
     let parents = 2 * c;
     let end = wide(words[2 * j + 1]);
-    let mut root = j;
-    let mut k = first;
+    let mut member = wide(words[parents + first]);
+    let mut k = first + 1;
     while k < to {
         if end < wide(words[2 * k]) + w {
-            return;
+            return member;
         }
-        root = unite(&mut words[parents..], root, k);
+        member = join(&mut words[parents..], member, k);
         k += 1;
     }
+    member
+}
+
+// A parent for run j, from the runs of the row above, `first` up to `to`: itself where it touches none of them.
+fn parent_of(words: &mut [u32], c: usize, w: usize, first: usize, to: usize, j: usize) -> usize
+    requires { ⌜ Joinable w c (now words) first to j ⌝ }
+    ensures { λ r. ⌜ Parented w c (now (words .entry)) (now (words .exit)) j r ⌝ }
+{
+    if to <= first {
+        return j;
+    }
+    if wide(words[2 * j + 1]) < wide(words[2 * first]) + w {
+        return j;
+    }
+    join_touching(words, c, w, first, to, j)
 }
 
 // Gives run j its parent, from the runs of the row above, i up to `to`; answers where the next run of the row may look from.
@@ -77,10 +104,10 @@ fn link_one(words: &mut [u32], c: usize, w: usize, i: usize, to: usize, j: usize
     requires { ⌜ Linkable w c (now words) i to j ⌝ }
     ensures { λ r. ⌜ LinkedOne w c (now (words .entry)) (now (words .exit)) i to j r ⌝ }
 {
-    words[2 * c + j] = j as u32;
     let start = wide(words[2 * j]);
     let first = skip_left(&words[..], w, i, to, start);
-    join_touching(words, c, w, first, to, j);
+    let parent = parent_of(words, c, w, first, to, j);
+    words[2 * c + j] = parent as u32;
     first
 }
 

@@ -1,6 +1,6 @@
 // The record of a component, and a run absorbed by it.
 ghost use mathlib.Core.Path.{_≡_};
-ghost use Prim.Native.Nat.{_*_, _≤_, _<_, max};
+ghost use Prim.Native.Nat.{_-_, _*_, _≤_, _<_, max};
 ghost use lib.ListN.{length};
 ghost use Rattle.labelling.specs.Tallying.{heldRecord, RunTallyable, tallied};
 use crate::component::Component;
@@ -26,22 +26,20 @@ pub fn larger(a: usize, b: usize) -> usize
     if a < b { b } else { a }
 }
 
-// The dots from `start` up to `end`, a run of the component with this number, absorbed by its record.
+// The dots from column x to column `last` of row y, a run of the component with this number, absorbed by its record.
 pub fn tally_run(
     components: &mut [u32],
     number: usize,
     count: usize,
-    start: usize,
-    end: usize,
-    w: usize,
+    x: usize,
+    last: usize,
+    y: usize,
 )
-    requires { ⌜ RunTallyable (now components) number count start end w ⌝ }
-    ensures { λ _. ⌜ now (components .exit) ≡ tallied (now (components .entry)) number count start end w ⌝ }
+    requires { ⌜ RunTallyable (now components) number count x last y ⌝ }
+    ensures { λ _. ⌜ now (components .exit) ≡ tallied (now (components .entry)) number count x (last - x) y ⌝ }
 {
     let before = held(&components[..], number, count);
-    let x = start % w;
-    let last = x + (end - start - 1);
-    let after = before.absorb_run(x as u32, last as u32, (start / w) as u32);
+    let after = before.absorb_run(x as u32, last as u32, y as u32);
     let at = (number - 1) * 9;
     encode(&mut components[at..at + 9], after);
 }

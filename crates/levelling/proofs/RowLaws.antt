@@ -1,6 +1,6 @@
 -- A frame row by its columns: added dots at both ends, and between them the page's columns, by stretches that move by the same number of rows.
 use mathlib.Core.Path.{_≡_, refl, sym, ap, _∙_, subst}
-use mathlib.Core.List.{List, _++_}
+use mathlib.Core.List.{List, _++_, append-assoc}
 use mathlib.Core.Bool.{cond, _&&_}
 use Prim.Native.Nat.{ℕ, _+_, _-_, _*_, _/_, _%_, _≤_, _<_, min}
 use native.Mathlib.Nat.{add-assoc, suc-mul, mul-comm}
@@ -10,13 +10,13 @@ use native.Mathlib.Omega.{arith}
 use borrow.Author.Tests.{lt-ltb, le-ltb, lt-leb, le-leb}
 use lib.IntN.{pos, subℕ}
 use lib.ListN.{getD, length, take, drop, set}
-use lib.Seq.{getD-set-same, getD-set-other}
+use lib.Seq.{getD-set-same, getD-set-other, take-at, drop-at}
 use borrow.Rule.Slice.PartMut.{putMid}
 use lib.Dec.{ltb, leb}
 use Rattle.memory.specs.Lists.{table}
 use Rattle.memory.specs.Words.{over}
 use Rattle.memory.proofs.TableLaws.{length-table, table-ext, table-whole, table-filled}
-use Rattle.memory.proofs.PartLaws.{over-all, part-is-table, part-filled}
+use Rattle.memory.proofs.PartLaws.{over-all, part-is-table, part-filled, table-add}
 use Rattle.memory.proofs.PlaneLaws.{row-end, dot-column, dot-row}
 use Rattle.levelling.specs.Shears.{natural}
 use Rattle.levelling.specs.Frames.{Frame, frameOf}
@@ -84,12 +84,29 @@ stretches-more shear ends c e l S T k a b = go (ℕ-discrete k c)
 abbrev pub columnsAt : List ℕ → ℕ → ℕ → ℕ → List ℕ → ℕ → ℕ → ℕ
 columnsAt page fill w h shear r c = columnAt page fill w h r (getD shear c 0) c
 
-pub stretch-put : (page : List ℕ) (fill w h : ℕ) (shear : List ℕ) (r c e n : ℕ) (s out v : List ℕ) → Stretch shear c e → n ≡ e - c → out ≡ table (columnsAt page fill w h shear r) c ++ drop c s
-    → v ≡ table (λ i. columnAt page fill w h r (getD shear c 0) (c + i)) n → putMid c (e - c) out v ≡ table (columnsAt page fill w h shear r) e ++ drop e s
-stretch-put page fill w h shear r c e n s out v S m o q =
-    part-filled (columnsAt page fill w h shear r) s out v c (e - c) o
-    (q ∙ ap (table _) m ∙ table-ext _ _ (e - c) (λ i l. ap (λ z. columnAt page fill w h r z (c + i)) (sym (S .level (c + i) (omega arith) (omega arith)))))
-    ∙ ap (λ z. table (columnsAt page fill w h shear r) z ++ drop z s) (let k : c + (e - c) ≡ e = (let l = S .some in omega arith) in k)
+-- columns that are right up to c, whatever lies behind them
+abbrev pub RightTo : List ℕ → ℕ → ℕ → ℕ → List ℕ → ℕ → ℕ → List ℕ → Type 0
+RightTo page fill w h shear r c out = out ≡ table (columnsAt page fill w h shear r) c ++ drop c out
+
+-- the next stretch put in, and n columns from c on, which may be more than it has
+pub stretch-put : (page : List ℕ) (fill w h : ℕ) (shear : List ℕ) (r c e m n : ℕ) (out v : List ℕ) → Stretch shear c e → e - c ≤ m → RightTo page fill w h shear r c out
+    → v ≡ table (λ i. columnAt page fill w h r (getD shear c 0) (c + i)) m → RightTo page fill w h shear r e (putMid c n out v)
+stretch-put page fill w h shear r c e m n out v S l o q =
+    let f = columnsAt page fill w h shear r in
+    let g : ℕ → ℕ = λ i. columnAt page fill w h r (getD shear c 0) (c + i) in
+    let k = e - c in
+    let more = table (λ i. g (k + i)) (m - k) ++ drop n (drop c out) in
+    let front : take c out ≡ table f c = ap (take c) o ∙ take-at (table f c) (drop c out) c (length-table f c) in
+    let part : v ≡ table (λ i. f (c + i)) k ++ table (λ i. g (k + i)) (m - k) =
+    q
+    ∙ (ap (table g) (let z : m ≡ k + (m - k) = omega arith in z)
+    ∙ (table-add g k (m - k) ∙ ap (λ t. t ++ table (λ i. g (k + i)) (m - k)) (table-ext g (λ i. f (c + i)) k (λ i b. ap (λ z. columnAt page fill w h r z (c + i)) (sym (S .level (c + i) (omega arith) (omega arith))))))) in
+    let whole : putMid c n out v ≡ table f e ++ more =
+    (λ i. front i ++ (part i ++ drop n (drop c out)))
+    ∙ (ap (λ t. table f c ++ t) (append-assoc (table (λ i. f (c + i)) k) (table (λ i. g (k + i)) (m - k)) (drop n (drop c out)))
+    ∙ (sym (append-assoc (table f c) (table (λ i. f (c + i)) k) more)
+    ∙ (ap (λ t. t ++ more) (sym (table-add f c k)) ∙ ap (λ z. table f z ++ more) (let z : c + k ≡ e = (let b = S .some in omega arith) in z)))) in
+    whole ∙ ap (λ t. table f e ++ t) (sym (ap (drop e) whole ∙ drop-at (table f e) more e (length-table f e)))
 
 -- ---- a frame row
 module _ (f : Frame) (fill : ℕ) (page : List ℕ) (r : ℕ) where

@@ -19,7 +19,7 @@ use Rattle.memory.proofs.TableLaws.{length-table, getD-table, getD-default, tab
 use Rattle.memory.proofs.PlaneLaws.{dot-column, dot-row, dot-inside}
 use Rattle.levelling.specs.Frames.{Frame, frameOf, rowOf, columnOf}
 use Rattle.levelling.specs.Planes.{levelAt, levelled, PlaneFits}
-use Rattle.levelling.specs.Moves.{placeOf, moved, shown, partly, orRange, orRows}
+use Rattle.levelling.specs.Moves.{placeOf, shown, partly, orRange, orRows}
 use Rattle.levelling.proofs.InverseTheorems.{Source, added-or-source, mapped-point-is-place, levelAt-place, length-levelled}
 
 -- ---- the page with some dots done
@@ -137,6 +137,16 @@ range-more false a n i = go (decLe a i) (decLt i (a + n)) (ℕ-discrete i (a + n
     go (yes l) (no k) (yes e) = rw (le-leb a i l, le-ltb i (a + n) (omega arith), eq-eqb i (a + n) e, lt-ltb i (a + suc n) (omega arith))
     go (yes l) (no k) (no e) = rw (le-leb a i l, le-ltb i (a + n) (omega arith), ne-eqb i (a + n) e, le-ltb i (a + suc n) (omega arith))
 
+range-joined : (b : Bool) (a n m i : ℕ) → ((b || (leb a i && ltb i (a + n))) || (leb (a + n) i && ltb i (a + n + m))) ≡ (b || (leb a i && ltb i (a + (n + m))))
+range-joined true a n m i = refl
+range-joined false a n m i = go (decLe a i) (decLt i (a + n)) (decLt i (a + n + m))
+  where
+    go : Dec (a ≤ i) → Dec (i < a + n) → Dec (i < a + n + m) → ((leb a i && ltb i (a + n)) || (leb (a + n) i && ltb i (a + n + m))) ≡ (leb a i && ltb i (a + (n + m)))
+    go (no l) k e = rw (lt-leb a i (omega arith), lt-leb (a + n) i (omega arith))
+    go (yes l) (yes k) e = rw (le-leb a i l, lt-ltb i (a + n) k, lt-ltb i (a + (n + m)) (omega arith))
+    go (yes l) (no k) (yes e) = rw (le-leb a i l, le-ltb i (a + n) (omega arith), le-leb (a + n) i (omega arith), lt-ltb i (a + n + m) e, lt-ltb i (a + (n + m)) (omega arith))
+    go (yes l) (no k) (no e) = rw (le-leb a i l, le-ltb i (a + n) (omega arith), le-leb (a + n) i (omega arith), le-ltb i (a + n + m) (omega arith), le-ltb i (a + (n + m)) (omega arith))
+
 in-range : (b : Bool) (a n i : ℕ) → a ≤ i → i < n → (b || (leb a i && ltb i n)) ≡ true
 in-range true a n i l k = refl
 in-range false a n i l k = rw (le-leb a i l, lt-ltb i n k)
@@ -145,13 +155,6 @@ kept : (b c : Bool) → b ≡ true → (b || c) ≡ true
 kept b c e = ap (λ t. t || c) e
 
 -- ---- the dots of a part of a page row moved to their places
-pub moved-count : (place dot : ℕ → ℕ) (n m : ℕ) (out : List ℕ) → n ≡ m → moved place dot n out ≡ moved place dot m out
-moved-count place dot n m out e = ap (λ k. moved place dot k out) e
-
-pub moved-more : (place dot : ℕ → ℕ) (n : ℕ) (out now : List ℕ) → now ≡ moved place dot n out → set now (place n) (dot n) ≡ moved place dot (n + 1) out
-unfolding moved
-moved-more place dot n out now e = ap (λ l. set l (place n) (dot n)) e ∙ ap (λ k. moved place dot k out) (sym (add-one n))
-
 over-set : (l s : List ℕ) (k v : ℕ) → k < length l → set (over l s) k v ≡ over (set l k v) s
 over-set l s k v h = set-append-left l (drop (length l) s) k v h ∙ ap (λ n. set l k v ++ drop n s) (sym (length-set l k v))
 
@@ -172,18 +175,32 @@ module _ (page-w page-h : ℕ) (shear shear-x : List ℕ) (w h fill : ℕ) (page
       (levelled-set F fill p c y (getD page (y * page-w + c) fill) lc ly lp lx lr
       ∙ ap (levelled F fill) (shown-set done fill page (y * page-w + c) (omega (arith, fits .page-size, dot-inside page-w page-h c y lc ly))))
 
-  pub part-moved : (done : ℕ → Bool) (s : List ℕ) (y c n : ℕ) → y < page-h → c + n ≤ page-w
-      → moved (λ i. placeOf shear shear-x w y (c + i)) (λ i. getD page (y * page-w + (c + i)) 0) n (partly F fill page done s) ≡ partly F fill page (orRange done (y * page-w + c) (y * page-w + c + n)) s
-  unfolding moved
-  part-moved done s y c zero ly l = ap (λ p. over (levelled F fill p) s) (shown-ext _ _ fill page (λ j k. sym (range-none (done j) (y * page-w + c) j)))
-  part-moved done s y c (suc n) ly l =
+  -- a part of no dots
+  pub part-none : (done : ℕ → Bool) (s : List ℕ) (y c : ℕ) → partly F fill page done s ≡ partly F fill page (orRange done (y * page-w + c) (y * page-w + c + 0)) s
+  part-none done s y c = ap (λ p. over (levelled F fill p) s) (shown-ext _ _ fill page (λ j k. sym (range-none (done j) (y * page-w + c) j)))
+
+  -- the next dot of a part, number n of those from column c on, stored at its place
+  pub dot-stored : (done : ℕ → Bool) (s : List ℕ) (y c n : ℕ) (before after : List ℕ) → y < page-h → c + n < page-w
+      → before ≡ partly F fill page (orRange done (y * page-w + c) (y * page-w + c + n)) s
+      → after ≡ set before (placeOf shear shear-x w y (c + n)) (getD page (y * page-w + (c + n)) 0)
+      → after ≡ partly F fill page (orRange done (y * page-w + c) (y * page-w + c + (n + 1))) s
+  dot-stored done s y c n before after ly q b e =
       let a = y * page-w + c in
-      let q : c + n < page-w = omega arith in
-      let e : y * page-w + (c + n) ≡ a + n = sym (add-assoc (y * page-w) c n) in
+      let z : y * page-w + (c + n) ≡ a + n = sym (add-assoc (y * page-w) c n) in
       let k : y * page-w + (c + n) < length page = omega (arith, fits .page-size, dot-inside page-w page-h (c + n) y q ly) in
-      (λ t. set (part-moved done s y c n ly (omega arith) t) (placeOf shear shear-x w y (c + n)) (getD-default page (y * page-w + (c + n)) 0 fill k t))
+      e
+      ∙ ((λ t. set (b t) (placeOf shear shear-x w y (c + n)) (getD-default page (y * page-w + (c + n)) 0 fill k t))
       ∙ (dot-moved (orRange done a (a + n)) s y (c + n) ly q
-      ∙ ap (λ p. over (levelled F fill p) s) (shown-ext _ _ fill page (λ j m. ap (λ z. orRange done a (a + n) j || eqb j z) e ∙ range-more (done j) a n j)))
+      ∙ ap (λ p. over (levelled F fill p) s) (shown-ext _ _ fill page (λ j m. ap (λ v. orRange done a (a + n) j || eqb j v) z ∙ (range-more (done j) a n j ∙ ap (λ v. orRange done a (a + v) j) (sym (add-one n)))))))
+
+  -- a part behind another
+  pub part-joined : (done : ℕ → Bool) (s : List ℕ) (y c n m : ℕ)
+      → partly F fill page (orRange (orRange done (y * page-w + c) (y * page-w + c + n)) (y * page-w + (c + n)) (y * page-w + (c + n) + m)) s
+      ≡ partly F fill page (orRange done (y * page-w + c) (y * page-w + c + (n + m))) s
+  part-joined done s y c n m =
+      let a = y * page-w + c in
+      let z : y * page-w + (c + n) ≡ a + n = sym (add-assoc (y * page-w) c n) in
+      ap (λ p. over (levelled F fill p) s) (shown-ext _ _ fill page (λ j l. ap (λ v. orRange (orRange done a (a + n)) v (v + m) j) z ∙ range-joined (done j) a n m j))
 
   -- a part that holds only added dots' value is done as it stands
   pub part-skipped : (done : ℕ → Bool) (s : List ℕ) (y c n : ℕ) → y < page-h → c + n ≤ page-w → ((i : ℕ) → i < n → getD page (y * page-w + (c + i)) 0 ≡ fill)
@@ -204,15 +221,17 @@ module _ (page-w page-h : ℕ) (shear shear-x : List ℕ) (w h fill : ℕ) (page
       at j k (no u) v = inl (or-false (done j) ∙ ap (λ b. done j || b) (sym (rw (lt-leb a j (omega arith)))))
       at j k (yes u) (no v) = inl (or-false (done j) ∙ ap (λ b. done j || b) (sym (rw (le-leb a j u, le-ltb j (a + n) (omega arith)))))
 
+  -- .. and so is the next dot of a part, where it is as added dots are
+  pub dot-passed : (done : ℕ → Bool) (s : List ℕ) (y c n : ℕ) → y < page-h → c + n < page-w → getD page (y * page-w + (c + n)) 0 ≡ fill
+      → partly F fill page (orRange done (y * page-w + c) (y * page-w + c + n)) s ≡ partly F fill page (orRange done (y * page-w + c) (y * page-w + c + (n + 1))) s
+  dot-passed done s y c n ly q e =
+      part-skipped (orRange done (y * page-w + c) (y * page-w + c + n)) s y (c + n) 1 ly (omega arith) (λ i l. ap (λ z. getD page (y * page-w + z) 0) (let k : c + n + i ≡ c + n = omega arith in k) ∙ e)
+      ∙ part-joined done s y c n 1
+
   -- one more row of a tile
-  pub row-moved : (done : ℕ → Bool) (s out now : List ℕ) (y c n : ℕ) → y < page-h → c + n ≤ page-w → out ≡ partly F fill page (orRows done page-w c n y) s
-      → (now ≡ moved (λ i. placeOf shear shear-x w y (c + i)) (λ i. getD page (y * page-w + (c + i)) 0) n out) ⊎ (((i : ℕ) → i < n → getD page (y * page-w + (c + i)) 0 ≡ fill) × (now ≡ out))
-      → now ≡ partly F fill page (orRows done page-w c n (y + 1)) s
+  pub row-moved : (done : ℕ → Bool) (s : List ℕ) (y c n : ℕ) → partly F fill page (orRange (orRows done page-w c n y) (y * page-w + c) (y * page-w + c + n)) s ≡ partly F fill page (orRows done page-w c n (y + 1)) s
   unfolding orRows
-  row-moved done s out now y c n ly l o (inl e) =
-      e ∙ (ap (moved _ _ n) o ∙ (part-moved (orRows done page-w c n y) s y c n ly l ∙ ap (λ k. partly F fill page (orRows done page-w c n k) s) (sym (add-one y))))
-  row-moved done s out now y c n ly l o (inr e) =
-      e .1 ∙ (o ∙ (part-skipped (orRows done page-w c n y) s y c n ly l (e .0) ∙ ap (λ k. partly F fill page (orRows done page-w c n k) s) (sym (add-one y))))
+  row-moved done s y c n = ap (λ k. partly F fill page (orRows done page-w c n k) s) (sym (add-one y))
 
   -- at first none is done
   pub none-done : table (λ _. fill) (w * h) ≡ levelled F fill (shown (λ _. false) fill page)

@@ -4,12 +4,12 @@ use Prim.Native.Nat.{ℕ, zero, suc, _+_, _-_, _*_, _≤_, _<_}
 use mathlib.Core.Path.{_≡_}
 use mathlib.Core.Bool.{Bool, cond, _&&_, _||_}
 use mathlib.Core.List.{List}
-use lib.ListN.{getD, length, set}
+use lib.ListN.{getD, length}
 use lib.Dec.{leb, ltb}
 use Rattle.memory.specs.Lists.{table}
 use Rattle.memory.specs.Words.{over}
-use Rattle.levelling.specs.Frames.{Frame}
-use Rattle.levelling.specs.Planes.{levelled}
+use Rattle.levelling.specs.Frames.{Frame, frameOf}
+use Rattle.levelling.specs.Planes.{PlaneFits, levelled}
 
 -- what lies on frame row r in a page column c that moves by s: the rule by column, as the code goes
 unfoldable pub columnAt : List ℕ → ℕ → ℕ → ℕ → ℕ → ℕ → ℕ → ℕ
@@ -29,11 +29,6 @@ Stretches shear ends from = (c : ℕ) → from ≤ c → c < length shear → St
 abbrev pub placeOf : List ℕ → List ℕ → ℕ → ℕ → ℕ → ℕ
 placeOf shear shear-x w y c = (y + getD shear c 0) * w + (c + getD shear-x (y + getD shear c 0) 0)
 
--- a frame plane with n dots stored at their places
-unfoldable pub moved : (ℕ → ℕ) → (ℕ → ℕ) → ℕ → List ℕ → List ℕ
-moved place dot zero out = out
-moved place dot (suc n) out = set (moved place dot n out) (place n) (dot n)
-
 -- the page with those dots that are done, the others as added dots are
 unfoldable pub shown : (ℕ → Bool) → ℕ → List ℕ → List ℕ
 shown done fill page = table (λ j. cond (done j) (getD page j fill) fill) (length page)
@@ -50,3 +45,18 @@ orRange done a b j = done j || (leb a j && ltb j b)
 unfoldable pub orRows : (ℕ → Bool) → ℕ → ℕ → ℕ → ℕ → ℕ → Bool
 orRows done w c n zero = done
 orRows done w c n (suc y) = orRange (orRows done w c n y) (y * w + c) (y * w + c + n)
+
+-- the lengths for n dots of page row y, from column c on
+pub record PartFits (page-w : ℕ) (shear shear-x : List ℕ) (w : ℕ) (page out : List ℕ) (y c n : ℕ) : Type 0 where
+  pub columns : c + n ≤ length shear
+  pub dots : y * page-w + (c + n) ≤ length page
+  pub room : w * length shear-x ≤ length out
+  pub rows : (k : ℕ) → y + getD shear k 0 < length shear-x
+  pub inside : (r : ℕ) → getD shear-x r 0 + length shear ≤ w
+
+-- moving those dots makes them done, whichever were
+abbrev pub MovesPart : ℕ → List ℕ → List ℕ → ℕ → ℕ → List ℕ → ℕ → ℕ → ℕ → List ℕ → List ℕ → Type 0
+MovesPart page-w shear shear-x w fill page y c n before after =
+    (page-h : ℕ) (done : ℕ → Bool) (s : List ℕ) → y < page-h → PlaneFits (frameOf page-w page-h shear shear-x w (length shear-x)) page before
+    → before ≡ partly (frameOf page-w page-h shear shear-x w (length shear-x)) fill page done s
+    → after ≡ partly (frameOf page-w page-h shear shear-x w (length shear-x)) fill page (orRange done (y * page-w + c) (y * page-w + c + n)) s

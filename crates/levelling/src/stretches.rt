@@ -3,7 +3,7 @@
 use memory::copy_bytes;
 use memory::fill_bytes;
 ghost use mathlib.Core.Path.{_≡_};
-ghost use Prim.Native.Nat.{_+_, _*_, _≤_, _<_};
+ghost use Prim.Native.Nat.{_+_, _*_, _^_, _≤_, _<_};
 ghost use lib.ListN.{length, getD};
 ghost use Rattle.memory.specs.Limits.{maxPageSide};
 ghost use Rattle.memory.specs.Lists.{table};
@@ -14,6 +14,9 @@ ghost use Rattle.levelling.specs.Moves.{Stretch, Stretches, columnAt};
 
 // The longest side of a page.
 const MAX_PAGE_SIDE: usize = 8192;
+
+// What is copied is a multiple of this where it can be: the machine copies so many bytes at a time, and the rest one by one.
+const PIECE: usize = 32;
 
 // A page plane moved into the frame, row by row.
 pub fn level_by_stretches(
@@ -101,7 +104,7 @@ fn level_row(
     fill_bytes(&mut out[right..], fill);
 }
 
-// The page's columns in frame row r.
+// The page's columns in frame row r, stretch by stretch.
 fn level_columns(
     page: &[u8],
     fill: u8,
@@ -119,9 +122,19 @@ fn level_columns(
     while c < page_w {
         let e = ends[c] as usize;
         let s = shear[c] as usize;
-        level_stretch(page, fill, page_w, page_h, r, s, c, &mut out[c..e]);
+        let to = piece_end(c, e, page_w);
+        level_stretch(page, fill, page_w, page_h, r, s, c, &mut out[c..to]);
         c = e;
     }
+}
+
+// Where a copy of the columns from c up to e may end: what lies behind e comes after it and is written anew.
+fn piece_end(c: usize, e: usize, page_w: usize) -> usize
+    requires { ⌜ (c ≤ e) × (e ≤ «page_w») × (e < 2 ^ 32) ⌝ }
+    ensures { λ r. ⌜ (e ≤ r) × (r ≤ «page_w») ⌝ }
+{
+    let n = (e - c + (PIECE - 1)) / PIECE * PIECE;
+    if n <= page_w - c { c + n } else { e }
 }
 
 // The columns c, c + 1, .. of frame row r, which all move by s rows.

@@ -1,19 +1,21 @@
 // A page plane moved into the frame by page dot, for steep slopes, where columns next to each other move by different numbers of
-// rows. A tile of columns at a time: its dots go to so few frame rows that these stay in the cache.
+// rows. A block of dots that are as added dots are lies at its places already and is passed over.
 use memory::fill_bytes;
 ghost use mathlib.Core.Path.{_≡_};
 ghost use mathlib.Core.Bool.{Bool, true};
 ghost use mathlib.Core.List.{List};
-ghost use mathlib.Core.Logic.{_⊎_};
-ghost use Prim.Native.Nat.{ℕ, _+_, _*_, _≤_, _<_};
+ghost use Prim.Native.Nat.{ℕ, _+_, _≤_, _<_};
 ghost use lib.ListN.{length, getD};
 ghost use Rattle.memory.specs.Words.{over};
 ghost use Rattle.levelling.specs.Frames.{frameOf};
 ghost use Rattle.levelling.specs.Planes.{PlaneFits, levelled};
-ghost use Rattle.levelling.specs.Moves.{placeOf, moved, partly, orRows};
+ghost use Rattle.levelling.specs.Moves.{PartFits, MovesPart, partly, orRows};
 
-// The columns of a tile.
-const TILE: usize = 256;
+// The columns of a tile, and the most frame rows that one tile goes to at a time: more are slow to store to, which was measured.
+const TILE: usize = 1024;
+
+// The dots of a block.
+const BLOCK: usize = 64;
 
 // A page plane moved into the frame, tile by tile.
 pub fn level_by_tiles(
@@ -32,18 +34,22 @@ pub fn level_by_tiles(
 {
     let dots = w * h;
     fill_bytes(&mut out[0..dots], fill);
+    let added = h - page_h;
     let mut c = 0;
     while c < page_w {
-        let n = tile_columns(page_w - c);
+        let n = tile_columns(page_w - c, added);
         move_tile(page, fill, page_w, page_h, shear, shear_x, w, c, n, out);
         c += n;
     }
 }
 
-// The columns of the next tile, of those that are left.
-fn tile_columns(left: usize) -> usize
+// The columns of the next tile, of those that are left: all, where the shear adds few rows.
+fn tile_columns(left: usize, added: usize) -> usize
     ensures { λ r. ⌜ (r ≤ left) × (0 < left → 0 < r) ⌝ }
 {
+    if added <= TILE {
+        return left;
+    }
     if left < TILE { left } else { TILE }
 }
 
@@ -70,7 +76,7 @@ fn move_tile(
     }
 }
 
-// n dots of page row y, from column c on. Where all are as added dots are, they lie at their places already.
+// n dots of page row y, from column c on, block by block.
 fn move_part(
     page: &[u8],
     fill: u8,
@@ -83,20 +89,28 @@ fn move_part(
     n: usize,
     out: &mut [u8],
 )
-    requires { ⌜ (c + n ≤ length (now shear)) × (y * «page_w» + (c + n) ≤ length (now page)) × (w * length (now «shear_x») ≤ length (now out)) ⌝ ∗ ⌜ ((k : ℕ) → y + getD (now shear) k 0 < length (now «shear_x»)) ⌝ ∗ ⌜ ((r : ℕ) → getD (now «shear_x») r 0 + length (now shear) ≤ w) ⌝ }
-    ensures { λ _. ⌜ (now (out .exit) ≡ moved (λ i. placeOf (now (shear .entry)) (now («shear_x» .entry)) w y (c + i)) (λ i. getD (now (page .entry)) (y * «page_w» + (c + i)) 0) n (now (out .entry))) ⊎ (((i : ℕ) → i < n → getD (now (page .entry)) (y * «page_w» + (c + i)) 0 ≡ fill) × (now (out .exit) ≡ now (out .entry))) ⌝ }
+    requires { ⌜ PartFits «page_w» (now shear) (now «shear_x») w (now page) (now out) y c n ⌝ }
+    ensures { λ _. ⌜ MovesPart «page_w» (now (shear .entry)) (now («shear_x» .entry)) w fill (now (page .entry)) y c n (now (out .entry)) (now (out .exit)) ⌝ }
 {
-    let from = y * page_w + c;
-    let to = from + n;
-    if all_equal(&page[from..to], fill) {
-        return;
+    let mut i = 0;
+    while i < n {
+        let m = block_dots(n - i);
+        move_block(page, fill, page_w, shear, shear_x, w, y, c + i, m, out);
+        i += m;
     }
-    move_dots(page, page_w, shear, shear_x, w, y, c, n, out);
 }
 
-// n dots of page row y, from column c on, to their places.
-fn move_dots(
+// The dots of the next block, of those that are left.
+fn block_dots(left: usize) -> usize
+    ensures { λ r. ⌜ (r ≤ left) × (0 < left → 0 < r) ⌝ }
+{
+    if left < BLOCK { left } else { BLOCK }
+}
+
+// A block of n dots of page row y, from column c on. Where all are as added dots are, they lie at their places already.
+fn move_block(
     page: &[u8],
+    fill: u8,
     page_w: usize,
     shear: &[u32],
     shear_x: &[u32],
@@ -106,16 +120,43 @@ fn move_dots(
     n: usize,
     out: &mut [u8],
 )
-    requires { ⌜ (c + n ≤ length (now shear)) × (y * «page_w» + (c + n) ≤ length (now page)) × (w * length (now «shear_x») ≤ length (now out)) ⌝ ∗ ⌜ ((k : ℕ) → y + getD (now shear) k 0 < length (now «shear_x»)) ⌝ ∗ ⌜ ((r : ℕ) → getD (now «shear_x») r 0 + length (now shear) ≤ w) ⌝ }
-    ensures { λ _. ⌜ now (out .exit) ≡ moved (λ i. placeOf (now (shear .entry)) (now («shear_x» .entry)) w y (c + i)) (λ i. getD (now (page .entry)) (y * «page_w» + (c + i)) 0) n (now (out .entry)) ⌝ }
+    requires { ⌜ PartFits «page_w» (now shear) (now «shear_x») w (now page) (now out) y c n ⌝ }
+    ensures { λ _. ⌜ MovesPart «page_w» (now (shear .entry)) (now («shear_x» .entry)) w fill (now (page .entry)) y c n (now (out .entry)) (now (out .exit)) ⌝ }
+{
+    let from = y * page_w + c;
+    let to = from + n;
+    if all_equal(&page[from..to], fill) {
+        return;
+    }
+    move_dots(page, fill, page_w, shear, shear_x, w, y, c, n, out);
+}
+
+// n dots of page row y, from column c on, each to its place where it is not as added dots are.
+fn move_dots(
+    page: &[u8],
+    fill: u8,
+    page_w: usize,
+    shear: &[u32],
+    shear_x: &[u32],
+    w: usize,
+    y: usize,
+    c: usize,
+    n: usize,
+    out: &mut [u8],
+)
+    requires { ⌜ PartFits «page_w» (now shear) (now «shear_x») w (now page) (now out) y c n ⌝ }
+    ensures { λ _. ⌜ MovesPart «page_w» (now (shear .entry)) (now («shear_x» .entry)) w fill (now (page .entry)) y c n (now (out .entry)) (now (out .exit)) ⌝ }
 {
     let from = y * page_w;
     let mut i = 0;
     while i < n {
         let column = c + i;
-        let r = y + shear[column] as usize;
-        let x = column + shear_x[r] as usize;
-        out[r * w + x] = page[from + column];
+        let dot = page[from + column];
+        if dot != fill {
+            let r = y + shear[column] as usize;
+            let x = column + shear_x[r] as usize;
+            out[r * w + x] = dot;
+        }
         i += 1;
     }
 }

@@ -7,7 +7,7 @@ use native.Mathlib.Omega.{arith}
 use borrow.Author.Tests.{lt-ltb, le-ltb}
 use borrow.Rule.Slice.PartMut.{putMid}
 use lib.ListN.{length, getD, take, drop, set, replicate, length-replicate, getD-replicate, length-set, length-append, length-drop, List·getD-append}
-use lib.Seq.{getD-set-same, getD-set-other, getD-append-add, getD-take, getD-drop, ext-getD, length-take-le, drop-length}
+use lib.Seq.{take-at, drop-at, take-set-le, drop-set-add, getD-set-same, getD-set-other, getD-append-add, getD-take, getD-drop, ext-getD, length-take-le, drop-length}
 use Rattle.memory.specs.Lists.{table}
 use Rattle.memory.specs.Words.{over}
 use Rattle.sorting.specs.Scans.{until}
@@ -171,17 +171,41 @@ over-over f g n s t l e =
 pub over-whole : (f : ℕ → ℕ) (n : ℕ) (s : List ℕ) → n ≡ length s → over (table f n) s ≡ table f n
 over-whole f n s e = ap (λ k. table f n ++ drop k s) (length-table f n ∙ e) ∙ (ap (λ r. table f n ++ r) (drop-length s) ∙ append-nil (table f n))
 
--- the first n entries are one value
-pub front-filled : (n v : ℕ) (s t : List ℕ) → n ≤ length s → t ≡ replicate (length (take (n - 0) (drop 0 s))) v
-    → (length (putMid 0 (n - 0) s t) ≡ length s) × ((k : ℕ) → k < n → getD (putMid 0 (n - 0) s t) k 0 ≡ v) × ((k : ℕ) → n ≤ k → getD (putMid 0 (n - 0) s t) k 0 ≡ getD s k 0)
-front-filled n v s t h e =
-    let z : length (take (n - 0) (drop 0 s)) ≡ n - 0 = length-part 0 n s (omega arith) h in
-    let q : t ≡ replicate (n - 0) v = e ∙ ap (λ k. replicate k v) z in
-    let l : length t ≡ n - 0 = ap length q ∙ length-replicate (n - 0) v in (
-      length-put 0 n s t (omega arith) h l,
-      λ k b. getD-put 0 n s t (omega arith) h l k .1 (omega arith) b ∙ (ap (λ o. getD o (k - 0) 0) q ∙ getD-replicate (n - 0) (k - 0) v 0 (omega arith)),
-      λ k b. getD-put 0 n s t (omega arith) h l k .2 b,
+-- the entries from a up to e are one value
+pub part-filled : (a e v : ℕ) (s t : List ℕ) → a ≤ e → e ≤ length s → t ≡ replicate (length (take (e - a) (drop a s))) v
+    → (length (putMid a (e - a) s t) ≡ length s) × ((k : ℕ) → a ≤ k → k < e → getD (putMid a (e - a) s t) k 0 ≡ v) × ((k : ℕ) → e ≤ k → getD (putMid a (e - a) s t) k 0 ≡ getD s k 0)
+part-filled a e v s t b h q =
+    let z : length (take (e - a) (drop a s)) ≡ e - a = length-part a e s b h in
+    let r : t ≡ replicate (e - a) v = q ∙ ap (λ k. replicate k v) z in
+    let l : length t ≡ e - a = ap length r ∙ length-replicate (e - a) v in (
+      length-put a e s t b h l,
+      λ k c d. getD-put a e s t b h l k .1 c d ∙ (ap (λ o. getD o (k - a) 0) r ∙ getD-replicate (e - a) (k - a) v 0 (omega arith)),
+      λ k c. getD-put a e s t b h l k .2 c,
     )
+
+-- the front up to b is lent and comes back
+pub front-put : (b : ℕ) (s t : List ℕ) → b ≤ length s → length (putMid 0 (b - 0) s t) ≡ length s → (take b (putMid 0 (b - 0) s t) ≡ t) × (drop b (putMid 0 (b - 0) s t) ≡ drop b s)
+front-put b s t l e =
+    let z : b - 0 ≡ b = omega arith in
+    let q : length t ≡ b = (let x = length-append t (drop (b - 0) s) in let y = length-drop (b - 0) s in omega arith) in
+    (take-at t (drop (b - 0) s) b q, drop-at t (drop (b - 0) s) b q ∙ ap (λ k. drop k s) z)
+
+-- and v is added to the entry k behind it
+pub front-put-add : (b k v : ℕ) (s t : List ℕ) → b ≤ length s → length (putMid 0 (b - 0) s t) ≡ length s
+    → (take b (set (putMid 0 (b - 0) s t) (b + k) (getD (putMid 0 (b - 0) s t) (b + k) 0 + v)) ≡ t)
+    × (drop b (set (putMid 0 (b - 0) s t) (b + k) (getD (putMid 0 (b - 0) s t) (b + k) 0 + v)) ≡ set (drop b s) k (getD (drop b s) k 0 + v))
+front-put-add b k v s t l e =
+    let f = front-put b s t l e in
+    let x : getD (putMid 0 (b - 0) s t) (b + k) 0 ≡ getD (drop b s) k 0 = sym (getD-drop b (putMid 0 (b - 0) s t) k 0) ∙ ap (λ o. getD o k 0) (f .1) in (
+      take-set-le b (putMid 0 (b - 0) s t) (b + k) (getD (putMid 0 (b - 0) s t) (b + k) 0 + v) (omega arith) ∙ f .0,
+      drop-set-add b (putMid 0 (b - 0) s t) k (getD (putMid 0 (b - 0) s t) (b + k) 0 + v) ∙ (λ j. set (f .1 j) k (x j + v)),
+    )
+
+-- what lies behind b, where nothing behind n has changed
+pub behind-same : (n b : ℕ) (s t : List ℕ) → n ≤ b → length t ≡ length s → ((k : ℕ) → n ≤ k → getD t k 0 ≡ getD s k 0) → drop b t ≡ drop b s
+behind-same n b s t l e h =
+    ext-getD 0 (drop b t) (drop b s) (length-drop b t ∙ (ap (λ k. k - b) e ∙ sym (length-drop b s)))
+    (λ i c. getD-drop b t i 0 ∙ (h (b + i) (omega arith) ∙ sym (getD-drop b s i 0)))
 
 -- the first a entries are stored already
 pub over-begun : (f : ℕ → ℕ) (n a : ℕ) (s : List ℕ) → n ≤ length s → ((k : ℕ) → k < a → getD s k 0 ≡ f k) → s ≡ over (table (until a f (λ k. getD s k 0)) n) s

@@ -7,8 +7,9 @@ use native.Mathlib.Nat.{le-refl, div-eq-of-lt-le, div-lt-iff-lt-mul, div-add-mod
 use native.Mathlib.Decide.{ℕ-discrete, decLt, decLe}
 use native.Mathlib.Omega.{arith}
 use borrow.Author.Tests.{lt-ltb, le-ltb, le-leb, lt-leb, not-true, not-false}
-use lib.ListN.{length, getD, set, length-set}
-use lib.Seq.{getD-set-same, getD-set-other}
+use borrow.Rule.Slice.PartMut.{putMid}
+use lib.ListN.{length, getD, take, drop, set, replicate, length-set, length-drop}
+use lib.Seq.{getD-set-same, getD-set-other, getD-drop}
 use lib.Dec.{ltb, leb}
 use Rattle.memory.specs.Lists.{table}
 use Rattle.memory.specs.Words.{over}
@@ -20,7 +21,7 @@ use Rattle.sorting.specs.Scans.{ScannedTo, Starts, clear, blank, PlaneFi
 use Rattle.sorting.specs.Sweeps.{sweepDown, sweepAcross, spotOf, planeOf, widenedLine, isThin, isRuling, Laid, ScannedBack, Cached, Marked, Unmarked, Walked}
 use Rattle.sorting.specs.declared.rulings.Sweep.{Sweep}
 use Rattle.sorting.proofs.MaskLaws.{dot-column, dot-row, dot-inside, isInk-maskOf}
-use Rattle.sorting.proofs.OverLaws.{over-unique}
+use Rattle.sorting.proofs.OverLaws.{over-unique, part-filled}
 use Rattle.sorting.proofs.RunLaws.{behind-off, ahead-off, runThrough-ends, runThrough-between, runThrough-last, starts-run}
 use Rattle.sorting.proofs.ExtentLaws.{row-next, ink-past}
 
@@ -488,3 +489,25 @@ module _ (run-min thick-max w h : ℕ) (m : List ℕ) (wide : 0 < w) (size : len
       over-unique (cutMark run-min thick-max w h m) (w * h) s e room (B .size ∙ (A .size ∙ q))
       (λ k l. let x = marked-across b e B' k l in let y = marked-down a b A' k l in let z = zeros k l in omega arith)
       (λ k l. B' .past k l ∙ (A' .past k l ∙ past k l))
+
+-- the marks are zeros, and what lies past them is as it was
+pub record Cleared (marks n : ℕ) (s t : List ℕ) : Type 0 where
+  pub size : length t ≡ length s
+  pub room : n ≤ length (drop marks t)
+  pub behind : length (drop marks t) ≡ length (drop marks s)
+  pub zeros : (k : ℕ) → k < n → getD (drop marks t) k 0 ≡ 0
+  pub past : (k : ℕ) → n ≤ k → getD (drop marks t) k 0 ≡ getD (drop marks s) k 0
+
+pub marks-cleared : (marks area n : ℕ) (s t : List ℕ) → area ≡ n → n ≤ length s - marks → marks ≤ length s
+    → t ≡ replicate (length (take (marks + area - marks) (drop marks s))) 0 → Cleared marks n s (putMid marks (marks + area - marks) s t)
+marks-cleared marks area n s t q l b h =
+    let f = part-filled marks (marks + area) 0 s t (omega arith) (omega arith) h in
+    let x = length-drop marks s in
+    let y = length-drop marks (putMid marks (marks + area - marks) s t) in
+    record {
+      size = f .0;
+      room = omega (arith, f .0);
+      behind = omega (arith, f .0);
+      zeros = λ k c. getD-drop marks (putMid marks (marks + area - marks) s t) k 0 ∙ f .1 (marks + k) (omega arith) (omega arith);
+      past = λ k c. getD-drop marks (putMid marks (marks + area - marks) s t) k 0 ∙ (f .2 (marks + k) (omega arith) ∙ sym (getD-drop marks s k 0));
+    }

@@ -4,9 +4,10 @@ use mathlib.Core.Bool.{Bool, false, cond, not}
 use mathlib.Core.List.{List}
 use lib.ListN.{getD, length}
 use lib.Dec.{ltb}
-use Prim.Native.Nat.{ℕ, suc, _+_, _*_, _/_, _%_, _≤_, _<_}
-use Rattle.memory.specs.Lists.{occurs}
-use Rattle.memory.specs.Limits.{maxMaskSide, maxMaskDots}
+use Prim.Native.Nat.{ℕ, suc, _+_, _-_, _*_, _/_, _%_, _≤_, _<_, min}
+use Rattle.memory.specs.Lists.{occurs, table}
+use Rattle.memory.specs.Limits.{maxMaskSide, maxMaskDots, maxExtent}
+use Rattle.labelling.specs.Labels.{isInk}
 use Rattle.labelling.specs.declared.component.Component.{Component}
 use Rattle.sorting.specs.Extents.{inkAt, behind, extent}
 
@@ -26,9 +27,23 @@ pub data Starts (p : ℕ → Bool) (x : ℕ) : Type 0 where
 unfoldable pub until : ℕ → (ℕ → ℕ) → (ℕ → ℕ) → ℕ → ℕ
 until i f g k = cond (ltb k i) (f k) (g k)
 
+-- the extent of a dot that is a run of its own
+abbrev pub singleDot : List ℕ → ℕ → ℕ
+singleDot row k = cond (isInk row k) 1 0
+
+-- the dots of a row before x, a start, have their extents, and the others as if each were a run of its own
+pub record RowTo (row : List ℕ) (x : ℕ) (extents : List ℕ) : Type 0 where
+  pub inside : x ≤ length row
+  pub starts : Starts (isInk row) x
+  pub held : extents ≡ table (until x (extent (isInk row) (length row)) (singleDot row)) (length row)
+
 -- how many ink dots in a row, down its column, end at dot i
 abbrev pub countDown : ℕ → List ℕ → ℕ → ℕ
 countDown w m i = behind (inkAt w m (i % w)) (suc (i / w))
+
+-- the same as an extent
+abbrev pub cappedCount : ℕ → List ℕ → ℕ → ℕ
+cappedCount w m i = min (countDown w m i) maxExtent
 
 -- the extent of dot i along its column
 abbrev pub columnExtent : ℕ → ℕ → List ℕ → ℕ → ℕ
@@ -47,6 +62,26 @@ pub record PlaneFits (w h mask-length words : ℕ) : Type 0 where
   pub few : w * h ≤ maxMaskDots
   pub dots : mask-length ≡ w * h
   pub room : w * h ≤ words
+
+-- the dots from `from` up to `to` have their counts and all that follow their extents, along the columns; a row lies below
+pub record TakesUp (w h : ℕ) (m : List ℕ) (from to : ℕ) (extents : List ℕ) : Type 0 where
+  pub wide : 0 < w
+  pub few : w * h ≤ maxMaskDots
+  pub size : length m ≡ w * h
+  pub order : from ≤ to
+  pub above : to + w ≤ w * h
+  pub room : w * h ≤ length extents
+  pub counts : (k : ℕ) → from ≤ k → k < to → getD extents k 0 ≡ cappedCount w m k
+  pub final : (k : ℕ) → to ≤ k → k < w * h → getD extents k 0 ≡ columnExtent w h m k
+
+-- a plane that fits, with the marks from word `marks` on, and two words a place of the longest line before them; a run of 2 is the least
+pub record RulingsRoom (w h run-min mask-length marks words : ℕ) : Type 0 where
+  pub plane : PlaneFits w h mask-length (words - marks)
+  pub before : marks ≤ words
+  pub run : 2 ≤ run-min
+  pub across : w + w ≤ marks
+  pub down : h + h ≤ marks
+  pub short : marks ≤ 4294967295
 
 -- counts by value of the n entries of a list
 pub record CountsOf (counts : List ℕ) (n : ℕ) (l : List ℕ) : Type 0 where

@@ -1,6 +1,6 @@
 // Run extents: for each ink dot the length of the run through it, along its row or its column (layout.rs, extent_through).
 ghost use mathlib.Core.Path.{_≡_};
-ghost use mathlib.Core.Bool.{cond, true, false};
+ghost use mathlib.Core.Bool.{cond, true, false, _&&_};
 ghost use Prim.Native.Nat.{ℕ, _+_, _-_, _*_, _≤_, _<_, min};
 ghost use lib.ListN.{length, getD, replicate};
 ghost use lib.Dec.{ltb};
@@ -10,7 +10,7 @@ ghost use Rattle.memory.specs.Limits.{maxExtent};
 ghost use Rattle.labelling.specs.Labels.{isInk};
 ghost use Rattle.sorting.specs.Extents.{extent, rowExtents, columnExtents};
 ghost use Rattle.sorting.specs.Answers.{extentsRefusal, isMaskSide, extentsOutcome, runExtents};
-ghost use Rattle.sorting.specs.Scans.{ScannedTo, PlaneFits, countDown, columnExtent, until};
+ghost use Rattle.sorting.specs.Scans.{ScannedTo, PlaneFits, RowTo, singleDot, TakesUp, cappedCount, columnExtent, until};
 use memory::refuse_if;
 
 // The longest side of a mask, the most dots, and the greatest extent told.
@@ -98,19 +98,71 @@ fn row_extents(mask: &[u8], width: u32, height: u32, extents: &mut [u32])
     }
 }
 
-// One row, run by run.
+// One row: each dot as a run of its own, then the runs of those stretches where dots join.
 fn extents_of_row(row: &[u8], extents: &mut [u32])
     requires { ⌜ (length (now row) ≡ length (now extents)) × (length (now row) ≤ 131072) ⌝ }
     ensures { λ _. ⌜ now (extents .exit) ≡ table (extent (isInk (now (row .entry))) (length (now (row .entry)))) (length (now (row .entry))) ⌝ }
 {
+    single_dots(row, extents);
     let mut x: usize = 0;
-    while x < row.len() {
-        let blank = blank_end(row, x);
-        fill(&mut extents[x..blank], 0);
-        let ink = ink_end(row, blank);
-        fill(&mut extents[blank..ink], capped(ink - blank));
-        x = ink;
+    while x + 1 < row.len() {
+        x = extents_from(row, x, extents);
     }
+}
+
+// 1 at each ink dot, else 0.
+fn single_dots(row: &[u8], extents: &mut [u32])
+    requires { ⌜ length (now row) ≡ length (now extents) ⌝ }
+    ensures { λ _. ⌜ now (extents .exit) ≡ table (singleDot (now (row .entry))) (length (now (row .entry))) ⌝ }
+{
+    let mut i: usize = 0;
+    while i < row.len() {
+        extents[i] = (0 < row[i]) as u32;
+        i += 1;
+    }
+}
+
+// From the start x on to the next one: a stretch where no two dots join is as it is to be.
+fn extents_from(row: &[u8], x: usize, extents: &mut [u32]) -> usize
+    requires { ⌜ (x + 1 < length (now row)) × (RowTo (now row) x (now extents)) ⌝ }
+    ensures { λ r. ⌜ (x < r) × (RowTo (now (row .entry)) r (now (extents .exit))) ⌝ }
+{
+    let to = stretch_end(x, row.len() - 1);
+    if !goes_on(row, 1, x, to) {
+        return to;
+    }
+    extents_of_runs(row, x, to, extents)
+}
+
+// Where the stretch from x on ends: at most 64 dots, none from `end` on.
+fn stretch_end(x: usize, end: usize) -> usize
+    requires { ⌜ x < end ⌝ }
+    ensures { λ r. ⌜ (x < r) × (r ≤ end) ⌝ }
+{
+    if 64 < end - x { x + 64 } else { end }
+}
+
+// Run by run, until one ends at `to` or past it.
+fn extents_of_runs(row: &[u8], x: usize, to: usize, extents: &mut [u32]) -> usize
+    requires { ⌜ (x < to) × (to ≤ length (now row)) × (RowTo (now row) x (now extents)) ⌝ }
+    ensures { λ r. ⌜ (x < r) × (RowTo (now (row .entry)) r (now (extents .exit))) ⌝ }
+{
+    let mut s = x;
+    while s < to {
+        s = extents_of_run(row, s, extents);
+    }
+    s
+}
+
+// The first run from the start x on; gives where it ends.
+fn extents_of_run(row: &[u8], x: usize, extents: &mut [u32]) -> usize
+    requires { ⌜ (x < length (now row)) × (RowTo (now row) x (now extents)) ⌝ }
+    ensures { λ r. ⌜ (x < r) × (RowTo (now (row .entry)) r (now (extents .exit))) ⌝ }
+{
+    let blank = blank_end(row, x);
+    let ink = ink_end(row, blank);
+    fill(&mut extents[blank..ink], capped(ink - blank));
+    ink
 }
 
 // The first place from x on that is ink, or the end.
@@ -165,8 +217,8 @@ pub fn fill(words: &mut [u32], v: u32)
     }
 }
 
-// Along the columns: down, each dot counts the ink that ends at it; up again, each dot takes what the dot below has. Row by row,
-// so that a row's dots are independent.
+// Along the columns: down, each dot counts the ink that ends at it; up again, each dot that goes on below takes what the dot below
+// has. Row by row, so that a row's dots are independent.
 fn column_extents(mask: &[u8], width: u32, height: u32, extents: &mut [u32])
     requires { ⌜ PlaneFits width height (length (now mask)) (length (now extents)) ⌝ }
     ensures { λ _. ⌜ now (extents .exit) ≡ over (columnExtents width height (now (mask .entry))) (now (extents .entry)) ⌝ }
@@ -179,7 +231,7 @@ fn column_extents(mask: &[u8], width: u32, height: u32, extents: &mut [u32])
 
 fn count_down(mask: &[u8], w: usize, h: usize, extents: &mut [u32])
     requires { ⌜ PlaneFits w h (length (now mask)) (length (now extents)) ⌝ }
-    ensures { λ _. ⌜ now (extents .exit) ≡ over (table (countDown w (now (mask .entry))) (w * h)) (now (extents .entry)) ⌝ }
+    ensures { λ _. ⌜ now (extents .exit) ≡ over (table (cappedCount w (now (mask .entry))) (w * h)) (now (extents .entry)) ⌝ }
 {
     count_first_row(mask, w, extents);
     let mut y: usize = 1;
@@ -191,7 +243,7 @@ fn count_down(mask: &[u8], w: usize, h: usize, extents: &mut [u32])
 
 fn count_first_row(mask: &[u8], w: usize, extents: &mut [u32])
     requires { ⌜ (0 < w) × (w ≤ length (now mask)) × (length (now mask) ≤ length (now extents)) ⌝ }
-    ensures { λ _. ⌜ now (extents .exit) ≡ over (table (until w (countDown w (now (mask .entry))) (λ k. getD (now (extents .entry)) k 0)) (length (now (mask .entry)))) (now (extents .entry)) ⌝ }
+    ensures { λ _. ⌜ now (extents .exit) ≡ over (table (until w (cappedCount w (now (mask .entry))) (λ k. getD (now (extents .entry)) k 0)) (length (now (mask .entry)))) (now (extents .entry)) ⌝ }
 {
     let mut i: usize = 0;
     while i < w {
@@ -202,8 +254,8 @@ fn count_first_row(mask: &[u8], w: usize, extents: &mut [u32])
 
 // The row at `at`, from the row above.
 fn count_row(mask: &[u8], w: usize, at: usize, extents: &mut [u32])
-    requires { ⌜ (0 < w) × (w ≤ at) × (at + w ≤ length (now mask)) × (length (now mask) ≤ length (now extents)) × (length (now mask) ≤ 1073741824) × ((k : ℕ) → k < at → getD (now extents) k 0 ≡ countDown w (now mask) k) ⌝ }
-    ensures { λ _. ⌜ now (extents .exit) ≡ over (table (until (at + w) (countDown w (now (mask .entry))) (λ k. getD (now (extents .entry)) k 0)) (length (now (mask .entry)))) (now (extents .entry)) ⌝ }
+    requires { ⌜ (0 < w) × (w ≤ at) × (at + w ≤ length (now mask)) × (length (now mask) ≤ length (now extents)) × ((k : ℕ) → k < at → getD (now extents) k 0 ≡ cappedCount w (now mask) k) ⌝ }
+    ensures { λ _. ⌜ now (extents .exit) ≡ over (table (until (at + w) (cappedCount w (now (mask .entry))) (λ k. getD (now (extents .entry)) k 0)) (length (now (mask .entry)))) (now (extents .entry)) ⌝ }
 {
     let end = at + w;
     let mut i = at;
@@ -213,80 +265,89 @@ fn count_row(mask: &[u8], w: usize, at: usize, extents: &mut [u32])
     }
 }
 
-// One more where there is ink, else none; without a branch, so that a row goes many dots at a time.
+// One more where there is ink, up to the greatest extent, else none; without a branch, so that a row goes many dots at a time.
 fn count_on(b: u8, above: u32) -> u32
-    requires { ⌜ above ≤ 1073741824 ⌝ }
-    ensures { λ r. ⌜ r ≡ cond (ltb 0 b) (above + 1) 0 ⌝ }
+    requires { ⌜ above ≤ maxExtent ⌝ }
+    ensures { λ r. ⌜ r ≡ cond (ltb 0 b) (min (above + 1) maxExtent) 0 ⌝ }
 {
     let ink = (0 < b) as u32;
-    ink * (above + 1)
+    let more = (above < MAX_EXTENT) as u32;
+    ink * (above + more)
 }
 
+// From the last row, which has its extents, up.
 fn take_up(mask: &[u8], w: usize, h: usize, extents: &mut [u32])
-    requires { ⌜ (PlaneFits w h (length (now mask)) (length (now extents))) × ((k : ℕ) → k < w * h → getD (now extents) k 0 ≡ countDown w (now mask) k) ⌝ }
+    requires { ⌜ (PlaneFits w h (length (now mask)) (length (now extents))) × ((k : ℕ) → k < w * h → getD (now extents) k 0 ≡ cappedCount w (now mask) k) ⌝ }
     ensures { λ _. ⌜ now (extents .exit) ≡ over (table (columnExtent w h (now (mask .entry))) (w * h)) (now (extents .entry)) ⌝ }
 {
     let mut y = h - 1;
-    cap_row(y * w, extents, mask.len());
     while 0 < y {
         y -= 1;
-        take_inky_row(mask, w, h, y * w, extents);
+        take_row(mask, w, h, y * w, extents);
     }
 }
 
-// The last row: nothing lies below it.
-fn cap_row(at: usize, extents: &mut [u32], end: usize)
-    requires { ⌜ (at ≤ end) × (end ≤ length (now extents)) ⌝ }
-    ensures { λ _. ⌜ now (extents .exit) ≡ over (table (until at (λ k. getD (now (extents .entry)) k 0) (λ k. min (getD (now (extents .entry)) k 0) maxExtent)) end) (now (extents .entry)) ⌝ }
-{
-    let mut i = end;
-    while at < i {
-        i -= 1;
-        extents[i] = least(extents[i]);
-    }
-}
-
-// The row at `at`, from the row below; a row without ink is as it is to be.
-fn take_inky_row(mask: &[u8], w: usize, h: usize, at: usize, extents: &mut [u32])
-    requires { ⌜ (0 < w) × (length (now mask) ≡ w * h) × (at + w + w ≤ w * h) × (w * h ≤ length (now extents)) × ((k : ℕ) → at ≤ k → k < at + w → getD (now extents) k 0 ≡ countDown w (now mask) k) × ((k : ℕ) → at + w ≤ k → k < w * h → getD (now extents) k 0 ≡ columnExtent w h (now mask) k) ⌝ }
-    ensures { λ _. ⌜ now (extents .exit) ≡ over (table (until at (λ k. getD (now (extents .entry)) k 0) (columnExtent w h (now (mask .entry)))) (w * h)) (now (extents .entry)) ⌝ }
-{
-    let end = at + w;
-    let first = blank_end(&mask[at..end], 0);
-    if first < w {
-        take_row(mask, w, h, at, extents);
-    }
-}
-
+// The row at `at`, from the row below, a stretch at a time.
 fn take_row(mask: &[u8], w: usize, h: usize, at: usize, extents: &mut [u32])
-    requires { ⌜ (0 < w) × (length (now mask) ≡ w * h) × (at + w + w ≤ w * h) × (w * h ≤ length (now extents)) × ((k : ℕ) → at ≤ k → k < at + w → getD (now extents) k 0 ≡ countDown w (now mask) k) × ((k : ℕ) → at + w ≤ k → k < w * h → getD (now extents) k 0 ≡ columnExtent w h (now mask) k) ⌝ }
+    requires { ⌜ TakesUp w h (now mask) at (at + w) (now extents) ⌝ }
     ensures { λ _. ⌜ now (extents .exit) ≡ over (table (until at (λ k. getD (now (extents .entry)) k 0) (columnExtent w h (now (mask .entry)))) (w * h)) (now (extents .entry)) ⌝ }
 {
-    let mut i = at + w;
-    while at < i {
+    let mut to = at + w;
+    while at < to {
+        let from = stretch_start(at, to);
+        take_stretch(mask, w, h, from, to, extents);
+        to = from;
+    }
+}
+
+// Where the stretch that ends before `to` starts: at most 128 dots, none before `at`.
+fn stretch_start(at: usize, to: usize) -> usize
+    requires { ⌜ (at < to) × (to ≤ 1073741824) ⌝ }
+    ensures { λ r. ⌜ (at ≤ r) × (r < to) ⌝ }
+{
+    if at + 128 < to { to - 128 } else { at }
+}
+
+// A stretch of a row: where no dot goes on below, the counts are the extents.
+fn take_stretch(mask: &[u8], w: usize, h: usize, from: usize, to: usize, extents: &mut [u32])
+    requires { ⌜ TakesUp w h (now mask) from to (now extents) ⌝ }
+    ensures { λ _. ⌜ now (extents .exit) ≡ over (table (until from (λ k. getD (now (extents .entry)) k 0) (columnExtent w h (now (mask .entry)))) (w * h)) (now (extents .entry)) ⌝ }
+{
+    if goes_on(mask, w, from, to) {
+        take_dots(mask, w, h, from, to, extents);
+    }
+}
+
+// Whether a dot of the stretch and the dot below it are ink.
+fn goes_on(mask: &[u8], w: usize, from: usize, to: usize) -> bool
+    requires { ⌜ (from ≤ to) × (to + w ≤ length (now mask)) ⌝ }
+    ensures { λ r. ⌜ (r ≡ false → (k : ℕ) → from ≤ k → k < to → (isInk (now (mask .entry)) k && isInk (now (mask .entry)) (k + w)) ≡ false) ⌝ }
+{
+    let mut found = false;
+    let mut i = from;
+    while i < to {
+        found = found | ((0 < mask[i]) & (0 < mask[i + w]));
+        i += 1;
+    }
+    found
+}
+
+fn take_dots(mask: &[u8], w: usize, h: usize, from: usize, to: usize, extents: &mut [u32])
+    requires { ⌜ TakesUp w h (now mask) from to (now extents) ⌝ }
+    ensures { λ _. ⌜ now (extents .exit) ≡ over (table (until from (λ k. getD (now (extents .entry)) k 0) (columnExtent w h (now (mask .entry)))) (w * h)) (now (extents .entry)) ⌝ }
+{
+    let mut i = to;
+    while from < i {
         i -= 1;
         extents[i] = take_on(mask[i], mask[i + w], extents[i], extents[i + w]);
     }
 }
 
-// The extent of a dot, from its count and the extent of the dot below; without a branch.
+// The extent of a dot: that of the dot below where both are ink, else its count; without a branch.
 fn take_on(b: u8, below: u8, own: u32, lower: u32) -> u32
-    requires { ⌜ lower ≤ 65534 ⌝ }
-    ensures { λ r. ⌜ r ≡ cond (ltb 0 b) (cond (ltb 0 below) lower (min own maxExtent)) 0 ⌝ }
+    requires { ⌜ (own ≤ maxExtent) × (lower ≤ maxExtent) ⌝ }
+    ensures { λ r. ⌜ r ≡ cond (ltb 0 b && ltb 0 below) lower own ⌝ }
 {
-    let ink = (0 < b) as u32;
-    let more = (0 < below) as u32;
-    let e = least(own);
-    ink * (more * lower + (1 - more) * e)
-}
-
-// A count as an extent.
-fn least(count: u32) -> u32
-    ensures { λ r. ⌜ r ≡ min count maxExtent ⌝ }
-{
-    if count < MAX_EXTENT {
-        count
-    } else {
-        MAX_EXTENT
-    }
+    let more = ((0 < b) & (0 < below)) as u32;
+    more * lower + (1 - more) * own
 }

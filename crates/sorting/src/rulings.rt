@@ -3,14 +3,14 @@
 ghost use mathlib.Core.Path.{_≡_};
 ghost use mathlib.Core.Bool.{cond, true, false};
 ghost use Prim.Native.Nat.{ℕ, _+_, _*_, _≤_, _<_};
-ghost use lib.ListN.{length, getD, set};
+ghost use lib.ListN.{length, getD, set, take, drop};
 ghost use lib.Dec.{leb};
 ghost use Rattle.memory.specs.Limits.{maxMaskDots};
 ghost use Rattle.sorting.specs.Extents.{extent};
 ghost use Rattle.memory.specs.Lists.{table};
 ghost use Rattle.memory.specs.Words.{over};
 ghost use Rattle.sorting.specs.Rulings.{cutMark};
-ghost use Rattle.sorting.specs.Scans.{ScannedTo, Starts, PlaneFits};
+ghost use Rattle.sorting.specs.Scans.{ScannedTo, Starts, RulingsRoom};
 ghost use Rattle.sorting.specs.Sweeps.{sweepDown, sweepAcross, spotOf, planeOf, widenedLine, isThin, isRuling, Laid, ScannedBack, Cached, Marked, Unmarked, Walked};
 use crate::extents::area;
 use crate::extents::capped;
@@ -24,26 +24,27 @@ pub struct Sweep {
     pub outer: usize,
 }
 
-// The two cut masks from the ink, a word a dot: 1 in the horizontal mask, 2 in the vertical one, 3 in both.
+// The two cut masks from the ink, a word a dot from word `marks` on: 1 in the horizontal mask, 2 in the vertical one, 3 in both. The
+// words before are worked in.
 pub fn thin_rulings(
     ink: &[u8],
     width: u32,
     height: u32,
     run_min: u32,
     thick_max: u32,
-    marks: &mut [u32],
-    counters: &mut [u32],
+    words: &mut [u32],
+    marks: usize,
 )
-    requires { ⌜ (PlaneFits width height (length (now ink)) (length (now marks))) × (2 ≤ «run_min») × (width + width ≤ length (now counters)) × (height + height ≤ length (now counters)) ⌝ }
-    ensures { λ _. ⌜ now (marks .exit) ≡ over (table (cutMark «run_min» «thick_max» width height (now (ink .entry))) (width * height)) (now (marks .entry)) ⌝ }
+    requires { ⌜ RulingsRoom width height «run_min» (length (now ink)) marks (length (now words)) ⌝ }
+    ensures { λ _. ⌜ (length (now (words .exit)) ≡ length (now (words .entry))) × (drop marks (now (words .exit)) ≡ over (table (cutMark «run_min» «thick_max» width height (now (ink .entry))) (width * height)) (drop marks (now (words .entry)))) ⌝ }
 {
     let w = width as usize;
     let h = height as usize;
     let run = run_min as usize;
-    let dots = area(width, height);
-    fill(&mut marks[0..dots], 0);
-    mark_lines(ink, marks, counters, down(w, h), run, thick_max, 2);
-    mark_lines(ink, marks, counters, across(w, h), run, thick_max, 1);
+    let end = marks + area(width, height);
+    fill(&mut words[marks..end], 0);
+    mark_lines(ink, words, marks, down(w, h), run, thick_max, 2);
+    mark_lines(ink, words, marks, across(w, h), run, thick_max, 1);
 }
 
 // The columns of a plane.
@@ -73,22 +74,22 @@ fn across(w: usize, h: usize) -> Sweep
 // Along every line.
 fn mark_lines(
     ink: &[u8],
-    marks: &mut [u32],
-    cache: &mut [u32],
+    words: &mut [u32],
+    marks: usize,
     g: Sweep,
     run_min: usize,
     thick_max: u32,
     bit: u32,
 )
-    requires { ⌜ (Laid g (length (now ink))) × (0 < «run_min») × («run_min» ≤ 4294967295) × (bit ≤ 2) × (Unmarked g (length (now ink)) (now marks) 0) × (g .inner + g .inner ≤ length (now cache)) ⌝ }
-    ensures { λ _. ⌜ Marked g (length (now (ink .entry))) (isRuling g (now (ink .entry)) «run_min» «thick_max») bit (now (marks .entry)) (now (marks .exit)) 0 (g .outer * g .inner) ⌝ }
+    requires { ⌜ (Laid g (length (now ink))) × (0 < «run_min») × («run_min» ≤ 4294967295) × (bit ≤ 2) × (Unmarked g (length (now ink)) (drop marks (now words)) 0) × (g .inner + g .inner ≤ marks) × (marks ≤ length (now words)) ⌝ }
+    ensures { λ _. ⌜ Marked g (length (now (ink .entry))) (isRuling g (now (ink .entry)) «run_min» «thick_max») bit (drop marks (now (words .entry))) (drop marks (now (words .exit))) 0 (g .outer * g .inner) ⌝ }
 {
     let inner = g.inner;
     let outer = g.outer;
-    fill(&mut cache[0..inner], 0);
+    fill(&mut words[0..inner], 0);
     let mut o: usize = 0;
     while o < outer {
-        mark_line(ink, marks, cache, g, o, run_min, thick_max, bit);
+        mark_line(ink, words, marks, g, o, run_min, thick_max, bit);
         o += 1;
     }
 }
@@ -96,29 +97,29 @@ fn mark_lines(
 // Along one line: each turn goes on to a place that no run reaches over.
 fn mark_line(
     ink: &[u8],
-    marks: &mut [u32],
-    cache: &mut [u32],
+    words: &mut [u32],
+    marks: usize,
     g: Sweep,
     o: usize,
     run_min: usize,
     thick_max: u32,
     bit: u32,
 )
-    requires { ⌜ (Laid g (length (now ink))) × (o < g .outer) × (0 < «run_min») × («run_min» ≤ 4294967295) × (bit ≤ 2) × (Unmarked g (length (now ink)) (now marks) (o * g .inner)) × (Cached g (now ink) o (now cache)) ⌝ }
-    ensures { λ _. ⌜ (Marked g (length (now (ink .entry))) (isRuling g (now (ink .entry)) «run_min» «thick_max») bit (now (marks .entry)) (now (marks .exit)) (o * g .inner) (o * g .inner + g .inner)) × (Cached g (now (ink .entry)) o (now (cache .exit))) ⌝ }
+    requires { ⌜ (Laid g (length (now ink))) × (o < g .outer) × (0 < «run_min») × («run_min» ≤ 4294967295) × (bit ≤ 2) × (Unmarked g (length (now ink)) (drop marks (now words)) (o * g .inner)) × (Cached g (now ink) o (take marks (now words))) × (marks ≤ length (now words)) ⌝ }
+    ensures { λ _. ⌜ (Marked g (length (now (ink .entry))) (isRuling g (now (ink .entry)) «run_min» «thick_max») bit (drop marks (now (words .entry))) (drop marks (now (words .exit))) (o * g .inner) (o * g .inner + g .inner)) × (Cached g (now (ink .entry)) o (take marks (now (words .exit)))) ⌝ }
 {
     let inner = g.inner;
     let mut x: usize = 0;
     while x + run_min <= inner {
-        x = mark_from(ink, marks, cache, g, o, x, run_min, thick_max, bit);
+        x = mark_from(ink, words, marks, g, o, x, run_min, thick_max, bit);
     }
 }
 
 // One turn: a run of at least run_min from x on covers the place run_min - 1 further, so the walk starts there, backwards.
 fn mark_from(
     ink: &[u8],
-    marks: &mut [u32],
-    cache: &mut [u32],
+    words: &mut [u32],
+    marks: usize,
     g: Sweep,
     o: usize,
     x: usize,
@@ -126,8 +127,8 @@ fn mark_from(
     thick_max: u32,
     bit: u32,
 ) -> usize
-    requires { ⌜ (Laid g (length (now ink))) × (o < g .outer) × (0 < «run_min») × (x + «run_min» ≤ g .inner) × (bit ≤ 2) × (Starts (widenedLine g (now ink) o) x) × (Unmarked g (length (now ink)) (now marks) (o * g .inner + x)) × (Cached g (now ink) o (now cache)) ⌝ }
-    ensures { λ r. ⌜ (Walked g (now (ink .entry)) «run_min» «thick_max» bit o x r (now (marks .entry)) (now (marks .exit))) × (Cached g (now (ink .entry)) o (now (cache .exit))) ⌝ }
+    requires { ⌜ (Laid g (length (now ink))) × (o < g .outer) × (0 < «run_min») × (x + «run_min» ≤ g .inner) × (bit ≤ 2) × (Starts (widenedLine g (now ink) o) x) × (Unmarked g (length (now ink)) (drop marks (now words)) (o * g .inner + x)) × (Cached g (now ink) o (take marks (now words))) × (marks ≤ length (now words)) ⌝ }
+    ensures { λ r. ⌜ (Walked g (now (ink .entry)) «run_min» «thick_max» bit o x r (drop marks (now (words .entry))) (drop marks (now (words .exit)))) × (Cached g (now (ink .entry)) o (take marks (now (words .exit)))) ⌝ }
 {
     let probe = x + run_min;
     let start = run_start(ink, g, o, x, probe);
@@ -135,15 +136,15 @@ fn mark_from(
         return start;
     }
     let end = run_end(ink, g, o, probe);
-    cut_run(ink, marks, cache, g, o, x, end, thick_max, bit);
+    cut_run(ink, words, marks, g, o, x, end, thick_max, bit);
     end
 }
 
 // The thin dots of a long run.
 fn cut_run(
     ink: &[u8],
-    marks: &mut [u32],
-    cache: &mut [u32],
+    words: &mut [u32],
+    marks: usize,
     g: Sweep,
     o: usize,
     from: usize,
@@ -151,12 +152,12 @@ fn cut_run(
     thick_max: u32,
     bit: u32,
 )
-    requires { ⌜ (Laid g (length (now ink))) × (o < g .outer) × (from ≤ to) × (to ≤ g .inner) × (bit ≤ 2) × (Unmarked g (length (now ink)) (now marks) (o * g .inner + from)) × (Cached g (now ink) o (now cache)) ⌝ }
-    ensures { λ _. ⌜ (Marked g (length (now (ink .entry))) (isThin g (now (ink .entry)) «thick_max») bit (now (marks .entry)) (now (marks .exit)) (o * g .inner + from) (o * g .inner + to)) × (Cached g (now (ink .entry)) o (now (cache .exit))) ⌝ }
+    requires { ⌜ (Laid g (length (now ink))) × (o < g .outer) × (from ≤ to) × (to ≤ g .inner) × (bit ≤ 2) × (Unmarked g (length (now ink)) (drop marks (now words)) (o * g .inner + from)) × (Cached g (now ink) o (take marks (now words))) × (marks ≤ length (now words)) ⌝ }
+    ensures { λ _. ⌜ (Marked g (length (now (ink .entry))) (isThin g (now (ink .entry)) «thick_max») bit (drop marks (now (words .entry))) (drop marks (now (words .exit))) (o * g .inner + from) (o * g .inner + to)) × (Cached g (now (ink .entry)) o (take marks (now (words .exit)))) ⌝ }
 {
     let mut i = from;
     while i < to {
-        cut_dot(ink, marks, cache, g, i, o, thick_max, bit);
+        cut_dot(ink, words, marks, g, i, o, thick_max, bit);
         i += 1;
     }
 }
@@ -164,22 +165,22 @@ fn cut_run(
 // One dot, marked where it is ink and thin across.
 fn cut_dot(
     ink: &[u8],
-    marks: &mut [u32],
-    cache: &mut [u32],
+    words: &mut [u32],
+    marks: usize,
     g: Sweep,
     i: usize,
     o: usize,
     thick_max: u32,
     bit: u32,
 )
-    requires { ⌜ (Laid g (length (now ink))) × (i < g .inner) × (o < g .outer) × (bit ≤ 2) × (length (now ink) ≤ length (now marks)) × (getD (now marks) (spotOf g i o) 0 ≤ 2) × (Cached g (now ink) o (now cache)) ⌝ }
-    ensures { λ _. ⌜ (now (marks .exit) ≡ cond (isThin g (now (ink .entry)) «thick_max» i o) (set (now (marks .entry)) (spotOf g i o) (getD (now (marks .entry)) (spotOf g i o) 0 + bit)) (now (marks .entry))) × (Cached g (now (ink .entry)) o (now (cache .exit))) ⌝ }
+    requires { ⌜ (Laid g (length (now ink))) × (i < g .inner) × (o < g .outer) × (bit ≤ 2) × (length (now ink) ≤ length (drop marks (now words))) × (getD (drop marks (now words)) (spotOf g i o) 0 ≤ 2) × (Cached g (now ink) o (take marks (now words))) × (marks ≤ length (now words)) ⌝ }
+    ensures { λ _. ⌜ (drop marks (now (words .exit)) ≡ cond (isThin g (now (ink .entry)) «thick_max» i o) (set (drop marks (now (words .entry))) (spotOf g i o) (getD (drop marks (now (words .entry))) (spotOf g i o) 0 + bit)) (drop marks (now (words .entry)))) × (Cached g (now (ink .entry)) o (take marks (now (words .exit)))) ⌝ }
 {
     if is_ink(ink, g, i, o) {
-        let thickness = extent_across(ink, cache, g, i, o);
+        let thickness = extent_across(ink, &mut words[0..marks], g, i, o);
         if thickness <= thick_max {
-            let at = spot(g, i, o);
-            marks[at] = marks[at] + bit;
+            let at = marks + spot(g, i, o);
+            words[at] = words[at] + bit;
         }
     }
 }

@@ -1,6 +1,10 @@
-use mathlib.Core.Path.{_∙_}
-use Rattle.grouping.specs.Blocks.{blockNumber, blockFirsts}
-use Rattle.grouping.specs.Words.{lineBoxes}
+use mathlib.Core.Path.{_∙_, ap}
+use mathlib.Core.List.{List}
+use Prim.Native.Nat.{ℕ}
+use Rattle.memory.specs.Records.{encoded}
+use Rattle.grouping.specs.Blocks.{blockNumber, blockFirsts, blocksOf}
+use Rattle.grouping.specs.Numbering.{withBlocks}
+use Rattle.grouping.specs.Words.{lineBoxes, blockRecord, putAt}
 use Rattle.grouping.proofs.NumberLaws.{blocks-same}
 use Rattle.grouping.proofs.TogetherLaws.{block-low, block-idem}
 use native.Mathlib.Omega.{arith}
@@ -12,7 +16,17 @@ number-lines-requires : tie.Need-number-lines-requires
 number-lines-requires c κs = search needs
 
 write-blocks-requires : tie.Need-write-blocks-requires
-write-blocks-requires c κs = let g = c .before .before .before .before .before .before .before .before .before .before .before .pre in ((g .w, c .before .before .before .before .before .before .before .before .before .before .before .args .h, g .lines), g .few, omega (arith, c .before .before .before .before .before .number-lines .kept .1 .1 .1 .1 .0), g .room, ((blockFirsts (c .before .before .before .before .before .before .before .before .before .before .before .args .sheet) (lineBoxes (c .before .before .before .before .before .before .before .before .before .before .before .args .lines .now) (c .before .before .before .before .before .before .before .before .before .before .before .args .n))), block-low (c .before .before .before .before .before .before .before .before .before .before .before .args .sheet) (lineBoxes (c .before .before .before .before .before .before .before .before .before .before .before .args .lines .now) (c .before .before .before .before .before .before .before .before .before .before .before .args .n)), block-idem (c .before .before .before .before .before .before .before .before .before .before .before .args .sheet) (lineBoxes (c .before .before .before .before .before .before .before .before .before .before .before .args .lines .now) (c .before .before .before .before .before .before .before .before .before .before .before .args .n)), c .before .before .before .before .before .number-lines .ensures))
+write-blocks-requires c κs =
+    let a = c .before .before .before .before .before .before .before .before .before .args in
+    let g = c .before .before .before .before .before .before .before .before .before .pre in
+    let ls = lineBoxes (a .words .now) (a .n) in (
+      (g .0 .w, a .h, g .0 .lines),
+      g .0 .few,
+      omega (arith, g .0 .parents, c .before .before .before .before .number-lines .kept .1 .1 .1 .1 .0),
+      g .1,
+      g .2,
+      (blockFirsts (a .sheet) ls, block-low (a .sheet) ls, block-idem (a .sheet) ls, c .before .before .before .before .number-lines .ensures),
+    )
 
 write-numbers-requires : tie.Need-write-numbers-requires
 write-numbers-requires c κs = search needs
@@ -23,12 +37,17 @@ same-length c = search needs
 same-length-2 : tie.Need-same-length-2
 same-length-2 c = search needs
 
-same-length-3 : tie.Need-same-length-3
-same-length-3 c = search needs
-
 returns : tie.Need-returns
-returns c = let e = c .before .before .before .before .before .before .before .write-blocks .ensures (blockFirsts (c .before .before .before .before .before .before .before .before .before .before .before .before .before .before .before .before .before .before .before .args .sheet) (lineBoxes (c .before .before .before .before .before .before .before .before .before .before .before .before .before .before .before .before .before .before .before .args .lines .now) (c .before .before .before .before .before .before .before .before .before .before .before .before .before .before .before .before .before .before .before .args .n))) (block-low (c .before .before .before .before .before .before .before .before .before .before .before .before .before .before .before .before .before .before .before .args .sheet) (lineBoxes (c .before .before .before .before .before .before .before .before .before .before .before .before .before .before .before .before .before .before .before .args .lines .now) (c .before .before .before .before .before .before .before .before .before .before .before .before .before .before .before .before .before .before .before .args .n))) (block-idem (c .before .before .before .before .before .before .before .before .before .before .before .before .before .before .before .before .before .before .before .args .sheet) (lineBoxes (c .before .before .before .before .before .before .before .before .before .before .before .before .before .before .before .before .before .before .before .args .lines .now) (c .before .before .before .before .before .before .before .before .before .before .before .before .before .before .before .before .before .before .before .args .n))) (c .before .before .before .before .before .before .before .before .before .before .before .before .before .number-lines .ensures) in
-    (e .0, e .1, c .before .before .write-numbers .ensures ∙ blocks-same _ (blockNumber (blockFirsts (c .before .before .before .before .before .before .before .before .before .before .before .before .before .before .before .before .before .before .before .args .sheet) (lineBoxes (c .before .before .before .before .before .before .before .before .before .before .before .before .before .before .before .before .before .before .before .args .lines .now) (c .before .before .before .before .before .before .before .before .before .before .before .before .before .before .before .before .before .before .before .args .n)))) (c .before .before .before .before .before .before .before .before .before .before .before .before .before .before .before .before .before .before .before .args .n) (c .before .before .before .before .before .before .before .before .before .before .before .before .before .before .before .before .before .before .before .args .lines .now) (c .before .before .before .before .before .before .before .before .before .before .before .before .before .number-lines .ensures))
+returns c =
+    let a = c .before .before .before .before .before .before .before .before .before .before .before .before .before .before .before .before .before .args in
+    let ls = lineBoxes (a .words .now) (a .n) in
+    let numbers = c .before .before .before .before .before .before .before .before .before .before .before .before .number-lines .ensures in
+    let e = c .before .before .before .before .before .before .before .write-blocks .ensures (blockFirsts (a .sheet) ls) (block-low (a .sheet) ls) (block-idem (a .sheet) ls) numbers in (
+      e .0,
+      c .before .before .write-numbers .ensures
+          ∙ (blocks-same _ (blockNumber (blockFirsts (a .sheet) ls)) (a .n) _ numbers
+          ∙ ap (withBlocks (blockNumber (blockFirsts (a .sheet) ls)) (a .n)) (e .1)),
+    )
 
 pub blocks-spec : {M : Type 1} → statement M
 blocks-spec =
@@ -39,5 +58,4 @@ blocks-spec =
     write-numbers-requires
     same-length
     same-length-2
-    same-length-3
     returns)

@@ -14,10 +14,10 @@ lesser-requires : tie.Need-lesser-requires
 lesser-requires c κs = search needs
 
 join-lines-requires : tie.Need-join-lines-requires
-join-lines-requires c κs = let g = c .before .before .before .before .before .before .before .before .pre .1 in ((g .w, c .before .before .before .before .before .before .before .before .args .h, g .lines, g .narrow, omega arith), g .by-top, g .few, omega (arith, c .before .before .before .before .gap-limits .kept .1 .1 .1 .1 .0))
+join-lines-requires c κs = let g = c .before .before .before .before .before .before .before .before .pre in ((g .w, c .before .before .before .before .before .before .before .before .args .h, g .lines, g .narrow, omega arith), g .by-top, g .few, omega (arith, c .before .before .before .before .gap-limits .kept .1 .1 .1 .1 .0))
 
 number-blocks-requires : tie.Need-number-blocks-requires
-number-blocks-requires c κs = let g = c .before .before .before .before .before .before .before .before .before .before .before .before .pre .1 in (omega (arith, c .before .before .before .before .before .before .before .before .gap-limits .kept .1 .1 .1 .1 .0, c .before .before .before .join-lines .kept .1 .1 .1 .1 .0), g .few, c .before .before .before .join-lines .ensures .down)
+number-blocks-requires c κs = let g = c .before .before .before .before .before .before .before .before .before .before .before .before .pre in (omega (arith, c .before .before .before .before .before .before .before .before .gap-limits .kept .1 .1 .1 .1 .0, c .before .before .before .join-lines .kept .1 .1 .1 .1 .0), g .few, c .before .before .before .join-lines .ensures .down)
 
 same-length : tie.Need-same-length
 same-length c = search needs

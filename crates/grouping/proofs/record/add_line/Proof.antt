@@ -10,9 +10,6 @@ use borrow.Author.Needs.{needs}
 use Rattle.grouping.proofs.record.add_line.Statement.{statement}
 use Rattle.grouping.proofs.record.add_line.Tie as tie
 
-line-box-requires : tie.Need-line-box-requires
-line-box-requires c κs = search needs
-
 put-block-requires : tie.Need-put-block-requires
 put-block-requires c κs = search needs
 
@@ -23,7 +20,7 @@ same-length : tie.Need-same-length
 same-length c = search needs
 
 returns : tie.Need-returns
-returns c = record { first = λ e. (c .before .before .put-block .ensures ∙ ap (λ (r : Rect). sets (c .before .before .before .before .before .before .before .before .args .out .now) (c .before .before .before .before .before .before .before .before .args .b * 5) (blockFields r 1)) (c .before .before .before .before .before .line-box .ensures), refl); later = λ l. absurd (omega arith) }
+returns c = record { first = λ e. (c .before .before .put-block .ensures, refl); later = λ l. absurd (omega arith) }
 
 block-box-requires : tie.Need-block-box-requires
 block-box-requires c κs = search needs
@@ -44,7 +41,7 @@ slice-read-n : tie.Need-slice-read-n
 slice-read-n c = search needs
 
 add-put-block : tie.Need-add-put-block
-add-put-block c = let n = c .before .before .before .before .before .before .before .before .before .pre .3 (omega arith) in omega arith
+add-put-block c = let n = c .before .before .before .before .before .before .before .pre .2 (omega arith) in omega arith
 
 put-block-requires-2 : tie.Need-put-block-requires-2
 put-block-requires-2 c κs = search needs
@@ -53,12 +50,12 @@ same-length-2 : tie.Need-same-length-2
 same-length-2 c = search needs
 
 returns-2 : tie.Need-returns-2
-returns-2 c = record {
+returns-2 c = let q = c .before .before .before .before .before .before .before .before .before .before .args in record {
   first = λ e. absurd (c .before .before .before .before .before .before .before .before .if1 .left e);
   later = λ l. (
     c .before .before .put-block2 .ensures
-        ∙ ap (λ (r : Rect). sets (c .before .before .before .before .before .before .before .before .before .before .before .before .args .out .now) (c .before .before .before .before .before .before .before .before .before .before .before .before .args .b * 5) (blockFields r (getD (c .before .before .before .before .before .before .before .before .before .before .before .before .args .out .now) (c .before .before .before .before .before .before .before .before .before .before .before .before .args .b * 5 + 4) 0 + 1)))
-        (c .before .before .before .before .before .union .ensures ∙ (λ i. union (c .before .before .before .before .before .before .block-box .ensures i) (c .before .before .before .before .before .before .before .before .before .line-box .ensures i))),
+        ∙ ap (λ (r : Rect). sets (q .out .now) (q .b * 5) (blockFields r (getD (q .out .now) (q .b * 5 + 4) 0 + 1)))
+        (c .before .before .before .before .before .union .ensures ∙ ap (λ (r : Rect). union r (q .line)) (c .before .before .before .before .before .before .block-box .ensures)),
     refl,
   );
 }
@@ -67,7 +64,6 @@ pub add-line-spec : {M : Type 1} → statement M
 add-line-spec =
     tie.close
     (tie.spec
-    line-box-requires
     put-block-requires
     add-result
     same-length

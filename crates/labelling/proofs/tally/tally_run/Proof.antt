@@ -2,24 +2,12 @@ use borrow.Author.Needs.{needs}
 use native.Mathlib.Omega.{arith}
 use mathlib.Core.Path.{ap}
 use Prim.Native.Nat.{_-_, _*_}
-use Rattle.labelling.proofs.TallyLaws.{nine-long, run-tallied, row-small}
+use Rattle.labelling.proofs.TallyLaws.{nine-long, run-tallied}
 use Rattle.labelling.proofs.tally.tally_run.Statement.{statement}
 use Rattle.labelling.proofs.tally.tally_run.Tie as tie
 
 held-requires : tie.Need-held-requires
 held-requires c κs = search needs
-
-rem-x : tie.Need-rem-x
-rem-x c = search needs
-
-sub-last : tie.Need-sub-last
-sub-last c = search needs
-
-sub-last-2 : tie.Need-sub-last-2
-sub-last-2 c = search needs
-
-add-last : tie.Need-add-last
-add-last c = search needs
 
 cast-absorb-run : tie.Need-cast-absorb-run
 cast-absorb-run c = search needs
@@ -27,14 +15,11 @@ cast-absorb-run c = search needs
 cast-absorb-run-2 : tie.Need-cast-absorb-run-2
 cast-absorb-run-2 c = search needs
 
-div-absorb-run : tie.Need-div-absorb-run
-div-absorb-run c = search needs
-
 cast-absorb-run-3 : tie.Need-cast-absorb-run-3
-cast-absorb-run-3 c = let h = row-small ((c .before .before .before) .args .start) ((c .before .before .before) .args .w) in let p = (c .before .before .before) .pre in omega arith
+cast-absorb-run-3 c = search needs
 
 absorb-run-requires : tie.Need-absorb-run-requires
-absorb-run-requires c κs = let h = row-small ((c .before .before .before) .args .start) ((c .before .before .before) .args .w) in let p = (c .before .before .before) .pre in let q = p .small in let e = (c .held) .ensures in let e₁ = ap (λ z. z .area) e in let e₂ = ap (λ z. z .«sum_x») e in let e₃ = ap (λ z. z .«sum_y») e in (omega arith, omega arith, omega arith, omega arith, omega arith, omega arith)
+absorb-run-requires c κs = let p = (c .before .before .before) .pre in let q = p .small in let e = (c .held) .ensures in let e₁ = ap (λ z. z .area) e in let e₂ = ap (λ z. z .«sum_x») e in let e₃ = ap (λ z. z .«sum_y») e in (omega arith, omega arith, omega arith, omega arith, omega arith, omega arith)
 
 sub-at : tie.Need-sub-at
 sub-at c = search needs
@@ -64,20 +49,15 @@ same-length : tie.Need-same-length
 same-length c = search needs
 
 returns : tie.Need-returns
-returns c = run-tallied ((c .before .before .before .before .before .before .before .before) .args .components .now) ((c .before .before .before .before .before .before .before .before) .args .number) ((c .before .before .before .before .before .before .before .before) .args .count) ((c .before .before .before .before .before .before .before .before) .args .start) ((c .before .before .before .before .before .before .before .before) .args .end) ((c .before .before .before .before .before .before .before .before) .args .w) ((c .before .before .before .before .before .held) .result) ((c .before .before .before .before .absorb-run) .result) ((c .before .before .encode) .last .0) ((c .before .before .before .before .before .held) .ensures) ((c .before .before .before .before .absorb-run) .ensures) ((c .before .before .encode) .ensures)
+returns c = run-tallied ((c .before .before .before .before .before .before .before .before) .args .components .now) ((c .before .before .before .before .before .before .before .before) .args .number) ((c .before .before .before .before .before .before .before .before) .args .count) ((c .before .before .before .before .before .before .before .before) .args .x) ((c .before .before .before .before .before .before .before .before) .args .last - (c .before .before .before .before .before .before .before .before) .args .x) ((c .before .before .before .before .before .before .before .before) .args .y) ((c .before .before .before .before .before .held) .result) ((c .before .before .before .before .absorb-run) .result) ((c .before .before .encode) .last .0) ((c .before .before .before .before .before .held) .ensures) ((c .before .before .before .before .absorb-run) .ensures) ((c .before .before .encode) .ensures)
 
 pub tally-run-spec : {M : Type 1} → statement M
 tally-run-spec =
     tie.close
     (tie.spec
     held-requires
-    rem-x
-    sub-last
-    sub-last-2
-    add-last
     cast-absorb-run
     cast-absorb-run-2
-    div-absorb-run
     cast-absorb-run-3
     absorb-run-requires
     sub-at

@@ -1,18 +1,17 @@
 use mathlib.Core.Path.{_≡_, refl, ap, _∙_}
-use mathlib.Core.List.{_++_}
-use Prim.Native.Nat.{_-_, _≤_, zero-le}
+use Prim.Native.Nat.{_-_, _^_, _≤_, _<_, zero-le}
 use native.Mathlib.Omega.{arith}
 use mir.Facts.{fits-32-64}
 use lib.ListN.{length, take, drop, getD, length-take, length-drop}
 use Rattle.memory.specs.Lists.{table}
 use Rattle.memory.proofs.TableLaws.{table-whole}
 use Rattle.levelling.specs.Moves.{Stretch}
-use Rattle.levelling.proofs.RowLaws.{columnsAt, stretch-put}
+use Rattle.levelling.proofs.RowLaws.{RightTo, stretch-put}
 use Rattle.levelling.proofs.stretches.level_columns.Statement.{statement}
 use Rattle.levelling.proofs.stretches.level_columns.Tie as tie
 
 abbrev Inv-loop : tie.InvT-loop
-Inv-loop page fill page-w page-h shear ends r out₀ c₀ out c = (c ≤ page-w) × (out ≡ table (columnsAt page fill page-w page-h shear r) c ++ drop c out₀) × (length out ≡ length out₀)
+Inv-loop page fill page-w page-h shear ends r out₀ c₀ out c = (c ≤ page-w) × RightTo page fill page-w page-h shear r c out × (length out ≡ length out₀)
 
 abbrev μ-loop : tie.MeasureT-loop
 μ-loop page fill page-w page-h shear ends r out₀ c₀ out c = page-w - c
@@ -38,45 +37,54 @@ shared-slice-read-s c = omega arith
 cast-s : tie.Need-cast-s Inv-loop μ-loop
 cast-s c = fits-32-64 (c .shared-slice-known5 .given _)
 
-sub-level-stretch : tie.Need-sub-level-stretch Inv-loop μ-loop
-sub-level-stretch c = let p = c .before .before .before in
+piece-end-requires : tie.Need-piece-end-requires Inv-loop μ-loop
+piece-end-requires c κs = let p = c .before .before .before in
     let q = p .before .before .before .before .before in
     let S : Stretch (q .args .shear .now) (p .loop .c) (getD (q .args .ends .now) (p .loop .c) 0) = q .pre .1 (p .loop .c) zero-le (omega arith) in
-    omega (arith, S .some, S .inside)
+    let w : getD (q .args .ends .now) (p .loop .c) 0 < 2 ^ 32 = omega (arith, c .before .shared-slice-known4 .given (p .loop .c)) in
+    (omega (arith, S .some), omega (arith, S .inside), w)
+
+sub-level-stretch : tie.Need-sub-level-stretch Inv-loop μ-loop
+sub-level-stretch c = let p = c .before .before .before .before in
+    let q = p .before .before .before .before .before in
+    let S : Stretch (q .args .shear .now) (p .loop .c) (getD (q .args .ends .now) (p .loop .c) 0) = q .pre .1 (p .loop .c) zero-le (omega arith) in
+    omega (arith, S .some, c .piece-end .ensures)
 
 part-level-stretch-start : tie.Need-part-level-stretch-start Inv-loop μ-loop
-part-level-stretch-start c = let p = c .before .before .before in
+part-level-stretch-start c = let p = c .before .before .before .before in
     let q = p .before .before .before .before .before in
     let S : Stretch (q .args .shear .now) (p .loop .c) (getD (q .args .ends .now) (p .loop .c) 0) = q .pre .1 (p .loop .c) zero-le (omega arith) in
-    omega (arith, S .some, S .inside)
+    omega (arith, S .some, c .piece-end .ensures)
 
 part-level-stretch-end : tie.Need-part-level-stretch-end Inv-loop μ-loop
-part-level-stretch-end c = let p = c .before .before .before in
+part-level-stretch-end c = let p = c .before .before .before .before in
     let q = p .before .before .before .before .before in
     let S : Stretch (q .args .shear .now) (p .loop .c) (getD (q .args .ends .now) (p .loop .c) 0) = q .pre .1 (p .loop .c) zero-le (omega arith) in
-    omega (arith, S .some, S .inside)
+    omega (arith, S .some, c .piece-end .ensures)
 
 level-stretch-requires : tie.Need-level-stretch-requires Inv-loop μ-loop
-level-stretch-requires c κs = let p = c .before .before .before .before in
+level-stretch-requires c κs = let p = c .before .before .before .before .before in
     let q = p .before .before .before .before .before in
     let S : Stretch (q .args .shear .now) (p .loop .c) (getD (q .args .ends .now) (p .loop .c) 0) = q .pre .1 (p .loop .c) zero-le (omega arith) in
-    (q .pre .0 .0, simp (length-take, length-drop) (omega (arith, S .some, S .inside)))
+    (q .pre .0 .0, simp (length-take, length-drop) (omega (arith, S .some, c .before .piece-end .ensures)))
 
 loop-less : tie.Need-loop-less Inv-loop μ-loop
-loop-less c = let p = c .before .before .before .before .before .before .before in
+loop-less c = let p = c .before .before .before .before .before .before .before .before in
     let q = p .before .before .before .before .before in
     let S : Stretch (q .args .shear .now) (p .loop .c) (getD (q .args .ends .now) (p .loop .c) 0) = q .pre .1 (p .loop .c) zero-le (omega arith) in
     omega (arith, S .some, S .inside)
 
 loop-again : tie.Need-loop-again Inv-loop μ-loop
-loop-again c = let p = c .before .before .before .before .before .before .before in
+loop-again c = let p = c .before .before .before .before .before .before .before .before in
     let q = p .before .before .before .before .before in
     let S : Stretch (q .args .shear .now) (p .loop .c) (getD (q .args .ends .now) (p .loop .c) 0) = q .pre .1 (p .loop .c) zero-le (omega arith) in
     let a = q .args in
-    let k : length (take (getD (a .ends .now) (p .loop .c) 0 - p .loop .c) (drop (p .loop .c) (p .loop .out))) ≡ getD (a .ends .now) (p .loop .c) 0 - p .loop .c =
-    simp (length-take, length-drop) (omega (arith, S .some, S .inside)) in (
+    let b = c .before .before .before .before .piece-end in
+    let k : getD (a .ends .now) (p .loop .c) 0 - p .loop .c ≤ length (take (b .result - p .loop .c) (drop (p .loop .c) (p .loop .out))) =
+    simp (length-take, length-drop) (omega (arith, S .some, S .inside, b .ensures)) in (
       omega (arith, S .inside),
-      stretch-put (a .page .now) (a .fill) (a .page-w) (a .page-h) (a .shear .now) (a .r) (p .loop .c) (getD (a .ends .now) (p .loop .c) 0) _ (a .out .now) (p .loop .out) _ S k (p .loop .inv .1) (c .before .before .level-stretch .ensures),
+      stretch-put (a .page .now) (a .fill) (a .page-w) (a .page-h) (a .shear .now) (a .r) (p .loop .c) (getD (a .ends .now) (p .loop .c) 0)
+          (length (take (b .result - p .loop .c) (drop (p .loop .c) (p .loop .out)))) (b .result - p .loop .c) (p .loop .out) _ S k (p .loop .inv .1) (c .before .before .level-stretch .ensures),
       omega arith,
     )
 
@@ -86,8 +94,8 @@ same-length c = omega arith
 returns : tie.Need-returns Inv-loop μ-loop
 returns c = let p = c .before in
     let a = p .before .before .before .before .before .args in
-    let e : length (a .out .now) ≡ a .page-w = omega arith in
-    table-whole _ (a .out .now) (p .loop .out) (p .loop .c) (p .loop .inv .1) (omega arith) ∙ ap (table _) e
+    let e : length (p .loop .out) ≡ a .page-w = omega arith in
+    table-whole _ (p .loop .out) (p .loop .out) (p .loop .c) (p .loop .inv .1) (omega arith) ∙ ap (table _) e
 
 pub level-columns-spec : {M : Type 1} → statement M
 level-columns-spec =
@@ -102,6 +110,7 @@ level-columns-spec =
     mul-s
     shared-slice-read-s
     cast-s
+    piece-end-requires
     sub-level-stretch
     part-level-stretch-start
     part-level-stretch-end

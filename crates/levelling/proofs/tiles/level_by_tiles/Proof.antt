@@ -11,10 +11,10 @@ use Rattle.levelling.proofs.tiles.level_by_tiles.Statement.{statement}
 use Rattle.levelling.proofs.tiles.level_by_tiles.Tie as tie
 
 abbrev Inv-loop : tie.InvT-loop
-Inv-loop page fill page-w page-h shear shear-x w h out₀ dots c₀ out c = (c ≤ page-w) × Tiled (frameOf page-w page-h shear shear-x w (length shear-x)) fill page out₀ out c × (length out ≡ length out₀)
+Inv-loop page fill page-w page-h shear shear-x w h out₀ dots added c₀ out c = (c ≤ page-w) × Tiled (frameOf page-w page-h shear shear-x w (length shear-x)) fill page out₀ out c × (length out ≡ length out₀)
 
 abbrev μ-loop : tie.MeasureT-loop
-μ-loop page fill page-w page-h shear shear-x w h out₀ dots c₀ out c = page-w - c
+μ-loop page fill page-w page-h shear shear-x w h out₀ dots added c₀ out c = page-w - c
 
 mul-dots : tie.Need-mul-dots Inv-loop μ-loop
 mul-dots c = omega arith
@@ -30,6 +30,9 @@ part-fill-bytes-end c = omega arith
 
 fill-bytes-requires : tie.Need-fill-bytes-requires Inv-loop μ-loop
 fill-bytes-requires c κs = search needs
+
+sub-added : tie.Need-sub-added Inv-loop μ-loop
+sub-added c = omega (arith, c .before .before .before .before .before .before .before .before .pre .above 0)
 
 loop-holds : tie.Need-loop-holds Inv-loop μ-loop
 loop-holds c = (zero-le, tiled-none _ _ _ _, refl)
@@ -88,6 +91,7 @@ level-by-tiles-spec =
     part-fill-bytes-start
     part-fill-bytes-end
     fill-bytes-requires
+    sub-added
     loop-holds
     sub-tile-columns
     tile-columns-requires

@@ -1,60 +1,90 @@
-use mathlib.Core.Path.{refl}
-use mathlib.Core.Logic.{inl, inr}
-use Prim.Native.Nat.{_*_}
+use mathlib.Core.Path.{_≡_, refl, _∙_, subst}
+use Prim.Native.Nat.{_+_, _-_, _*_, _≤_, zero-le}
 use native.Mathlib.Omega.{arith}
 use borrow.Author.Needs.{needs}
-use Rattle.levelling.proofs.TileLaws.{part-all}
+use lib.ListN.{length}
+use Rattle.levelling.specs.Moves.{MovesPart, orRange}
+use Rattle.levelling.proofs.TileLaws.{part-none, part-joined, fits-again}
 use Rattle.levelling.proofs.tiles.move_part.Statement.{statement}
 use Rattle.levelling.proofs.tiles.move_part.Tie as tie
 
-mul-from : tie.Need-mul-from
-mul-from c = search needs
+abbrev Inv-loop : tie.InvT-loop
+Inv-loop page fill page-w shear shear-x w y c n out₀ i₀ out i = (i ≤ n) × MovesPart page-w shear shear-x w fill page y c i out₀ out × (length out ≡ length out₀)
 
-add-from : tie.Need-add-from
-add-from c = search needs
+abbrev μ-loop : tie.MeasureT-loop
+μ-loop page fill page-w shear shear-x w y c n out₀ i₀ out i = n - i
 
-add-to : tie.Need-add-to
-add-to c = search needs
+loop-holds : tie.Need-loop-holds Inv-loop μ-loop
+loop-holds c = let a = c .before .before .before .before .args in
+    (zero-le, (λ page-h done s l fits e. e ∙ part-none (a .page-w) page-h (a .shear .now) (a .shear-x .now) (a .w) (length (a .shear-x .now)) (a .fill) (a .page .now) (a .out .now) fits done s (a .y) (a .c)), refl)
 
-sub-all-equal : tie.Need-sub-all-equal
-sub-all-equal c = search needs
+sub-block-dots : tie.Need-sub-block-dots Inv-loop μ-loop
+sub-block-dots c = omega arith
 
-part-all-equal-start : tie.Need-part-all-equal-start
-part-all-equal-start c = search needs
+block-dots-requires : tie.Need-block-dots-requires Inv-loop μ-loop
+block-dots-requires c κs = search needs
 
-part-all-equal-end : tie.Need-part-all-equal-end
-part-all-equal-end c = search needs
+add-move-block : tie.Need-add-move-block Inv-loop μ-loop
+add-move-block c = let q = c .before .before .before .before .before .before .before in
+    omega (arith, q .pre .columns)
 
-all-equal-requires : tie.Need-all-equal-requires
-all-equal-requires c κs = search needs
+move-block-requires : tie.Need-move-block-requires Inv-loop μ-loop
+move-block-requires c κs = let t = c .before in
+    let p = t .before .before in
+    let q = p .before .before .before .before .before in
+    record {
+      columns = omega (arith, q .pre .columns, t .block-dots .ensures .0);
+      dots = omega (arith, q .pre .dots, t .block-dots .ensures .0);
+      room = omega (arith, q .pre .room);
+      rows = q .pre .rows;
+      inside = q .pre .inside;
+    }
 
-returns : tie.Need-returns
-returns c = let e = c .before in
-    let q = e .before .before .before .before .before .before in
-    let a = q .args in
-    inr (part-all (a .page .now) (a .fill) (a .y * a .page-w) (a .c) (a .n) (omega (arith, q .pre .0)) (e .all-equal .ensures (c .if1 .taken)), refl)
+add-i : tie.Need-add-i Inv-loop μ-loop
+add-i c = omega arith
 
-move-dots-requires : tie.Need-move-dots-requires
-move-dots-requires c κs = search needs
+loop-less : tie.Need-loop-less Inv-loop μ-loop
+loop-less c = let t = c .before .before .before .before in
+    let k = t .block-dots .ensures .1 (omega arith) in
+    omega (arith, k, t .block-dots .ensures .0)
 
-same-length : tie.Need-same-length
-same-length c = search needs
+loop-again : tie.Need-loop-again Inv-loop μ-loop
+loop-again c = let g = c .before .before in
+    let t = g .before .before in
+    let p = t .before .before in
+    let q = p .before .before .before .before .before in
+    let a = q .args in (
+      omega (arith, t .block-dots .ensures .0),
+      λ page-h done s ly fits e.
+          g .move-block .ensures page-h (orRange done (a .y * a .page-w + a .c) (a .y * a .page-w + a .c + p .loop .i)) s ly
+          (fits-again (a .page-w) page-h (a .shear .now) (a .shear-x .now) (a .w) (length (a .shear-x .now)) (a .page .now) (a .out .now) (p .loop .out) fits (p .loop .inv .2))
+          (p .loop .inv .1 page-h done s ly fits e)
+          ∙ part-joined (a .page-w) page-h (a .shear .now) (a .shear-x .now) (a .w) (length (a .shear-x .now)) (a .fill) (a .page .now) (a .out .now) fits done s (a .y) (a .c) (p .loop .i) (t .block-dots .result),
+      omega arith,
+    )
 
-returns-2 : tie.Need-returns-2
-returns-2 c = inl (c .before .before .move-dots .ensures)
+same-length : tie.Need-same-length Inv-loop μ-loop
+same-length c = omega arith
+
+returns : tie.Need-returns Inv-loop μ-loop
+returns c = let p = c .before in
+    let a = p .before .before .before .before .before .args in
+    let e : p .loop .i ≡ a .n = omega arith in
+    subst (λ m. MovesPart (a .page-w) (a .shear .now) (a .shear-x .now) (a .w) (a .fill) (a .page .now) (a .y) (a .c) m (a .out .now) (p .loop .out)) e (p .loop .inv .1)
 
 pub move-part-spec : {M : Type 1} → statement M
 move-part-spec =
     tie.close
     (tie.spec
-    mul-from
-    add-from
-    add-to
-    sub-all-equal
-    part-all-equal-start
-    part-all-equal-end
-    all-equal-requires
-    returns
-    move-dots-requires
+    Inv-loop
+    μ-loop
+    loop-holds
+    sub-block-dots
+    block-dots-requires
+    add-move-block
+    move-block-requires
+    add-i
+    loop-less
+    loop-again
     same-length
-    returns-2)
+    returns)

@@ -7,7 +7,7 @@ use lib.ListN.{length}
 use Rattle.memory.proofs.PlaneLaws.{row-end}
 use Rattle.levelling.specs.Frames.{frameOf}
 use Rattle.levelling.specs.Moves.{partly, orRows}
-use Rattle.levelling.proofs.TileLaws.{row-moved}
+use Rattle.levelling.proofs.TileLaws.{row-moved, fits-again}
 use Rattle.levelling.proofs.tiles.move_tile.Statement.{statement}
 use Rattle.levelling.proofs.tiles.move_tile.Tie as tie
 
@@ -28,10 +28,14 @@ move-part-requires c κs = let p = c .before .before in
     let q = p .before .before .before .before .before in
     let a = q .args in
     let F = q .pre .0 in
-    let e = row-end (a .page-w) (a .page-h) (p .loop .y) (c .before .loop-test .taken) in (
-      (omega (arith, F .columns, q .pre .1), omega (arith, e, F .page-size, q .pre .1), omega (arith, F .out-size)),
-      ((λ k. omega (arith, F .above k)), (λ r. omega (arith, F .inside r, F .columns))),
-    )
+    let e = row-end (a .page-w) (a .page-h) (p .loop .y) (c .before .loop-test .taken) in
+    record {
+      columns = omega (arith, F .columns, q .pre .1);
+      dots = omega (arith, e, F .page-size, q .pre .1);
+      room = omega (arith, F .out-size);
+      rows = λ k. omega (arith, F .above k);
+      inside = λ r. omega (arith, F .inside r, F .columns);
+    }
 
 add-y : tie.Need-add-y Inv-loop μ-loop
 add-y c = omega arith
@@ -45,7 +49,11 @@ loop-again c = let g = c .before .before in
     let q = p .before .before .before .before .before in
     let a = q .args in (
       omega arith,
-      (λ done s e. row-moved (a .page-w) (a .page-h) (a .shear .now) (a .shear-x .now) (a .w) (length (a .shear-x .now)) (a .fill) (a .page .now) (a .out .now) (q .pre .0) done s (p .loop .out) _ (p .loop .y) (a .c) (a .n) (g .before .before .loop-test .taken) (q .pre .1) (p .loop .inv .1 done s e) (g .move-part .ensures)),
+      (λ done s e.
+          g .move-part .ensures (a .page-h) (orRows done (a .page-w) (a .c) (a .n) (p .loop .y)) s (g .before .before .loop-test .taken)
+          (fits-again (a .page-w) (a .page-h) (a .shear .now) (a .shear-x .now) (a .w) (length (a .shear-x .now)) (a .page .now) (a .out .now) (p .loop .out) (q .pre .0) (p .loop .inv .2))
+          (p .loop .inv .1 done s e)
+          ∙ row-moved (a .page-w) (a .page-h) (a .shear .now) (a .shear-x .now) (a .w) (length (a .shear-x .now)) (a .fill) (a .page .now) (a .out .now) (q .pre .0) done s (p .loop .y) (a .c) (a .n)),
       omega arith,
     )
 

@@ -4,7 +4,7 @@ use Prim.Native.Nat.{_≤_, _-_}
 use lib.ListN.{length, getD, length-set}
 use Rattle.memory.specs.Lists.{table}
 use Rattle.memory.specs.Words.{over}
-use Rattle.sorting.specs.Scans.{until, countDown}
+use Rattle.sorting.specs.Scans.{until, cappedCount}
 use borrow.Author.Tests.{lt-ltb}
 use Rattle.sorting.proofs.OverLaws.{over-none}
 use Rattle.sorting.proofs.ExtentLaws.{count-loop}
@@ -12,13 +12,13 @@ use Rattle.sorting.proofs.extents.count_first_row.Statement.{statement}
 use Rattle.sorting.proofs.extents.count_first_row.Tie as tie
 
 abbrev Inv-loop : tie.InvT-loop
-Inv-loop mask w extents₀ i₀ extents i = (i ≤ w) × (extents ≡ over (table (until i (countDown w mask) (λ k. getD extents₀ k 0)) (length mask)) extents₀) × (length extents ≡ length extents₀)
+Inv-loop mask w extents₀ i₀ extents i = (i ≤ w) × (extents ≡ over (table (until i (cappedCount w mask) (λ k. getD extents₀ k 0)) (length mask)) extents₀) × (length extents ≡ length extents₀)
 
 abbrev μ-loop : tie.MeasureT-loop
 μ-loop mask w extents₀ i₀ extents i = w - i
 
 loop-holds : tie.Need-loop-holds Inv-loop μ-loop
-loop-holds c = (omega arith, over-none (countDown (c .before .before .args .w) (c .before .before .args .mask .now)) (length (c .before .before .args .mask .now)) (c .before .before .args .extents .now) (omega arith), refl)
+loop-holds c = (omega arith, over-none (cappedCount (c .before .before .args .w) (c .before .before .args .mask .now)) (length (c .before .before .args .mask .now)) (c .before .before .args .extents .now) (omega arith), refl)
 
 shared-slice-read-count-on : tie.Need-shared-slice-read-count-on Inv-loop μ-loop
 shared-slice-read-count-on c = omega arith
@@ -55,7 +55,7 @@ returns c =
     let l = c .before .loop in
     let a = c .before .before .before .before .args in
     let e : l .i ≡ a .w = omega arith in
-    l .inv .1 ∙ ap (λ k. over (table (until k (countDown (a .w) (a .mask .now)) (λ k. getD (a .extents .now) k 0)) (length (a .mask .now))) (a .extents .now)) e
+    l .inv .1 ∙ ap (λ k. over (table (until k (cappedCount (a .w) (a .mask .now)) (λ k. getD (a .extents .now) k 0)) (length (a .mask .now))) (a .extents .now)) e
 
 pub count-first-row-spec : {M : Type 1} → statement M
 count-first-row-spec =

@@ -1,7 +1,11 @@
 use native.Mathlib.Omega.{arith}
-use Prim.Native.Nat.{_-_, _+_}
+use mathlib.Core.Path.{ap, _∙_}
+use mathlib.Core.Bool.{cond}
+use Prim.Native.Nat.{_+_}
+use mir.Val.{boolByte}
 use lib.Dec.{ltb}
-use Rattle.sorting.proofs.ExtentLaws.{bit-times, bit-times-le}
+use Rattle.memory.specs.Limits.{maxExtent}
+use Rattle.sorting.proofs.ExtentLaws.{bit-times, bit-times-le, bit-le, capped-more}
 use borrow.Author.Needs.{needs}
 use Rattle.sorting.proofs.extents.count_on.Statement.{statement}
 use Rattle.sorting.proofs.extents.count_on.Tie as tie
@@ -9,14 +13,19 @@ use Rattle.sorting.proofs.extents.count_on.Tie as tie
 cast-ink : tie.Need-cast-ink
 cast-ink c = search needs
 
+cast-more : tie.Need-cast-more
+cast-more c = search needs
+
 add-result : tie.Need-add-result
-add-result c = search needs
+add-result c = let z = bit-le (ltb (c .args .above) maxExtent) in omega arith
 
 mul-result : tie.Need-mul-result
-mul-result c = record { fits = let z = bit-times-le (ltb 0 (c .args .b)) (c .args .above + 1) in omega arith }
+mul-result c =
+    record { fits = let y = bit-le (ltb (c .args .above) maxExtent) in let z = bit-times-le (ltb 0 (c .args .b)) (c .args .above + boolByte (ltb (c .args .above) maxExtent)) in omega arith }
 
 returns : tie.Need-returns
-returns c = bit-times (ltb 0 (c .args .b)) (c .args .above + 1)
+returns c =
+    bit-times (ltb 0 (c .args .b)) (c .args .above + boolByte (ltb (c .args .above) maxExtent)) ∙ ap (λ k. cond (ltb 0 (c .args .b)) k 0) (capped-more (c .args .above) (c .pre))
 
 pub count-on-spec : {M : Type 1} → statement M
-count-on-spec = tie.close (tie.spec cast-ink add-result mul-result returns)
+count-on-spec = tie.close (tie.spec cast-ink cast-more add-result mul-result returns)

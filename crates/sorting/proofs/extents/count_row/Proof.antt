@@ -4,7 +4,7 @@ use Prim.Native.Nat.{_≤_, _-_, _+_}
 use lib.ListN.{length, getD, length-set}
 use Rattle.memory.specs.Lists.{table}
 use Rattle.memory.specs.Words.{over}
-use Rattle.sorting.specs.Scans.{until, countDown}
+use Rattle.sorting.specs.Scans.{until, cappedCount}
 use borrow.Author.Tests.{le-ltb}
 use native.Mathlib.Nat.{le-refl}
 use Rattle.sorting.proofs.OverLaws.{over-begun}
@@ -13,7 +13,7 @@ use Rattle.sorting.proofs.extents.count_row.Statement.{statement}
 use Rattle.sorting.proofs.extents.count_row.Tie as tie
 
 abbrev Inv-loop : tie.InvT-loop
-Inv-loop mask w at extents₀ end i₀ extents i = (at ≤ i) × (i ≤ at + w) × (extents ≡ over (table (until i (countDown w mask) (λ k. getD extents₀ k 0)) (length mask)) extents₀) × (length extents ≡ length extents₀)
+Inv-loop mask w at extents₀ end i₀ extents i = (at ≤ i) × (i ≤ at + w) × (extents ≡ over (table (until i (cappedCount w mask) (λ k. getD extents₀ k 0)) (length mask)) extents₀) × (length extents ≡ length extents₀)
 
 abbrev μ-loop : tie.MeasureT-loop
 μ-loop mask w at extents₀ end i₀ extents i = at + w - i
@@ -22,7 +22,7 @@ add-end : tie.Need-add-end Inv-loop μ-loop
 add-end c = omega arith
 
 loop-holds : tie.Need-loop-holds Inv-loop μ-loop
-loop-holds c = (le-refl _, omega arith, over-begun (countDown (c .before .before .args .w) (c .before .before .args .mask .now)) (length (c .before .before .args .mask .now)) (c .before .before .args .at) (c .before .before .args .extents .now) (omega arith) (c .before .before .pre .5), refl)
+loop-holds c = (le-refl _, omega arith, over-begun (cappedCount (c .before .before .args .w) (c .before .before .args .mask .now)) (length (c .before .before .args .mask .now)) (c .before .before .args .at) (c .before .before .args .extents .now) (omega arith) (c .before .before .pre .4), refl)
 
 shared-slice-read-count-on : tie.Need-shared-slice-read-count-on Inv-loop μ-loop
 shared-slice-read-count-on c = omega arith
@@ -69,7 +69,7 @@ returns c =
     let l = c .before .loop in
     let a = c .before .before .before .before .args in
     let e : l .i ≡ a .at + a .w = omega arith in
-    l .inv .2 ∙ ap (λ k. over (table (until k (countDown (a .w) (a .mask .now)) (λ k. getD (a .extents .now) k 0)) (length (a .mask .now))) (a .extents .now)) e
+    l .inv .2 ∙ ap (λ k. over (table (until k (cappedCount (a .w) (a .mask .now)) (λ k. getD (a .extents .now) k 0)) (length (a .mask .now))) (a .extents .now)) e
 
 pub count-row-spec : {M : Type 1} → statement M
 count-row-spec =

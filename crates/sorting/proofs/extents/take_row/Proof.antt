@@ -1,109 +1,62 @@
 use native.Mathlib.Omega.{arith}
+use native.Mathlib.Nat.{le-refl}
 use mathlib.Core.Path.{_≡_, refl, ap, _∙_}
-use Prim.Native.Nat.{_≤_, _-_, _+_, _*_}
-use lib.ListN.{length, getD, length-set}
+use Prim.Native.Nat.{_≤_, _+_, _-_, _*_}
+use lib.ListN.{length, getD}
 use Rattle.memory.specs.Lists.{table}
 use Rattle.memory.specs.Words.{over}
 use Rattle.sorting.specs.Scans.{until, columnExtent}
-use native.Mathlib.Nat.{le-refl}
-use Rattle.sorting.proofs.OverLaws.{over-ended}
-use Rattle.sorting.proofs.ExtentLaws.{take-loop, take-below-le}
+use Rattle.sorting.proofs.OverLaws.{length-over, over-ended, over-chain-down}
+use Rattle.sorting.proofs.ExtentLaws.{stretch-next}
 use Rattle.sorting.proofs.extents.take_row.Statement.{statement}
 use Rattle.sorting.proofs.extents.take_row.Tie as tie
 
 abbrev Inv-loop : tie.InvT-loop
-Inv-loop mask w h at extents₀ i₀ extents i = (at ≤ i) × (i ≤ at + w) × (extents ≡ over (table (until i (λ k. getD extents₀ k 0) (columnExtent w h mask)) (w * h)) extents₀) × (length extents ≡ length extents₀)
+Inv-loop mask w h at extents₀ to₀ extents to = (at ≤ to) × (to ≤ at + w) × (extents ≡ over (table (until to (λ k. getD extents₀ k 0) (columnExtent w h mask)) (w * h)) extents₀) × (length extents ≡ length extents₀)
 
 abbrev μ-loop : tie.MeasureT-loop
-μ-loop mask w h at extents₀ i₀ extents i = i - at
+μ-loop mask w h at extents₀ to₀ extents to = to - at
 
-add-i : tie.Need-add-i Inv-loop μ-loop
-add-i c = omega arith
+add-to : tie.Need-add-to Inv-loop μ-loop
+add-to c = let p = c .before .before .pre in omega (arith, p .above, p .few)
 
 loop-holds : tie.Need-loop-holds Inv-loop μ-loop
-loop-holds c = (omega arith, le-refl _, over-ended (columnExtent (c .before .before .args .w) (c .before .before .args .h) (c .before .before .args .mask .now)) (c .before .before .args .w * c .before .before .args .h) (c .before .before .args .at + c .before .before .args .w) (c .before .before .args .extents .now) (omega arith) (c .before .before .pre .5), refl)
+loop-holds c =
+    let a = c .before .before .args in
+    let p = c .before .before .pre in
+    (omega arith, le-refl _, over-ended (columnExtent (a .w) (a .h) (a .mask .now)) (a .w * a .h) (a .at + a .w) (a .extents .now) (p .room) (p .final), refl)
 
-sub-i : tie.Need-sub-i Inv-loop μ-loop
-sub-i c = omega arith
+stretch-start-requires : tie.Need-stretch-start-requires Inv-loop μ-loop
+stretch-start-requires c κs =
+    let p = c .before .before .before .before .pre in (omega arith, omega (arith, p .above, p .few))
 
-shared-slice-read-take-on : tie.Need-shared-slice-read-take-on Inv-loop μ-loop
-shared-slice-read-take-on c = omega arith
-
-add-take-on : tie.Need-add-take-on Inv-loop μ-loop
-add-take-on c = omega arith
-
-shared-slice-read-take-on-2 : tie.Need-shared-slice-read-take-on-2 Inv-loop μ-loop
-shared-slice-read-take-on-2 c = omega arith
-
-mul-take-on : tie.Need-mul-take-on Inv-loop μ-loop
-mul-take-on c = omega arith
-
-slice-read-take-on : tie.Need-slice-read-take-on Inv-loop μ-loop
-slice-read-take-on c = omega arith
-
-add-take-on-2 : tie.Need-add-take-on-2 Inv-loop μ-loop
-add-take-on-2 c = omega arith
-
-mul-take-on-2 : tie.Need-mul-take-on-2 Inv-loop μ-loop
-mul-take-on-2 c = omega arith
-
-slice-read-take-on-2 : tie.Need-slice-read-take-on-2 Inv-loop μ-loop
-slice-read-take-on-2 c = omega arith
-
-take-on-requires : tie.Need-take-on-requires Inv-loop μ-loop
-take-on-requires c κs = let l = c .before .before .before .before .before .loop in let a = c .before .before .before .before .before .before .before .before .args in let p = c .before .before .before .before .before .before .before .before .pre in take-below-le (a .w) (a .h) (a .at) (a .mask .now) (a .extents .now) (p .0) (p .1) (p .2) (p .3) (p .4) (l .extents) (l .i) (omega arith) (omega arith) (l .inv .2)
-
-mul-extents : tie.Need-mul-extents Inv-loop μ-loop
-mul-extents c = omega arith
-
-slice-write-extents : tie.Need-slice-write-extents Inv-loop μ-loop
-slice-write-extents c = omega arith
+take-stretch-requires : tie.Need-take-stretch-requires Inv-loop μ-loop
+take-stretch-requires c κs =
+    let a = c .before .before .before .before .before .before .args in
+    let l = c .before .before .before .loop in
+    stretch-next (a .w) (a .h) (a .mask .now) (a .at) (a .at + a .w) (a .extents .now) (c .before .before .before .before .before .before .pre) (c .before .stretch-start .result) (l .to) (l .extents) (c .before .stretch-start .ensures .0) (omega (arith, c .before .stretch-start .ensures .1)) (l .inv .1) (l .inv .2)
 
 loop-less : tie.Need-loop-less Inv-loop μ-loop
-loop-less c = omega arith
+loop-less c =
+    omega (arith, c .before .before .before .before .stretch-start .ensures .0, c .before .before .before .before .stretch-start .ensures .1)
 
 loop-again : tie.Need-loop-again Inv-loop μ-loop
 loop-again c =
-    let l = c .before .before .before .before .before .before .loop in
     let a = c .before .before .before .before .before .before .before .before .before .args in
-    let p = c .before .before .before .before .before .before .before .before .before .pre in (
-      omega arith,
-      omega arith,
-      take-loop (a .w) (a .h) (a .at) (a .mask .now) (a .extents .now) (p .0) (p .1) (p .2) (p .3) (p .4) (l .extents) (l .i) (c .take-on .result) (omega arith) (omega arith) (l .inv .2) (c .take-on .ensures),
-      simp length-set (l .inv .3),
-    )
+    let p = c .before .before .before .before .before .before .before .before .before .pre in
+    let l = c .before .before .before .before .before .before .loop in
+    let e = c .before .before .take-stretch .ensures ∙ over-chain-down (λ k. getD (a .extents .now) k 0) (columnExtent (a .w) (a .h) (a .mask .now)) (a .w * a .h) (c .before .before .before .before .stretch-start .result) (l .to) (a .extents .now) (l .extents) (p .room) (omega (arith, c .before .before .before .before .stretch-start .ensures .1)) (l .inv .2) in
+    (c .before .before .before .before .stretch-start .ensures .0, omega (arith, l .inv .1, c .before .before .before .before .stretch-start .ensures .1), e, ap length e ∙ length-over _ (a .w * a .h) (a .extents .now) (p .room))
 
 same-length : tie.Need-same-length Inv-loop μ-loop
-same-length c = omega arith
+same-length c = c .before .loop .inv .3
 
 returns : tie.Need-returns Inv-loop μ-loop
 returns c =
     let l = c .before .loop in
     let a = c .before .before .before .before .args in
-    let e : l .i ≡ a .at = omega arith in
+    let e : l .to ≡ a .at = omega arith in
     l .inv .2 ∙ ap (λ k. over (table (until k (λ k. getD (a .extents .now) k 0) (columnExtent (a .w) (a .h) (a .mask .now))) (a .w * a .h)) (a .extents .now)) e
 
 pub take-row-spec : {M : Type 1} → statement M
-take-row-spec =
-    tie.close
-    (tie.spec
-    Inv-loop
-    μ-loop
-    add-i
-    loop-holds
-    sub-i
-    shared-slice-read-take-on
-    add-take-on
-    shared-slice-read-take-on-2
-    mul-take-on
-    slice-read-take-on
-    add-take-on-2
-    mul-take-on-2
-    slice-read-take-on-2
-    take-on-requires
-    mul-extents
-    slice-write-extents
-    loop-less
-    loop-again
-    same-length
-    returns)
+take-row-spec = tie.close (tie.spec Inv-loop μ-loop add-to loop-holds stretch-start-requires take-stretch-requires loop-less loop-again same-length returns)

@@ -1,6 +1,7 @@
 use native.Mathlib.Omega.{arith}
 use mathlib.Core.Path.{_≡_, subst}
 use Prim.Native.Nat.{_+_}
+use lib.ListN.{drop}
 use Rattle.sorting.specs.Sweeps.{widenedLine, ScannedBack}
 use Rattle.sorting.proofs.SweepLaws.{walked-short, walked-long}
 use borrow.Author.Needs.{needs}
@@ -15,9 +16,9 @@ run-start-requires c κs = search needs
 
 returns : tie.Need-returns
 returns c =
-    let p = c .before .before .before .before .before .pre in
-    let a = c .before .before .before .before .before .args in
-    (walked-short (a .g) (a .ink .now) (a .run-min) (a .thick-max) (a .bit) (a .o) (a .x) (p .5) (c .before .run-start .result) (a .marks .now) (p .3) (c .before .run-start .ensures) (c .if1 .taken), p .7)
+    let p = c .before .before .before .before .pre in
+    let a = c .before .before .before .before .args in
+    (walked-short (a .g) (a .ink .now) (a .run-min) (a .thick-max) (a .bit) (a .o) (a .x) (p .5) (c .before .run-start .result) (drop (a .marks) (a .words .now)) (p .3) (c .before .run-start .ensures) (c .if1 .taken), p .7)
 
 run-end-requires : tie.Need-run-end-requires
 run-end-requires c κs = search needs
@@ -28,29 +29,16 @@ cut-run-requires c κs = search needs
 same-length : tie.Need-same-length
 same-length c = search needs
 
-same-length-2 : tie.Need-same-length-2
-same-length-2 c = search needs
-
 returns-2 : tie.Need-returns-2
 returns-2 c =
-    let p = c .before .before .before .before .before .before .before .before .before .before .before .before .before .pre in
-    let a = c .before .before .before .before .before .before .before .before .before .before .before .before .before .args in
-    let B = c .before .before .before .before .before .before .before .before .before .run-start .ensures in
-    let e : c .before .before .before .before .before .before .before .before .before .run-start .result ≡ a .x = (let l = B .low in omega arith) in (
-      walked-long (a .g) (a .ink .now) (a .run-min) (a .thick-max) (a .bit) (a .o) (a .x) (p .5) (c .before .before .before .before .before .before .before .run-end .result) (a .marks .now) _ (p .3) (p .2)
-          (subst (λ s. ScannedBack (widenedLine (a .g) (a .ink .now) (a .o)) (a .x) (a .x + a .run-min) s) e B) (c .before .before .before .before .before .before .before .run-end .ensures) (c .before .before .before .before .cut-run .ensures .0),
-      c .before .before .before .before .cut-run .ensures .1,
+    let p = c .before .before .before .before .before .before .before .before .before .pre in
+    let a = c .before .before .before .before .before .before .before .before .before .args in
+    let B = c .before .before .before .before .before .before .run-start .ensures in
+    let e : c .before .before .before .before .before .before .run-start .result ≡ a .x = (let l = B .low in omega arith) in (
+      walked-long (a .g) (a .ink .now) (a .run-min) (a .thick-max) (a .bit) (a .o) (a .x) (p .5) (c .before .before .before .before .run-end .result) (drop (a .marks) (a .words .now)) _ (p .3) (p .2)
+          (subst (λ s. ScannedBack (widenedLine (a .g) (a .ink .now) (a .o)) (a .x) (a .x + a .run-min) s) e B) (c .before .before .before .before .run-end .ensures) (c .before .before .cut-run .ensures .0),
+      c .before .before .cut-run .ensures .1,
     )
 
 pub mark-from-spec : {M : Type 1} → statement M
-mark-from-spec =
-    tie.close
-    (tie.spec
-    add-probe
-    run-start-requires
-    returns
-    run-end-requires
-    cut-run-requires
-    same-length
-    same-length-2
-    returns-2)
+mark-from-spec = tie.close (tie.spec add-probe run-start-requires returns run-end-requires cut-run-requires same-length returns-2)

@@ -1,0 +1,72 @@
+use borrow.Author.Needs.{needs}
+use native.Mathlib.Omega.{arith}
+use Prim.Native.Nat.{_+_, _*_}
+use lib.Seq.{getD-take}
+use Rattle.labelling.proofs.RunLinkLaws.{none-above, none-left}
+use Rattle.labelling.proofs.link.parent_of.Statement.{statement}
+use Rattle.labelling.proofs.link.parent_of.Tie as tie
+
+returns : tie.Need-returns
+returns c = none-above ((c .before .before) .pre) ((c .if1) .taken)
+
+mul-wide : tie.Need-mul-wide
+mul-wide c = omega (arith, (c .before .before) .pre .list .few, (c .before .before) .pre .list .room, (c .before .before) .pre .under .high, (c .before .before) .pre .under .mid, (c .if1) .left)
+
+add-wide : tie.Need-add-wide
+add-wide c = omega (arith, (c .before .before) .pre .list .few, (c .before .before) .pre .list .room, (c .before .before) .pre .under .high, (c .before .before) .pre .under .mid, (c .if1) .left)
+
+mul-wide-2 : tie.Need-mul-wide-2
+mul-wide-2 c = omega (arith, (c .before .before) .pre .list .few, (c .before .before) .pre .list .room, (c .before .before) .pre .under .high, (c .before .before) .pre .under .mid, (c .if1) .left)
+
+slice-read-wide : tie.Need-slice-read-wide
+slice-read-wide c = omega (arith, (c .before .before .before) .pre .list .few, (c .before .before .before) .pre .list .room, (c .before .before .before) .pre .under .high, (c .before .before .before) .pre .under .mid, (c .before .if1) .left)
+
+wide-requires : tie.Need-wide-requires
+wide-requires c κs = search needs
+
+mul-wide-3 : tie.Need-mul-wide-3
+mul-wide-3 c = omega (arith, (c .before .before .before .before) .pre .list .few, (c .before .before .before .before) .pre .list .room, (c .before .before .before .before) .pre .under .high, (c .before .before .before .before) .pre .under .mid, (c .before .before .if1) .left)
+
+mul-wide-4 : tie.Need-mul-wide-4
+mul-wide-4 c = omega (arith, (c .before .before .before .before) .pre .list .few, (c .before .before .before .before) .pre .list .room, (c .before .before .before .before) .pre .under .high, (c .before .before .before .before) .pre .under .mid, (c .before .before .if1) .left)
+
+slice-read-wide-2 : tie.Need-slice-read-wide-2
+slice-read-wide-2 c = omega (arith, (c .before .before .before .before .before) .pre .list .few, (c .before .before .before .before .before) .pre .list .room, (c .before .before .before .before .before) .pre .under .high, (c .before .before .before .before .before) .pre .under .mid, (c .before .before .before .if1) .left)
+
+wide-requires-2 : tie.Need-wide-requires-2
+wide-requires-2 c κs = search needs
+
+add-if2 : tie.Need-add-if2
+add-if2 c = omega (arith, (c .wide2) .ensures, (c .before .slice-known3) .given (2 * (c .before .before .before .before .before .before) .args .first), (c .before .before .before .before .before .before) .pre .list .narrow)
+
+returns-2 : tie.Need-returns-2
+returns-2 c = let u = (c .before .before .before .before .before .before .before) .pre .under in let lk = (c .before .before .before .before .before .if1) .left in none-left ((c .before .before .before .before .before .before .before) .pre) lk (omega (arith, (c .if2) .taken, (c .before .before .before .wide) .ensures, (c .before .wide2) .ensures, getD-take (2 * (c .before .before .before .before .before .before .before) .args .c) ((c .before .before .before .before .before .before .before) .args .words .now) (2 * (c .before .before .before .before .before .before .before) .args .j + 1) 0 (omega arith), getD-take (2 * (c .before .before .before .before .before .before .before) .args .c) ((c .before .before .before .before .before .before .before) .args .words .now) (2 * (c .before .before .before .before .before .before .before) .args .first) 0 (omega arith)))
+
+join-touching-requires : tie.Need-join-touching-requires
+join-touching-requires c κs = let u = (c .before .before .before .before .before .before .before .before) .pre .under in let lk = (c .before .before .before .before .before .before .if1) .left in ((c .before .before .before .before .before .before .before .before) .pre, lk, omega (arith, (c .before .if2) .left, (c .before .before .before .before .wide) .ensures, (c .before .before .wide2) .ensures, getD-take (2 * (c .before .before .before .before .before .before .before .before) .args .c) ((c .before .before .before .before .before .before .before .before) .args .words .now) (2 * (c .before .before .before .before .before .before .before .before) .args .j + 1) 0 (omega arith), getD-take (2 * (c .before .before .before .before .before .before .before .before) .args .c) ((c .before .before .before .before .before .before .before .before) .args .words .now) (2 * (c .before .before .before .before .before .before .before .before) .args .first) 0 (omega arith)))
+
+same-length : tie.Need-same-length
+same-length c = (c .before .before .join-touching) .ensures .kept .len
+
+returns-3 : tie.Need-returns-3
+returns-3 c = (c .before .before .join-touching) .ensures
+
+pub parent-of-spec : {M : Type 1} → statement M
+parent-of-spec =
+    tie.close
+    (tie.spec
+    returns
+    mul-wide
+    add-wide
+    mul-wide-2
+    slice-read-wide
+    wide-requires
+    mul-wide-3
+    mul-wide-4
+    slice-read-wide-2
+    wide-requires-2
+    add-if2
+    returns-2
+    join-touching-requires
+    same-length
+    returns-3)

@@ -1,0 +1,177 @@
+// Runs of the dots that pass a test, by a byte of ink and a mark for each dot; the marks stand in the words that the runs are
+// written to, behind them.
+ghost use mathlib.Core.Path.{_≡_};
+ghost use mathlib.Core.Bool.{cond};
+ghost use Prim.Native.Nat.{_+_};
+ghost use lib.ListN.{length};
+ghost use lib.Dec.{eqb};
+ghost use Rattle.memory.specs.Lists.{countIf};
+ghost use Rattle.labelling.specs.Labels.{isInk};
+ghost use Rattle.labelling.specs.Marked.{passes, passing, MarkedScanRoom, MarkedScanned, MarkedRowRoom, MarkedRowLeft, MarkedRoom, MarkedLeft};
+
+// The dots of a block, which are counted at once.
+const BLOCK: usize = 32;
+
+// Which dots count: those whose mark has its first bit, its second bit, or ink without a mark.
+pub enum Test {
+    First,
+    Second,
+    Neither,
+}
+
+// 1 where a dot passes, else 0.
+fn passes(test: Test, ink: u8, mark: u32) -> u8
+    ensures { λ r. ⌜ r ≡ cond (passes test ink mark) 1 0 ⌝ }
+{
+    match test {
+        Test::First => (mark % 2 == 1) as u8,
+        Test::Second => (1 < mark) as u8,
+        Test::Neither => ((0 < ink) & (mark == 0)) as u8,
+    }
+}
+
+// Whether a block has no ink.
+fn is_blank(ink: &[u8]) -> bool
+    requires { ⌜ length (now ink) ≡ 32 ⌝ }
+    ensures { λ r. ⌜ r ≡ eqb (countIf (isInk (now (ink .entry))) 32) 0 ⌝ }
+{
+    let mut count: u8 = 0;
+    let mut i = 0;
+    while i < BLOCK {
+        count += (0 < ink[i]) as u8;
+        i += 1;
+    }
+    count == 0
+}
+
+// How many of a block's dots pass.
+fn count_passing(test: Test, ink: &[u8], marks: &[u32]) -> u8
+    requires { ⌜ (length (now ink) ≡ 32) × (length (now marks) ≡ 32) ⌝ }
+    ensures { λ r. ⌜ r ≡ countIf (isInk (passing test (now (ink .entry)) (now (marks .entry)) 32)) 32 ⌝ }
+{
+    let mut count: u8 = 0;
+    let mut i = 0;
+    while i < BLOCK {
+        count += passes(test, ink[i], marks[i]);
+        i += 1;
+    }
+    count
+}
+
+// The same, one count for each test; without ink and with a test that asks for it, the marks are not looked at.
+fn count_block(test: Test, ink: &[u8], marks: &[u32]) -> u8
+    requires { ⌜ (length (now ink) ≡ 32) × (length (now marks) ≡ 32) ⌝ }
+    ensures { λ r. ⌜ r ≡ countIf (isInk (passing test (now (ink .entry)) (now (marks .entry)) 32)) 32 ⌝ }
+{
+    match test {
+        Test::First => count_passing(Test::First, ink, marks),
+        Test::Second => count_passing(Test::Second, ink, marks),
+        Test::Neither => {
+            if is_blank(ink) {
+                return 0;
+            }
+            count_passing(Test::Neither, ink, marks)
+        }
+    }
+}
+
+// Writes the turns among the dots `from` up to `to` of a row to the words from `at` on, and answers where they end. An odd place is
+// that of a run's end: there the last dot passed. A word is stored at every dot and counts only at a turn.
+fn scan(
+    test: Test,
+    ink: &[u8],
+    from: usize,
+    to: usize,
+    base: usize,
+    words: &mut [u32],
+    at: usize,
+    marks: usize,
+) -> usize
+    requires { ⌜ MarkedScanRoom test (now ink) from to base (now words) at marks ⌝ }
+    ensures { λ r. ⌜ MarkedScanned test (now (ink .entry)) from to base (now (words .entry)) (now (words .exit)) at marks r ⌝ }
+{
+    let mut k = at;
+    let mut before = (at % 2) as u8;
+    let mut x = from;
+    while x < to {
+        let here = passes(test, ink[x], words[marks + base + x]);
+        words[k] = (base + x) as u32;
+        k += (before != here) as usize;
+        before = here;
+        x += 1;
+    }
+    k
+}
+
+// The same for a block of 32 dots, which has no turns where its dots are all as the one before.
+fn scan_block(
+    test: Test,
+    ink: &[u8],
+    from: usize,
+    base: usize,
+    words: &mut [u32],
+    at: usize,
+    marks: usize,
+) -> usize
+    requires { ⌜ MarkedScanRoom test (now ink) from (from + 32) base (now words) at marks ⌝ }
+    ensures { λ r. ⌜ MarkedScanned test (now (ink .entry)) from (from + 32) base (now (words .entry)) (now (words .exit)) at marks r ⌝ }
+{
+    let to = from + BLOCK;
+    let first = marks + base + from;
+    let end = first + BLOCK;
+    let count = count_block(test, &ink[from..to], &words[first..end]);
+    if count as usize == BLOCK * (at % 2) {
+        return at;
+    }
+    scan(test, ink, from, to, base, words, at, marks)
+}
+
+// Writes the turns of a row whose first dot is `base` to the words from `at` on, and answers where they end.
+fn extract_row(
+    test: Test,
+    ink: &[u8],
+    base: usize,
+    words: &mut [u32],
+    at: usize,
+    marks: usize,
+) -> usize
+    requires { ⌜ MarkedRowRoom test (now ink) base (now words) at marks ⌝ }
+    ensures { λ r. ⌜ MarkedRowLeft test (now (ink .entry)) base (now (words .entry)) (now (words .exit)) at marks r ⌝ }
+{
+    let mut k = at;
+    let mut x = 0;
+    while BLOCK <= ink.len() - x {
+        k = scan_block(test, ink, x, base, words, k, marks);
+        x += BLOCK;
+    }
+    k = scan(test, ink, x, ink.len(), base, words, k, marks);
+    if k % 2 == 0 {
+        return k;
+    }
+    words[k] = (base + ink.len()) as u32;
+    k + 1
+}
+
+// Writes the runs of the dots that pass to the words, and answers how many there are; the mark of dot i is the word `marks + i`.
+pub fn extract_marked(
+    ink: &[u8],
+    w: usize,
+    h: usize,
+    words: &mut [u32],
+    marks: usize,
+    test: Test,
+) -> usize
+    requires { ⌜ MarkedRoom w h (now ink) (now words) marks ⌝ }
+    ensures { λ r. ⌜ MarkedLeft test w h (now (ink .entry)) (now (words .entry)) (now (words .exit)) marks r ⌝ }
+{
+    let mut k = 0;
+    let mut base = 0;
+    let mut y = 0;
+    while y < h {
+        let end = base + w;
+        k = extract_row(test, &ink[base..end], base, words, k, marks);
+        base = end;
+        y += 1;
+    }
+    k / 2
+}
