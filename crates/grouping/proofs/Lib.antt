@@ -68,3 +68,15 @@ pub mod RowRunLaws
 pub mod RowStepLaws
 -- that walk seen from a part of the words
 pub mod PartWalkLaws
+-- words that a loop fills, and the labels of glyphs counted
+pub mod FilledWords
+-- smoothed components in the order of lines, and the number of each label
+pub mod RowLaws
+-- records, ink and heights of glyphs, one component after the other
+pub mod GlyphLaws
+-- what the words say of glyphs and lines is what the definitions say
+pub mod LineLaws
+-- the records that are written are those of the page's glyphs and lines
+pub mod LineRecords
+-- what scratch holds of glyphs and lines stays, and gives what the functions ask
+pub mod LineRooms

@@ -26,3 +26,5 @@ pub mod Pitches
 pub mod Dots
 -- the figures of the printed sheet
 pub mod Figures
+-- glyphs, smoothed components and lines in the words of scratch
+pub mod LineWords
