@@ -10,7 +10,7 @@ use original::{level_mask, segment_mask};
 use super::Part;
 use crate::bench::Bench;
 use crate::lent::{Bytes, Words};
-use crate::list::List;
+use crate::list::{hash, packed, List};
 use crate::masks::shown;
 use crate::ours;
 use crate::pages::{Kind, KINDS};
@@ -374,5 +374,44 @@ fn bench(bench: &mut Bench) {
     }
 }
 
-/// Nothing yet: the gate replays levelling when it has an entry of its own.
-fn list(_: &mut List) {}
+/// Kind 0B of the list: width, height, slope, the mask in four words; the frame, the hash of both shears, the ink plane.
+const KIND: u8 = 0x0B;
+
+/// The words of a listed page's mask.
+const MASK_WORDS: usize = 4;
+
+/// The list's slopes: both zeros, tiny ones, halves, ones and some sixteenths with both their neighbours, of both signs.
+fn listed_slopes() -> Vec<f64> {
+    let mut all = vec![0.0, f64::from_bits(1), 1e-9, 0.02, 0.5, 1.0];
+    for k in [1, 3, 8, 13] {
+        let bits = f64::to_bits(f64::from(k) / 16.0);
+        all.extend([bits - 1, bits, bits + 1].map(f64::from_bits));
+    }
+    all.push(f64::from_bits(1.0f64.to_bits() - 1));
+    let negative: Vec<f64> = all.iter().map(|slope| -slope).collect();
+    all.extend(negative);
+    all
+}
+
+fn list(list: &mut List) {
+    let mut random = Random::new();
+    for slope in listed_slopes() {
+        for (width, height) in [(12, 9), (3, 17)] {
+            let plane = Kind::Noise(50).page(width, height, &mut random);
+            let page = Page {
+                plane: &plane,
+                width,
+                height,
+                slope,
+            };
+            let rust = page.rust();
+            let mut words = vec![width as u64, height as u64, slope.to_bits()];
+            words.extend(packed(&plane));
+            words.resize(3 + MASK_WORDS, 0);
+            words.push((rust.height as u64) << 32 | rust.width as u64);
+            words.push(hash(&shears_of(&rust)));
+            words.extend(packed(&rust.ink));
+            list.case(KIND, &words);
+        }
+    }
+}

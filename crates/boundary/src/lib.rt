@@ -15,6 +15,10 @@ mod sorting_parts;
 
 use params::LayoutParams;
 
+// The replay calls these by their own names.
+pub use levels::novlizeb_frame_size;
+pub use levels::novlizeb_level_plane;
+
 // x at the nearest whole number, halves away from zero.
 #[no_mangle]
 pub extern "C" fn novlizeb_round(x: f64) -> f64

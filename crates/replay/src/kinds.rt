@@ -2,6 +2,7 @@
 //
 // To add a kind: a function, here or in a file of its own, from the digits of the words to a bool, and
 // its line in agrees. The words of a kind are said above its function; a part of compare/ writes them.
+use crate::levels;
 use crate::masks;
 use crate::text;
 use params::LayoutParams;
@@ -22,6 +23,7 @@ pub fn agrees(kind: u64, body: &[u8]) -> bool {
         8 => validate(body),
         9 => masks::label(body),
         10 => masks::extents(body),
+        11 => levels::level(body),
         _ => false,
     }
 }

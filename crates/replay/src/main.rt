@@ -5,6 +5,7 @@
 // words, 16 digits each, and a line feed. The words are the inputs and then the Rust's answers, as
 // kinds.rt has them for each kind. A line that is not so made counts as a difference.
 mod kinds;
+mod levels;
 mod masks;
 mod text;
 

@@ -9,7 +9,7 @@ use sorting::ExtentsAnswer;
 const MOST_DOTS: usize = 1024;
 
 // The digits before a mask: those of three words.
-const MASK_FROM: usize = 48;
+pub const MASK_FROM: usize = 48;
 
 // The words of a piece's record.
 const RECORD: usize = 9;
@@ -26,7 +26,7 @@ struct Size {
 }
 
 // How many dots they have: two numbers of 32 bits have a product of 64.
-fn dots(width: u32, height: u32) -> usize {
+pub fn dots(width: u32, height: u32) -> usize {
     (width as usize) * (height as usize)
 }
 
@@ -41,7 +41,7 @@ fn dot_of(digit: u8, k: usize) -> u8 {
 }
 
 // Dot i of the mask that the digits spell, four dots a digit; blank past the last.
-fn dot(digits: &[u8], i: usize) -> u8 {
+pub fn dot(digits: &[u8], i: usize) -> u8 {
     let at = i / 4;
     if at < digits.len() {
         dot_of(text::digit(digits[at]), i % 4)
@@ -51,7 +51,7 @@ fn dot(digits: &[u8], i: usize) -> u8 {
 }
 
 // The mask that the digits spell, as many dots as there is room.
-fn read_mask(digits: &[u8], mask: &mut [u8]) {
+pub fn read_mask(digits: &[u8], mask: &mut [u8]) {
     let mut i = 0;
     while i < mask.len() {
         mask[i] = dot(digits, i);
@@ -79,7 +79,7 @@ fn hash(words: &[u32]) -> u64 {
 }
 
 // The hash of the first n words, 0 where there are fewer.
-fn hash_of(words: &[u32], n: usize) -> u64 {
+pub fn hash_of(words: &[u32], n: usize) -> u64 {
     if n <= words.len() {
         hash(&words[0..n])
     } else {
