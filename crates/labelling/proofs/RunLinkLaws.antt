@@ -15,7 +15,7 @@ use Rattle.memory.specs.Limits.{maxMaskSide}
 use Rattle.labelling.specs.Classes.{renamed}
 use Rattle.labelling.specs.InkRuns.{startOf, endOf, touchRuns}
 use Rattle.labelling.specs.Forests.{Forest, Seen, Joined, joinF}
-use Rattle.labelling.specs.Linking.{touching, Order, RunList, Kept, Linked, Joining, Under, Linkable, Joinable, Skipped, Parented, LinkedOne, RowLinkable, LinkedTo, RowEnd, AllLinked, firstRun}
+use Rattle.labelling.specs.Linking.{touching, Order, RunList, Kept, Linked, Joining, Linkable, Joinable, Skipped, Parented, LinkedOne, RowLinkable, LinkedTo, RowEnd, AllLinked, firstRun}
 use Rattle.labelling.proofs.LinkLaws.{seen-none, seen-skip, seen-join, seen-next, seen-all}
 use Rattle.labelling.proofs.TouchLaws.{row-rise}
 use Rattle.labelling.proofs.TransferLaws.{named-firsts}
