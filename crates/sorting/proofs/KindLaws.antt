@@ -21,8 +21,8 @@ use Rattle.sorting.specs.Units.{unitOf, unitValue}
 use Rattle.sorting.specs.Kinds.{kindOf, kindAt, isRule, isGraphic}
 use Rattle.sorting.specs.Sorted.{sorted, kindCounts}
 use Rattle.sorting.proofs.LabelFacts.{label-in, label-none}
-use Rattle.memory.proofs.CountLaws.{count-ext, occurs-by-place}
-use Rattle.sorting.proofs.MaskLaws.{horizontal-blank, vertical-blank, afterCut-ink}
+use Rattle.memory.proofs.CountLaws.{occurs-by-place}
+use Rattle.sorting.proofs.MaskLaws.{ink-count, horizontal-blank, vertical-blank, afterCut-ink}
 
 -- a dot's kind goes with its ink: blank and 0, or ink and one of 1 to 5
 pub data KindOfDot : Bool → ℕ → Type 0 where
@@ -125,12 +125,7 @@ module _ (p : LayoutParams) (w h : ℕ) (m : List ℕ) (wide : 0 < w) where
   kinds-add-up e bits =
       (λ i. by 1 i + (by 2 i + (by 3 i + (by 4 i + (by 5 i + 0)))))
       ∙ (five-count (λ i. getD (sorted p w h m .plane) i 0) (isInk m) (w * h) kind-of-dot
-      ∙ (ap (countIf (isInk m)) (sym e) ∙ (count-ext (isInk m) (λ i. eqb (getD m i 0) 1) (length m) (λ i l. unfold isInk in one (getD m i 0) (bits i)) ∙ sym (occurs-by-place 1 m))))
+      ∙ ink-count w h m e bits)
     where
       by : (k : ℕ) → occurs k (sorted p w h m .plane) ≡ countIf (λ i. eqb (getD (sorted p w h m .plane) i 0) k) (w * h)
       by k = occurs-by-place k (sorted p w h m .plane) ∙ ap (countIf (λ i. eqb (getD (sorted p w h m .plane) i 0) k)) (length-plane p w h m)
-
-      one : (v : ℕ) → v ≤ 1 → ltb 0 v ≡ eqb v 1
-      one zero l = refl
-      one (suc zero) l = refl
-      one (suc (suc v)) l = absurd (omega arith)

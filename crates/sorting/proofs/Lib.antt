@@ -14,5 +14,15 @@ pub mod AnswerLaws
 pub mod SweepLaws
 -- the median by counts
 pub mod Medians
+-- words stored one after the other from a place on
+pub mod StoredLaws
+-- components by the five words of their sizes
+pub mod SizedLaws
+-- heights counted, and the unit by them
+pub mod HeightLaws
+-- areas added up
+pub mod AreaLaws
+-- the components of a mask: boxes inside it, areas that add up to its ink
+pub mod ComponentLaws
 -- each dot has one kind, and the five counts add up
 pub mod KindLaws

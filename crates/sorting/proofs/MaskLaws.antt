@@ -1,13 +1,15 @@
 -- Dots of a plane w wide, and the mask of a test on them.
-use mathlib.Core.Path.{_≡_, refl, ap, _∙_}
+use mathlib.Core.Path.{_≡_, refl, sym, ap, _∙_}
 use mathlib.Core.Bool.{Bool, true, false, cond, _&&_, _||_, not}
 use mathlib.Core.List.{List}
-use Prim.Native.Nat.{ℕ, suc, _+_, _*_, _/_, _%_, _≤_, _<_}
+use Prim.Native.Nat.{ℕ, zero, suc, _+_, _*_, _/_, _%_, _≤_, _<_}
 use native.Mathlib.Nat.{mod-lt, div-add-mod', mul-add-div-right, mul-add-mod-self-right, mod-eq-of-lt, div-eq-of-lt, mul-comm, mul-le-mul-right, suc-mul}
 use native.Mathlib.Omega.{arith}
 use borrow.Author.Tests.{lt-ltb}
-use lib.ListN.{getD}
-use lib.Dec.{ltb}
+use lib.ListN.{getD, length}
+use lib.Dec.{eqb, ltb}
+use Rattle.memory.specs.Lists.{countIf, occurs}
+use Rattle.memory.proofs.CountLaws.{count-ext, occurs-by-place}
 use Rattle.memory.proofs.TableLaws.{getD-table}
 use Rattle.labelling.specs.Labels.{isInk}
 use Rattle.sorting.specs.Extents.{Plane, inkAt, maskOf}
@@ -61,3 +63,13 @@ pub afterCut-ink : (w h : ℕ) (a b m : List ℕ) (i : ℕ) → 0 < w → i < w 
 unfolding afterCut
 afterCut-ink w h a b m i wide l =
     isInk-maskOf w h _ i l ∙ (λ t. inkAt-dot w m i wide t && not (inkAt-dot w a i wide t || inkAt-dot w b i wide t))
+
+-- how many ink dots a mask of 0 and 1 has
+pub ink-count : (w h : ℕ) (m : List ℕ) → length m ≡ w * h → ((i : ℕ) → getD m i 0 ≤ 1) → countIf (isInk m) (w * h) ≡ occurs 1 m
+ink-count w h m e bits =
+    ap (countIf (isInk m)) (sym e) ∙ (count-ext (isInk m) (λ i. eqb (getD m i 0) 1) (length m) (λ i l. unfold isInk in one (getD m i 0) (bits i)) ∙ sym (occurs-by-place 1 m))
+  where
+    one : (v : ℕ) → v ≤ 1 → ltb 0 v ≡ eqb v 1
+    one zero l = refl
+    one (suc zero) l = refl
+    one (suc (suc v)) l = absurd (omega arith)

@@ -118,7 +118,7 @@ unfolding below
 below-zero [] = refl
 below-zero (a ∷ l) = rw (le-ltb a 0 (omega arith)) (let e = below-zero l in omega arith)
 
-total-snoc : (l : List ℕ) (a : ℕ) → total (l ++ (a ∷ [])) ≡ total l + a
+pub total-snoc : (l : List ℕ) (a : ℕ) → total (l ++ (a ∷ [])) ≡ total l + a
 unfolding total
 total-snoc [] a = omega arith
 total-snoc (b ∷ l) a = let e = total-snoc l a in omega arith

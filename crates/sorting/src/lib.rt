@@ -6,6 +6,7 @@ ghost use Rattle.sorting.specs.Units.{unitValue};
 
 mod extents;
 mod kinds;
+mod measure;
 mod median;
 mod rulings;
 
@@ -17,6 +18,12 @@ pub use kinds::kind_by_size;
 pub use kinds::kind_of;
 pub use kinds::run_min;
 pub use kinds::thick_max;
+pub use measure::component_at;
+pub use measure::measure_unit;
+pub use measure::pack_boxes;
+pub use measure::packed_box;
+pub use measure::total_area;
+pub use measure::write_kinds;
 pub use median::median_of_counts;
 pub use rulings::thin_rulings;
 
