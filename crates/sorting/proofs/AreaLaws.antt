@@ -6,7 +6,7 @@ use native.Mathlib.Nat.{le-refl}
 use native.Mathlib.Decide.{ℕ-discrete}
 use native.Mathlib.Numerals.{add-one}
 use native.Mathlib.Omega.{arith}
-use lib.ListN.{getD, length}
+use lib.ListN.{getD}
 use Rattle.memory.specs.Lists.{table, total}
 use Rattle.sorting.proofs.Medians.{total-snoc}
 use Rattle.sorting.specs.Measures.{sizedAt}

@@ -11,7 +11,7 @@ use lib.ListN.{getD, length, length-map, List·getD-map}
 use lib.Seq.{ext-getD}
 use lib.Dec.{eqb}
 use Rattle.memory.specs.Lists.{table, countIf, occurs, total}
-use Rattle.memory.proofs.TableLaws.{length-table, getD-table, table-ext}
+use Rattle.memory.proofs.TableLaws.{length-table, getD-table}
 use Rattle.labelling.specs.Components.{noDots}
 use Rattle.labelling.specs.Labels.{isInk, labelling}
 use Rattle.labelling.specs.declared.component.Component.{Component}

@@ -2,14 +2,14 @@
 use mathlib.Core.Path.{_≡_, refl, sym, ap, _∙_, subst}
 use mathlib.Core.List.{List, [], _∷_, _++_, map}
 use mathlib.Core.Bool.{Bool, true, false, cond}
-use Prim.Native.Nat.{ℕ, zero, suc, _+_, _-_, _*_, _≤_, _<_}
+use Prim.Native.Nat.{ℕ, zero, suc, _+_, _-_, _≤_, _<_}
 use native.Mathlib.Nat.{le-refl}
 use native.Mathlib.Decide.{ℕ-discrete, decLe}
 use native.Mathlib.Numerals.{add-one}
 use native.Mathlib.Omega.{arith}
 use borrow.Author.Tests.{eq-eqb, ne-eqb}
-use lib.ListN.{getD, length, take, drop, set, length-take, length-drop, List·getD-eq-default}
-use lib.Seq.{getD-set-same, getD-set-other, getD-take, getD-drop, length-take-le}
+use lib.ListN.{getD, length, take, drop, set, length-take, List·getD-eq-default}
+use lib.Seq.{getD-set-same, getD-set-other, getD-take, getD-drop}
 use lib.Dec.{eqb}
 use mir.Val.{boolByte}
 use Rattle.memory.specs.Lists.{table, keep, occurs}
@@ -21,7 +21,6 @@ use Rattle.params.specs.declared.LayoutParams.{LayoutParams}
 use Rattle.sorting.specs.Lengths.{float}
 use Rattle.sorting.specs.Units.{measurable, median, unitFrom, unitOf}
 use Rattle.sorting.specs.Scans.{CountsOf, BoxFits}
-use Rattle.sorting.specs.declared.Unit.{Unit}
 use Rattle.sorting.specs.declared.Unit.the-variants.{Measured, Assumed}
 use Rattle.sorting.specs.Measures.{Within, Stored, sizedAt, sizedFrom, BoxInside, SizesInside, measuredHeights, HeightsCounted}
 use Rattle.sorting.proofs.StoredLaws.{within-none, within-set, within-trans, within-wider}

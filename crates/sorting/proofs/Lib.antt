@@ -26,3 +26,9 @@ pub mod AreaLaws
 pub mod ComponentLaws
 -- each dot has one kind, and the five counts add up
 pub mod KindLaws
+-- why the plan of scratch fits
+pub mod PlanLaws
+-- the masks that pass, by the marks of the cuts
+pub mod CutLaws
+-- sorting, stage by stage
+pub mod SortLaws

@@ -1,11 +1,11 @@
 -- Components by the five words of their sizes: read back, and what does not ask for their sums.
 use mathlib.Core.Path.{_≡_, refl, sym, ap, _∙_}
-use mathlib.Core.List.{List, [], _∷_, _++_, map, append-nil}
+use mathlib.Core.List.{List, [], _∷_, map, append-nil}
 use mathlib.Core.Bool.{Bool, true, false, cond}
-use Prim.Native.Nat.{ℕ, zero, suc, _+_, _*_, _/_, _%_, _≤_, _<_}
+use Prim.Native.Nat.{ℕ, _+_, _*_, _/_, _%_, _≤_, _<_}
 use native.Mathlib.Omega.{arith}
-use lib.ListN.{getD, length, take, drop, length-map, length-take, length-drop, List·getD-map}
-use lib.Seq.{getD-take, getD-drop, ext-getD}
+use lib.ListN.{getD, length, take, drop, length-map, List·getD-map}
+use lib.Seq.{ext-getD}
 use lib.Ieee.{Float}
 use Rattle.memory.specs.Lists.{table, keep}
 use Rattle.memory.specs.Records.{encoded}

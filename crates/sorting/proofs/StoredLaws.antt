@@ -1,11 +1,11 @@
 -- Words stored one after the other from a place on, while all others stay.
 use mathlib.Core.Path.{_≡_, refl, sym, ap, _∙_, subst}
 use mathlib.Core.List.{List}
-use Prim.Native.Nat.{ℕ, _+_, _-_, _*_, _≤_, _<_}
+use Prim.Native.Nat.{ℕ, _+_, _-_, _≤_, _<_}
 use native.Mathlib.Decide.{ℕ-discrete}
 use native.Mathlib.Omega.{arith}
 use lib.ListN.{length, getD, take, drop, set, length-set, length-drop}
-use lib.Seq.{getD-set-same, getD-set-other, getD-drop, getD-take, ext-getD, length-take-le}
+use lib.Seq.{getD-set-same, getD-set-other, getD-drop, ext-getD}
 use Rattle.memory.specs.Lists.{table}
 use Rattle.memory.proofs.TableLaws.{table-ext}
 use Rattle.memory.proofs.PartLaws.{part-is-table}

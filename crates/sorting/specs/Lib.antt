@@ -14,6 +14,8 @@ pub mod Kinds
 pub mod Sorted
 -- where a segmentation keeps what it has found, in scratch
 pub mod Scratch
+-- what sorting an ink plane answers and leaves in scratch, whole and stage by stage
+pub mod Sortings
 -- components by the five words of their sizes
 pub mod Measures
 -- what the functions hand on to each other

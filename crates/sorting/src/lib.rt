@@ -9,6 +9,7 @@ mod kinds;
 mod measure;
 mod median;
 mod rulings;
+mod sort;
 
 pub use extents::Along;
 pub use extents::ExtentsAnswer;
@@ -26,6 +27,9 @@ pub use measure::total_area;
 pub use measure::write_kinds;
 pub use median::median_of_counts;
 pub use rulings::thin_rulings;
+pub use sort::SortAnswer;
+pub use sort::Sorting;
+pub use sort::sort_ink;
 
 // The x-height of the page, 01's unit: the length that every threshold is a multiple of, and whether it was measured.
 pub enum Unit {

@@ -1,7 +1,6 @@
 use native.Mathlib.Omega.{arith}
-use borrow.Author.Needs.{needs}
-use Prim.Native.Nat.{ℕ, _+_, _-_, _*_, _≤_, _<_, zero-le}
-use mathlib.Core.Path.{_≡_, refl, sym, ap, _∙_, subst}
+use Prim.Native.Nat.{_+_, _-_, _≤_, zero-le}
+use mathlib.Core.Path.{_≡_, refl}
 use Rattle.sorting.specs.Measures.{Stored}
 use Rattle.sorting.proofs.StoredLaws.{stored-none, stored-more, stored-count}
 use Rattle.sorting.proofs.measure.clear_words.Statement.{statement}

@@ -1,4 +1,3 @@
-use native.Mathlib.Omega.{arith}
 use borrow.Author.Needs.{needs}
 use Rattle.sorting.specs.Measures.{sizedAt}
 use Rattle.sorting.proofs.measure.component_at.Statement.{statement}

@@ -1,13 +1,10 @@
 use native.Mathlib.Omega.{arith}
-use borrow.Author.Needs.{needs}
-use Prim.Native.Nat.{ℕ, _+_, _-_, _*_, _≤_, _<_, zero-le}
-use mathlib.Core.Path.{_≡_, refl, sym, ap, _∙_, subst}
+use Prim.Native.Nat.{ℕ, _-_, _≤_, zero-le}
+use mathlib.Core.Path.{_≡_, sym, _∙_, subst}
 use Rattle.sorting.specs.Units.{measurable}
-use Rattle.labelling.specs.declared.component.Component.{Component}
 use Rattle.labelling.specs.Rects.{height}
 use Rattle.labelling.specs.Components.{boxOf}
-use lib.ListN.{length, getD}
-use Rattle.sorting.specs.Measures.{HeightsCounted, BoxInside, sizedAt}
+use Rattle.sorting.specs.Measures.{HeightsCounted, BoxInside}
 use Rattle.sorting.proofs.HeightLaws.{counted-none, counted-same, counted-few, counted-more, one-at-most}
 use Rattle.sorting.proofs.measure.count_heights.Statement.{statement}
 use Rattle.sorting.proofs.measure.count_heights.Tie as tie

@@ -1,7 +1,6 @@
 use native.Mathlib.Omega.{arith}
 use borrow.Author.Needs.{needs}
-use Prim.Native.Nat.{ℕ, _+_, _-_, _*_, _≤_, _<_, zero-le}
-use mathlib.Core.Path.{_≡_, refl, sym, ap, _∙_, subst}
+use mathlib.Core.Path.{_∙_}
 use Rattle.sorting.proofs.HeightLaws.{counted-all, inside-past, unit-past, cleared-within}
 use Rattle.sorting.proofs.measure.measure_unit.Statement.{statement}
 use Rattle.sorting.proofs.measure.measure_unit.Tie as tie

@@ -1,7 +1,6 @@
 use native.Mathlib.Omega.{arith}
-use borrow.Author.Needs.{needs}
-use Prim.Native.Nat.{ℕ, _+_, _-_, _*_, _≤_, _<_, zero-le}
-use mathlib.Core.Path.{_≡_, refl, sym, ap, _∙_, subst}
+use Prim.Native.Nat.{ℕ, _-_, _≤_, zero-le}
+use mathlib.Core.Path.{_≡_, ap, _∙_}
 use Rattle.memory.specs.Lists.{table, total}
 use Rattle.sorting.specs.Measures.{sizedAt}
 use Rattle.sorting.proofs.AreaLaws.{areas-none, areas-more, areas-fit}

@@ -1,7 +1,5 @@
 use native.Mathlib.Omega.{arith}
 use borrow.Author.Needs.{needs}
-use Prim.Native.Nat.{ℕ, _+_, _-_, _*_, _≤_, _<_, zero-le}
-use mathlib.Core.Path.{_≡_, refl, sym, ap, _∙_, subst}
 use Rattle.sorting.proofs.HeightLaws.{unit-none, unit-some}
 use Rattle.sorting.proofs.measure.unit_from.Statement.{statement}
 use Rattle.sorting.proofs.measure.unit_from.Tie as tie

@@ -1,0 +1,273 @@
+-- Sorting, stage by stage: what each labelling leaves for those after it, up to the plane sorted.
+use mathlib.Core.Path.{_≡_, refl, sym, ap, _∙_, subst}
+use mathlib.Core.List.{List, [], _∷_, map}
+use Prim.Native.Nat.{ℕ, _+_, _-_, _*_, _≤_, _<_, min}
+use native.Mathlib.Omega.{arith}
+use lib.Ieee.{Float}
+use lib.Dec.{eqb}
+use lib.ListN.{getD, length, take, drop, length-take, length-drop}
+use lib.Seq.{getD-take, getD-drop, ext-getD}
+use Rattle.memory.specs.Lists.{table, occurs, total, greatest}
+use Rattle.memory.specs.Words.{over}
+use Rattle.memory.specs.Records.{encoded}
+use Rattle.memory.proofs.CountLaws.{occurs-by-place}
+use Rattle.labelling.specs.Components.{boxOf}
+use Rattle.labelling.specs.Extraction.{Extracted}
+use Rattle.labelling.specs.Marked.{MarkedLeft}
+use Rattle.labelling.specs.Sizes.{HoldsRuns, HoldsNumbers, HoldsSizes, SizesLeft}
+use Rattle.labelling.specs.declared.component.Component.{Component}
+use Rattle.labelling.specs.declared.marked.Test.{Test}
+use Rattle.labelling.specs.declared.marked.Test.the-variants.{First, Second, Neither}
+use Rattle.labelling.proofs.CountLaws.{count-low}
+use Rattle.params.specs.declared.LayoutParams.{LayoutParams}
+use Rattle.sorting.specs.Rulings.{runMin, thickMax, cutHorizontal, cutVertical, afterCut, cutMark}
+use Rattle.sorting.specs.Units.{unitOf, unitValue}
+use Rattle.sorting.specs.Kinds.{kindOf}
+use Rattle.sorting.specs.Sorted.{sorted}
+use Rattle.sorting.specs.Scratch.{marksAt, horizontalAt, verticalAt, sizesAt, kindsAt, packed, inkAfterCut, mostComponents}
+use Rattle.sorting.specs.declared.Unit.{Unit}
+use Rattle.sorting.proofs.OverLaws.{over-at}
+use Rattle.sorting.specs.declared.sort.SortAnswer.{SortAnswer}
+use Rattle.sorting.specs.declared.sort.SortAnswer.the-variants.{Sorted, TooMany}
+use Rattle.sorting.specs.Measures.{Within, Stored, sizedAt, sizedFrom, SizesInside, boxWord}
+use Rattle.sorting.specs.Sortings.{sortLeft, componentsOf, FrameRoom, passed, CutLabelled, RestHeld, restLeft, cutsLeft}
+use Rattle.sorting.proofs.StoredLaws.{within-drop, stored-count}
+use Rattle.sorting.proofs.SizedLaws.{held-table, held-inside, held-unit, held-kinds, held-boxes}
+use Rattle.sorting.proofs.HeightLaws.{inside-past}
+use Rattle.sorting.proofs.ComponentLaws.{box-inside, areas-ink}
+use Rattle.sorting.proofs.PlanLaws.{plan-dots, plan-runs}
+use Rattle.sorting.proofs.CutLaws.{passed-same, passing-first, passing-second, passing-neither}
+
+pub runs-held : {w h c : ℕ} {m s t : List ℕ} → Extracted w h m s t c → HoldsRuns w h m t c
+runs-held E = record { count = E .count; runs = E .runs }
+
+-- Words that stay
+
+pub kept-from : (b : ℕ) (s t : List ℕ) → drop b t ≡ drop b s → (i : ℕ) → b ≤ i → getD t i 0 ≡ getD s i 0
+kept-from b s t e i l =
+    let z : i ≡ b + (i - b) = omega arith in
+    ap (λ (k : ℕ). getD t k 0) z ∙ (sym (getD-drop b t (i - b) 0) ∙ (ap (λ (d : List ℕ). getD d (i - b) 0) e ∙ (getD-drop b s (i - b) 0 ∙ ap (λ (k : ℕ). getD s k 0) (sym z))))
+
+pub part-kept : (a n : ℕ) (s t : List ℕ) → length t ≡ length s → ((i : ℕ) → a ≤ i → i < a + n → getD t i 0 ≡ getD s i 0) → take n (drop a t) ≡ take n (drop a s)
+part-kept a n s t e h =
+    let x = length-take n (drop a t) in
+    let y = length-take n (drop a s) in
+    let u = length-drop a t in
+    let v = length-drop a s in
+    ext-getD 0 (take n (drop a t)) (take n (drop a s)) (omega arith)
+    (λ i l. getD-take n (drop a t) i 0 (omega arith) ∙ (getD-drop a t i 0 ∙ (h (a + i) (omega arith) (omega arith) ∙ (sym (getD-drop a s i 0) ∙ sym (getD-take n (drop a s) i 0 (omega arith))))))
+
+pub numbers-kept : {w h a e c : ℕ} {m s t : List ℕ} → HoldsNumbers w h m s c → Within a e s t → 3 * c ≤ a → HoldsNumbers w h m t c
+numbers-kept {c = c} {s = s} {t = t} N W l =
+    record {
+      held = record { count = N .held .count; runs = part-kept 0 (2 * c) s t (W .len) (λ i a b. W .before i (omega arith)) ∙ N .held .runs };
+      numbers = λ k b. W .before (2 * c + k) (omega arith) ∙ N .numbers k b;
+    }
+
+-- One labelling
+
+module _ {w h P : ℕ} {m₀ s₀ : List ℕ} (F : FrameRoom w h m₀ P s₀) {m s t : List ℕ} {c r : ℕ} (L : SizesLeft w h m s t c P (sizesAt (w * h) P) r) (len : length t ≡ length s₀) where
+  pub left-count : r ≤ P → r ≡ length (componentsOf w h m)
+  left-count l = let e = L .count in omega arith
+
+  pub left-many : P < r → P < length (componentsOf w h m)
+  left-many l = let e = L .count in omega arith
+
+  pub left-inside : r ≤ P → SizesInside w h t (sizesAt (w * h) P) r
+  left-inside l =
+      subst (SizesInside w h t (sizesAt (w * h) P)) (sym (left-count l))
+      (held-inside (componentsOf w h m) t (sizesAt (w * h) P) (L .sizes l) w h (let e = left-count l in let q = F .room in omega arith)
+      (box-inside w h m (F .wide) (let d = plan-dots F in omega arith)))
+
+  pub left-boxes : r ≤ P → SizesInside 32768 32768 t (sizesAt (w * h) P) r
+  left-boxes l =
+      let S = left-inside l in
+      record {
+        room = S .room;
+        inside = λ k b. let B = S .inside k b in
+            record {
+              columns = B .columns;
+              wide = (let x = B .wide in let y = F .narrow in omega arith);
+              rows = B .rows;
+              high = (let x = B .high in let y = F .low in omega arith);
+            };
+      }
+
+  pub left-unit : (p : LayoutParams) → r ≤ P → unitOf p w h (sizedFrom t (sizesAt (w * h) P) r) ≡ unitOf p w h (componentsOf w h m)
+  left-unit p l =
+      ap (λ (k : ℕ). unitOf p w h (sizedFrom t (sizesAt (w * h) P) k)) (left-count l) ∙ held-unit p w h (componentsOf w h m) t (sizesAt (w * h) P) (L .sizes l)
+
+  pub left-areas : r ≤ P → length m ≡ w * h → ((i : ℕ) → getD m i 0 ≤ 1) → total (table (λ k. sizedAt t (sizesAt (w * h) P) k .area) r) ≡ occurs 1 m
+  left-areas l whole ones =
+      ap (λ (k : ℕ). total (table (λ k. sizedAt t (sizesAt (w * h) P) k .area) k)) (left-count l)
+      ∙ (ap total (held-table (componentsOf w h m) t (sizesAt (w * h) P) (L .sizes l) (λ (z : Component). z .area) (λ z. refl))
+      ∙ areas-ink w h m (let d = plan-dots F in omega arith) whole ones)
+
+pub ink-few : (m : List ℕ) → occurs 1 m ≤ length m
+ink-few m = let a = occurs-by-place 1 m in let b = count-low (λ i. eqb (getD m i 0) 1) (length m) in omega arith
+
+-- The cuts of one direction
+
+module _ (t : Test) {w h P : ℕ} {m s s₁ s₂ : List ℕ} {c r : ℕ} (F : FrameRoom w h m P s) (to : ℕ) (high : horizontalAt (w * h) ≤ to) (low : to + 2 * P ≤ sizesAt (w * h) P)
+    (M : MarkedLeft t w h m s s₁ (marksAt (w * h)) c) (L : SizesLeft w h (passed t w h m s) s₁ s₂ c P (sizesAt (w * h) P) r) where
+  kept : (i : ℕ) → marksAt (w * h) ≤ i → i < to → getD s₂ i 0 ≡ getD s i 0
+  kept i a b = let q = plan-runs F (M .held) in L .between i (omega arith) (omega arith) ∙ kept-from (marksAt (w * h)) s s₁ (M .kept) i a
+
+  pub cut-many : P < r → CutLabelled t w h m P to s s₂ r
+  cut-many l = record { len = L .len ∙ M .len; count = L .count; boxes = λ z. absurd (omega arith); before = kept }
+
+  pub cut-done : {s₃ : List ℕ} → r ≤ P → Stored (boxWord s₂ (sizesAt (w * h) P)) to (2 * r) s₂ s₃ → CutLabelled t w h m P to s s₃ r
+  cut-done {s₃} l S =
+      let len : length s₂ ≡ length s = L .len ∙ M .len in
+      let e : r ≡ length (componentsOf w h (passed t w h m s)) = left-count F L len l in
+      record {
+        len = S .within .len ∙ len;
+        count = L .count;
+        boxes = λ z. held-boxes (componentsOf w h (passed t w h m s)) s₂ s₃ (sizesAt (w * h) P) to (L .sizes l) (let q = F .room in omega arith)
+            (stored-count S (let x : 2 * r ≡ 2 * length (componentsOf w h (passed t w h m s)) = omega arith in x));
+        before = λ i a b. S .within .before i b ∙ kept i a b;
+      }
+
+-- The ink after the cut
+
+module _ (p : LayoutParams) {w h P : ℕ} {m s s₁ s₂ s₃ : List ℕ} {c r : ℕ} (F : FrameRoom w h m P s) (M : MarkedLeft Neither w h m s s₁ (marksAt (w * h)) c)
+    (L : SizesLeft w h (passed Neither w h m s) s₁ s₂ c P (sizesAt (w * h) P) r) (l : r ≤ P) (W : Within (3 * (w * h)) (3 * (w * h) + h + 1) s₂ s₃) where
+  pub rest-inside : 3 * (w * h) + h + 1 ≤ sizesAt (w * h) P → SizesInside w h s₃ (sizesAt (w * h) P) r
+  rest-inside k = inside-past (left-inside F L (L .len ∙ M .len) l) W k
+
+  pub rest-done : {s₄ : List ℕ} (unit : Unit) (ink horizontal vertical : ℕ) → 3 * (w * h) + h + 1 ≤ horizontalAt (w * h) → unit ≡ unitOf p w h (sizedFrom s₂ (sizesAt (w * h) P) r)
+      → Stored (λ k. kindOf p (unitValue unit) w h (sizedAt s₃ (sizesAt (w * h) P) k)) (kindsAt (w * h) P) r s₃ s₄
+      → RestHeld p w h (passed Neither w h m s) P ink horizontal vertical s s₄ (record { unit = unit; ink = ink; horizontal = horizontal; vertical = vertical; runs = c; components = r })
+  rest-done {s₄} unit ink horizontal vertical k ue S =
+      let len : length s₂ ≡ length s = L .len ∙ M .len in
+      let cs = componentsOf w h (passed Neither w h m s) in
+      let e : r ≡ length cs = left-count F L len l in
+      let u : unit ≡ unitOf p w h cs = ue ∙ left-unit F L len p l in
+      let held₃ : HoldsSizes cs s₃ (sizesAt (w * h) P) = ap (take (5 * length cs)) (within-drop W (sizesAt (w * h) P) (omega arith)) ∙ L .sizes l in
+      let q = F .room in
+      let x = plan-runs F (M .held) in
+      let y = W .len in
+      record {
+        few = omega arith;
+        numbered = numbers-kept (numbers-kept (L .numbered l) W (omega arith)) (S .within) (omega arith);
+        sizes = part-kept (sizesAt (w * h) P) (5 * length cs) s₃ s₄ (S .within .len) (λ i a b. S .within .before i (omega arith)) ∙ held₃;
+        kinds =
+            held-kinds p (unitValue unit) w h cs s₃ s₄ (sizesAt (w * h) P) (kindsAt (w * h) P) held₃ (omega arith) (stored-count S e)
+            ∙ ap (λ (v : Unit). map (kindOf p (unitValue v) w h) cs) u;
+        kept = λ i a b. S .within .before i (omega arith) ∙ (W .past i (omega arith) ∙ (L .between i (omega arith) b ∙ kept-from (marksAt (w * h)) s s₁ (M .kept) i (omega arith)));
+        unit-is = u;
+        ink-is = refl;
+        horizontal-is = refl;
+        vertical-is = refl;
+        components-is = e;
+      }
+
+-- Both kinds of cuts, then the rest
+
+module _ {w h P : ℕ} {m s s₁ : List ℕ} {r₁ : ℕ} (F : FrameRoom w h m P s) (A : CutLabelled First w h m P (horizontalAt (w * h)) s s₁ r₁) where
+  first : (t : Test) → passed t w h m s₁ ≡ passed t w h m s
+  first t = passed-same t w h m s s₁ (A .before)
+
+  abbrev three : ℕ
+  three = greatest (map (λ (m : List ℕ). length (componentsOf w h m)) (passed First w h m s ∷ passed Second w h m s ∷ passed Neither w h m s ∷ []))
+
+  pub cuts-first : P < r₁ → P < three
+  unfolding greatest
+  cuts-first l = let e = A .count in omega arith
+
+  module _ {s₂ : List ℕ} {r₂ : ℕ} (B : CutLabelled Second w h m P (verticalAt (w * h) P) s₁ s₂ r₂) where
+    second-count : r₂ ≡ min (length (componentsOf w h (passed Second w h m s))) (P + 1)
+    second-count = subst (λ (b : List ℕ). r₂ ≡ min (length (componentsOf w h b)) (P + 1)) (first Second) (B .count)
+
+    pub cuts-second : P < r₂ → P < three
+    unfolding greatest
+    cuts-second l = let e = second-count in omega arith
+
+    rest-same : passed Neither w h m s₂ ≡ passed Neither w h m s
+    rest-same = passed-same Neither w h m s₁ s₂ (λ i a b. B .before i a (omega arith)) ∙ first Neither
+
+    module _ (p : LayoutParams) (ink : ℕ) (l₁ : r₁ ≤ P) (l₂ : r₂ ≤ P) (s₃ : List ℕ) (len : length s₃ ≡ length s₂) where
+      cuts-by : (r : SortAnswer) → restLeft r p w h (passed Neither w h m s) P ink r₁ r₂ s₂ s₃
+          → cutsLeft r p w h (passed First w h m s) (passed Second w h m s) (passed Neither w h m s) P ink s₃
+      unfolding greatest
+      cuts-by TooMany l = omega arith
+      cuts-by (Sorted f) R =
+          let a = componentsOf w h (passed First w h m s) in
+          let b = componentsOf w h (passed Second w h m s) in
+          let ea : r₁ ≡ length a = (let e = A .count in omega arith) in
+          let eb : r₂ ≡ length b = (let e = second-count in omega arith) in
+          let x = R .few in
+          let second-boxes : take (2 * length b) (drop (verticalAt (w * h) P) s₂) ≡ encoded packed (map boxOf b) =
+          subst (λ (z : List ℕ). take (2 * length (componentsOf w h z)) (drop (verticalAt (w * h) P) s₂) ≡ encoded packed (map boxOf (componentsOf w h z))) (first Second) (B .boxes l₂) in
+          record {
+            few = omega arith;
+            numbered = R .numbered;
+            sizes = R .sizes;
+            kinds = R .kinds;
+            horizontal =
+                part-kept (horizontalAt (w * h)) (2 * length a) s₂ s₃ len (λ i c d. R .kept i c (omega arith))
+                ∙ (part-kept (horizontalAt (w * h)) (2 * length a) s₁ s₂ (B .len) (λ i c d. B .before i (omega arith) (omega arith)) ∙ A .boxes l₁);
+            vertical = part-kept (verticalAt (w * h) P) (2 * length b) s₂ s₃ len (λ i c d. R .kept i (omega arith) (omega arith)) ∙ second-boxes;
+            unit-is = R .unit-is;
+            ink-is = R .ink-is;
+            horizontal-is = R .horizontal-is ∙ ea;
+            vertical-is = R .vertical-is ∙ eb;
+            components-is = R .components-is;
+          }
+
+      pub cuts-done : (r : SortAnswer) → restLeft r p w h (passed Neither w h m s₂) P ink r₁ r₂ s₂ s₃
+          → cutsLeft r p w h (passed First w h m s) (passed Second w h m s) (passed Neither w h m s) P ink s₃
+      cuts-done r R = cuts-by r (subst (λ (z : List ℕ). restLeft r p w h z P ink r₁ r₂ s₂ s₃) rest-same R)
+
+-- The whole
+
+pub two-least : (p : LayoutParams) (u : Float) → 2 ≤ runMin p u
+unfolding runMin
+two-least p u = omega arith
+
+module _ (p : LayoutParams) (w h : ℕ) (m : List ℕ) (P : ℕ) where
+  abbrev firstUnit : Float
+  firstUnit = unitValue (unitOf p w h (componentsOf w h m))
+
+  pub sort-many : P < length (componentsOf w h m) → P < mostComponents (sorted p w h m)
+  unfolding sorted greatest
+  sort-many l = omega arith
+
+  sort-by : (r : SortAnswer) (ink : ℕ) (s : List ℕ) → length (componentsOf w h m) ≤ P → ink ≡ occurs 1 m
+      → cutsLeft r p w h (cutHorizontal (runMin p firstUnit) (thickMax p firstUnit) w h m) (cutVertical (runMin p firstUnit) (thickMax p firstUnit) w h m)
+      (afterCut w h (cutHorizontal (runMin p firstUnit) (thickMax p firstUnit) w h m) (cutVertical (runMin p firstUnit) (thickMax p firstUnit) w h m) m) P ink s
+      → sortLeft r p w h m P s
+  unfolding sorted greatest inkAfterCut
+  sort-by TooMany ink s l e C = omega arith
+  sort-by (Sorted f) ink s l e C =
+      record {
+        few = (let x = C .few in omega arith);
+        held = record { numbered = C .numbered; sizes = C .sizes; kinds = C .kinds; horizontal = C .horizontal; vertical = C .vertical };
+        figures = record { unit-is = C .unit-is; ink-is = C .ink-is ∙ e; horizontal-is = C .horizontal-is; vertical-is = C .vertical-is; components-is = C .components-is };
+      }
+
+  -- by the marks that thin rulings leave
+  pub sort-done : (r : SortAnswer) (ink run thick : ℕ) (s₃ s₄ s₅ : List ℕ) → 0 < w → length (componentsOf w h m) ≤ P → ink ≡ occurs 1 m
+      → run ≡ runMin p firstUnit → thick ≡ thickMax p firstUnit
+      → drop (marksAt (w * h)) s₄ ≡ over (table (cutMark run thick w h m) (w * h)) (drop (marksAt (w * h)) s₃)
+      → cutsLeft r p w h (passed First w h m s₄) (passed Second w h m s₄) (passed Neither w h m s₄) P ink s₅
+      → sortLeft r p w h m P s₅
+  sort-done r ink run thick s₃ s₄ s₅ wide l e er et eq C =
+      sort-by r ink s₅ l e
+      (subst (λ (z : List ℕ). cutsLeft r p w h A B z P ink s₅) (passing-neither (runMin p firstUnit) (thickMax p firstUnit) w h m marks told wide)
+      (subst (λ (z : List ℕ). cutsLeft r p w h A z (passed Neither w h m s₄) P ink s₅) (passing-second (runMin p firstUnit) (thickMax p firstUnit) w h m marks told)
+      (subst (λ (z : List ℕ). cutsLeft r p w h z (passed Second w h m s₄) (passed Neither w h m s₄) P ink s₅) (passing-first (runMin p firstUnit) (thickMax p firstUnit) w h m marks told) C)))
+    where
+      A : List ℕ
+      A = cutHorizontal (runMin p firstUnit) (thickMax p firstUnit) w h m
+
+      B : List ℕ
+      B = cutVertical (runMin p firstUnit) (thickMax p firstUnit) w h m
+
+      marks : List ℕ
+      marks = drop (marksAt (w * h)) s₄
+
+      told : (i : ℕ) → i < w * h → getD marks i 0 ≡ cutMark (runMin p firstUnit) (thickMax p firstUnit) w h m i
+      told i b =
+          ap (λ (d : List ℕ). getD d i 0) eq
+          ∙ (over-at (cutMark run thick w h m) (w * h) (drop (marksAt (w * h)) s₃) i b ∙ (λ j. cutMark (er j) (et j) w h m i))
