@@ -54,3 +54,9 @@ pub mod PitchLaws
 pub mod SmoothedRuns
 -- the frame place of a page dot, and the dots listed
 pub mod DotLaws
+-- boxes in lent words: those of the components of a kind, those packed, lists one behind the other
+pub mod BoxLaws
+-- the plane of kinds painted run by run
+pub mod PaintingLaws
+-- what scratch holds of an ink plane sorted, read as lists of boxes and as the plane of kinds
+pub mod SortedWords

@@ -1,8 +1,9 @@
 -- Lines, blocks, columns and glyphs as words (01, "Records lie in lent words"), in the order of 01's printed sheet.
 use mathlib.Core.List.{List, [], _∷_, _++_}
 use Prim.Native.Nat.{ℕ, _+_, _*_, _≤_, _<_}
-use lib.ListN.{getD, length}
+use lib.ListN.{getD, length, take, drop}
 use Rattle.memory.specs.Lists.{table}
+use Rattle.memory.specs.Words.{over}
 use Rattle.labelling.specs.declared.rect.Rect.{Rect}
 use Rattle.grouping.specs.Blocks.{Block}
 use Rattle.grouping.specs.Layouts.{TextLine, GlyphBox}
@@ -37,6 +38,10 @@ columnRecord c = c .x0 ∷ c .x1 ∷ []
 -- a glyph: box, area, line
 abbrev pub glyphRecord : GlyphBox → List ℕ
 glyphRecord g = g .bbox .x0 ∷ g .bbox .y0 ∷ g .bbox .x1 ∷ g .bbox .y1 ∷ g .area ∷ g .line ∷ []
+
+-- v from word `at` on; what lies before and past it stays
+abbrev pub putAt : ℕ → List ℕ → List ℕ → List ℕ
+putAt at v s = take at s ++ over v (drop at s)
 
 -- word j of each of n records of k words
 abbrev pub fields : ℕ → ℕ → List ℕ → ℕ → List ℕ
