@@ -80,3 +80,9 @@ pub mod LineLaws
 pub mod LineRecords
 -- what scratch holds of glyphs and lines stays, and gives what the functions ask
 pub mod LineRooms
+-- boxes in lent words: those of the components of a kind, those packed, lists one behind the other
+pub mod BoxLaws
+-- the plane of kinds painted run by run
+pub mod PaintingLaws
+-- what scratch holds of an ink plane sorted, read as lists of boxes and as the plane of kinds
+pub mod SortedWords

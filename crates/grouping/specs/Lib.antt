@@ -14,6 +14,8 @@ pub mod Layouts
 pub mod Counts
 -- lines, blocks, columns and glyphs as words
 pub mod Words
+-- the lists of a segmentation in the words lent for results, and the plane of kinds
+pub mod Results
 -- what the walk over the pairs of lines keeps
 pub mod Joining
 -- what the numbering of blocks hands on

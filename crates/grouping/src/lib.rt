@@ -1,6 +1,7 @@
 // Grouping: text lines, blocks, columns and the figures that clubs print (layout.rs). Lines, blocks and columns lie in lent words,
 // as many for each record; what the functions must do is in specs/.
 mod block;
+mod boxes;
 mod column;
 mod counts;
 mod dots;
@@ -8,12 +9,17 @@ mod glyphs;
 mod lines;
 mod number;
 mod numbers;
+mod painting;
 mod pitch;
 mod record;
 mod smooth;
 mod summary;
 
 pub use block::blocks;
+pub use boxes::area_of_kind;
+pub use boxes::unpack_boxes;
+pub use boxes::write_boxes;
+pub use boxes::write_rules;
 pub use column::Column;
 pub use column::columns;
 pub use dots::Sides;
@@ -26,6 +32,7 @@ pub use lines::count_lines;
 pub use lines::number_labels;
 pub use lines::order_lines;
 pub use lines::write_lines;
+pub use painting::paint_kinds;
 pub use pitch::median_pitch;
 pub use pitch::twenty_line_measure;
 pub use smooth::smooth_runs;
