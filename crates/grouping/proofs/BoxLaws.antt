@@ -19,7 +19,7 @@ use Rattle.memory.proofs.PartLaws.{tail-part, over-behind}
 use Rattle.memory.proofs.RecordLaws.{length-encoded, record-more}
 use Rattle.labelling.specs.declared.rect.Rect.{Rect}
 use Rattle.grouping.specs.Results.{boxWords, heldBox, heldKind, ofKind, heldBoxes, heldArea, unpackedBox, unpackedBoxes, heldRules}
-use Rattle.grouping.proofs.ListLaws.{keep-snoc-yes, keep-snoc-no, upto-suc, map-append}
+use Rattle.grouping.proofs.ListLaws.{keep-snoc-yes, keep-snoc-no, upto-suc, map-append, keep-few}
 use Rattle.grouping.proofs.CountLaws.{count-length, count-below}
 use Rattle.grouping.proofs.TableWords.{over-length}
 
@@ -56,6 +56,11 @@ module _ {l : List Rect} {out₀ out : List ℕ} {n : ℕ} (W : BoxesWritten l o
 
 -- One component more: of the kind, or not
 
+total-snoc : (l : List ℕ) (a : ℕ) → total (l ++ (a ∷ [])) ≡ total l + a
+unfolding total
+total-snoc [] a = omega arith
+total-snoc (b ∷ l) a = let e = total-snoc l a in omega arith
+
 module _ (s : List ℕ) (kinds kind : ℕ) where
   of-kind-more : (k : ℕ) → heldKind s kinds k ≡ kind → ofKind s kinds kind (k + 1) ≡ ofKind s kinds kind k ++ (k ∷ [])
   unfolding ofKind
@@ -90,6 +95,14 @@ module _ (s : List ℕ) (kinds kind : ℕ) where
     unfolding heldBoxes
     boxes-same k e = ap (map (heldBox s sizes)) (of-kind-same k e)
 
+    -- no more boxes than components
+    pub boxes-few : (n : ℕ) → length (heldBoxes s sizes kinds kind n) ≤ n
+    unfolding heldBoxes ofKind
+    boxes-few n =
+        let a = length-map (ofKind s kinds kind n) (heldBox s sizes) in
+        let b = keep-few (λ k. eqb (heldKind s kinds k) kind) n in
+        omega arith
+
     -- there is room for one that is of the kind
     pub boxes-below : (k n : ℕ) → k < n → heldKind s kinds k ≡ kind → length (heldBoxes s sizes kinds kind k) < length (heldBoxes s sizes kinds kind n)
     unfolding heldBoxes
@@ -98,11 +111,6 @@ module _ (s : List ℕ) (kinds kind : ℕ) where
         let b = length-map (ofKind s kinds kind n) (heldBox s sizes) in
         let c = of-kind-below k n l e in
         omega arith
-
-    total-snoc : (l : List ℕ) (a : ℕ) → total (l ++ (a ∷ [])) ≡ total l + a
-    unfolding total
-    total-snoc [] a = omega arith
-    total-snoc (b ∷ l) a = let e = total-snoc l a in omega arith
 
     pub area-none : 0 ≡ heldArea s sizes kinds kind 0
     unfolding heldArea ofKind upto table keep total
@@ -167,15 +175,23 @@ encoded-append (r ∷ l) k = ap (λ (t : List ℕ). boxWords r ++ t) (encoded-ap
 tail-long : (t : List ℕ) (a : ℕ) → length (take (length t - a) (drop a t)) ≡ length t - a
 tail-long t a = ap length (tail-part a t) ∙ length-drop a t
 
-module _ (s : List ℕ) (ha hn va vn sizes kinds n : ℕ) (out : List ℕ) (room : length (heldRules s ha hn va vn sizes kinds n) * 4 ≤ length out) where
-  rules-length : length (heldRules s ha hn va vn sizes kinds n) ≡ hn + vn + length (heldBoxes s sizes kinds 2 n)
+module _ (s : List ℕ) (ha hn va vn sizes kinds n : ℕ) where
+  length-rules : length (heldRules s ha hn va vn sizes kinds n) ≡ hn + vn + length (heldBoxes s sizes kinds 2 n)
   unfolding heldRules
-  rules-length =
+  length-rules =
       let a = length-append (unpackedBoxes s ha hn ++ unpackedBoxes s va vn) (heldBoxes s sizes kinds 2 n) in
       let b = length-append (unpackedBoxes s ha hn) (unpackedBoxes s va vn) in
       let c = length-unpacked s ha hn in
       let d = length-unpacked s va vn in
       omega arith
+
+  -- no more rules than cuts and components
+  pub rules-few : length (heldRules s ha hn va vn sizes kinds n) ≤ hn + vn + n
+  rules-few = let a = length-rules in let b = boxes-few s kinds 2 sizes n in omega arith
+
+module _ (s : List ℕ) (ha hn va vn sizes kinds n : ℕ) (out : List ℕ) (room : length (heldRules s ha hn va vn sizes kinds n) * 4 ≤ length out) where
+  rules-length : length (heldRules s ha hn va vn sizes kinds n) ≡ hn + vn + length (heldBoxes s sizes kinds 2 n)
+  rules-length = length-rules s ha hn va vn sizes kinds n
 
   pub rules-room : hn * 4 ≤ length out
   rules-room = let a = rules-length in omega arith

@@ -86,3 +86,5 @@ pub mod BoxLaws
 pub mod PaintingLaws
 -- what scratch holds of an ink plane sorted, read as lists of boxes and as the plane of kinds
 pub mod SortedWords
+-- the areas of the components of a kind, and what is left of the ink
+pub mod AreaLaws

@@ -3,7 +3,7 @@ use mathlib.Core.Path.{_≡_, refl, sym, ap, _∙_}
 use mathlib.Core.Bool.{Bool, true, false, cond, _&&_, _||_, not, true≢false}
 use mathlib.Core.List.{List, [], _∷_, _++_, map, append-nil}
 use Prim.Native.Nat.{ℕ, zero, suc, _+_, _-_, _*_, _/_, _%_, _≤_, _<_}
-use native.Mathlib.Nat.{not-suc-le-zero, le-of-suc-le-suc, le-refl, mul-add-div-right, mul-add-mod-self-right, mod-eq-of-lt, div-eq-of-lt}
+use native.Mathlib.Nat.{not-suc-le-zero, le-refl, mul-add-div-right, mul-add-mod-self-right, mod-eq-of-lt, div-eq-of-lt}
 use native.Mathlib.Omega.{arith}
 use lib.ListN.{getD, length, take, drop, length-map}
 use lib.Seq.{ext-getD, getD-take, getD-drop}
@@ -11,6 +11,7 @@ use lib.Dec.{eqb, ltb}
 use lib.Ieee.{Float}
 use Rattle.memory.specs.Lists.{table, upto, keep, total}
 use Rattle.memory.specs.Records.{encoded}
+use Rattle.memory.specs.Limits.{maxMaskDots}
 use Rattle.memory.proofs.TableLaws.{length-table, getD-table, table-ext}
 use Rattle.memory.proofs.RecordLaws.{record-at}
 use Rattle.labelling.specs.Components.{noDots, boxOf}
@@ -18,7 +19,7 @@ use Rattle.labelling.specs.Labels.{isInk, labelling}
 use Rattle.labelling.specs.Sizes.{HoldsSizes}
 use Rattle.labelling.specs.declared.rect.Rect.{Rect}
 use Rattle.labelling.specs.declared.component.Component.{Component}
-use Rattle.labelling.proofs.SizeLaws.{size-at}
+use Rattle.labelling.proofs.SizeLaws.{size-at, component-boxed}
 use Rattle.labelling.proofs.Theorems.{label-within, label-blank}
 use Rattle.params.specs.declared.LayoutParams.{LayoutParams}
 use Rattle.sorting.specs.Kinds.{kindOf, kindAt, ruleKind}
@@ -28,6 +29,7 @@ use Rattle.sorting.specs.Scratch.{packed, inkAfterCut}
 use Rattle.sorting.specs.Sorted.{sorted, boxesOf, rulesOf}
 use Rattle.sorting.proofs.MaskLaws.{horizontal-blank, vertical-blank, afterCut-ink}
 use Rattle.grouping.specs.Results.{heldBox, heldKind, KindsHeld, ofKind, heldBoxes, heldArea, unpackedBox, unpackedBoxes, heldRules, paintedKind}
+use Rattle.grouping.proofs.BlockLaws.{getD-map}
 use Rattle.grouping.proofs.ListLaws.{keep-snoc-yes, keep-snoc-no, map-append}
 
 -- Components of a kind
@@ -49,14 +51,9 @@ kept-map {A} {B} p q g r a (suc n) t u = go (q (a n)) refl (kept-map p q g r a n
 as-table : {A : Type 0} (l : List A) (d : A) → table (λ k. getD l k d) (length l) ≡ l
 as-table l d = ext-getD d (table (λ k. getD l k d) (length l)) l (length-table (λ k. getD l k d) (length l)) (λ i b. getD-table (λ k. getD l k d) (length l) i d (let e = length-table (λ k. getD l k d) (length l) in omega arith))
 
-map-at : {A : Type 0} (f : A → ℕ) (l : List A) (i : ℕ) (d : A) → i < length l → getD (map f l) i 0 ≡ f (getD l i d)
-map-at f [] i d h = absurd (not-suc-le-zero h)
-map-at f (x ∷ l) zero d h = refl
-map-at f (x ∷ l) (suc i) d h = map-at f l i d (le-of-suc-le-suc h)
-
 module _ (cs : List Component) (f : Component → ℕ) (s : List ℕ) (sizes kinds kind : ℕ) (H : HoldsSizes cs s sizes) (K : KindsHeld (map f cs) s kinds) where
   kind-is : (k : ℕ) → k < length cs → eqb (heldKind s kinds k) kind ≡ eqb (f (getD cs k noDots)) kind
-  kind-is k l = ap (λ z. eqb z kind) (K k (let e = length-map cs f in omega arith) ∙ map-at f cs k noDots l)
+  kind-is k l = ap (λ z. eqb z kind) (K k (let e = length-map cs f in omega arith) ∙ getD-map f cs k 0 noDots l)
 
   box-is : (k : ℕ) → k < length cs → heldBox s sizes k ≡ boxOf (getD cs k noDots)
   box-is k l = let S = size-at cs s sizes k H l in λ i. record { x0 = S .x0 i; y0 = S .y0 i; x1 = S .x1 i; y1 = S .y1 i }
@@ -117,6 +114,28 @@ unpacked-boxes rs s from e low =
           x1 = (ap (λ z. z / 32768) a ∙ high-of (getD rs k noBox .x0) (getD rs k noBox .x1) x) i;
           y1 = (ap (λ z. z / 32768) b ∙ high-of (getD rs k noBox .y0) (getD rs k noBox .y1) y) i;
         }
+
+-- the boxes of a mask's components, packed, are read back: no side of the mask passes 2^15
+pub components-unpacked : (w h : ℕ) (m s : List ℕ) (from : ℕ) → 0 < w → w ≤ 32768 → h ≤ 32768 → w * h ≤ maxMaskDots
+    → take (2 * length (labelling w h m .components)) (drop from s) ≡ encoded packed (map boxOf (labelling w h m .components))
+    → unpackedBoxes s from (length (labelling w h m .components)) ≡ map boxOf (labelling w h m .components)
+components-unpacked w h m s from wide narrow low dots e =
+    ap (unpackedBoxes s from) (sym many)
+    ∙ unpacked-boxes (map boxOf (labelling w h m .components)) s from (ap (λ z. take (2 * z) (drop from s)) many ∙ e)
+    (λ k d l.
+    let q : k < length (labelling w h m .components) = (let z = many in omega arith) in
+    let B = component-boxed w h m wide dots k q in
+    let b = getD-map boxOf (labelling w h m .components) k d noDots q in
+    let x = ap (λ (r : Rect). r .x0) b in
+    let y = ap (λ (r : Rect). r .y0) b in
+    let a₁ = B .wide in
+    let a₂ = B .right in
+    let b₁ = B .high in
+    let b₂ = B .bottom in
+    (omega arith, omega arith))
+  where
+    many : length (map boxOf (labelling w h m .components)) ≡ length (labelling w h m .components)
+    many = length-map (labelling w h m .components) boxOf
 
 -- A whole ink plane sorted
 
