@@ -2,8 +2,6 @@
 pub mod Smoothing
 -- text lines, and the line of each glyph
 pub mod Lines
--- what smoothing on the runs of rows asks and leaves
-pub mod RowRuns
 -- blocks of lines
 pub mod Blocks
 -- columns of the page
@@ -14,8 +12,6 @@ pub mod Layouts
 pub mod Counts
 -- lines, blocks, columns and glyphs as words
 pub mod Words
--- the lists of a segmentation in the words lent for results, and the plane of kinds
-pub mod Results
 -- what the walk over the pairs of lines keeps
 pub mod Joining
 -- what the numbering of blocks hands on
@@ -28,5 +24,3 @@ pub mod Pitches
 pub mod Dots
 -- the figures of the printed sheet
 pub mod Figures
--- glyphs, smoothed components and lines in the words of scratch
-pub mod LineWords

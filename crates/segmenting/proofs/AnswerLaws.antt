@@ -1,0 +1,143 @@
+-- The answer of a whole segmentation: which number a page is refused with, and what it leaves.
+use mathlib.Core.Path.{_≡_, refl, sym, ap, _∙_}
+use mathlib.Core.List.{List}
+use Prim.Native.Nat.{ℕ, _≤_, _<_, max}
+use native.Mathlib.Omega.{arith}
+use borrow.Author.Tests.{lt-ltb, le-ltb}
+use lib.Dec.{ltb}
+use lib.ListN.{length}
+use Rattle.memory.specs.Lists.{table, greatest}
+use Rattle.memory.specs.Limits.{maxLines}
+use Rattle.memory.specs.Refusals.{refuseIf}
+use Rattle.memory.specs.Words.{over}
+use Rattle.memory.proofs.TableLaws.{length-table}
+use Rattle.params.specs.declared.LayoutParams.{LayoutParams}
+use Rattle.sorting.specs.Scratch.{SortRoom, mostComponents}
+use Rattle.sorting.specs.Sorted.{sorted}
+use Rattle.sorting.specs.Sortings.{SortHeld}
+use Rattle.sorting.specs.Units.{unitValue}
+use Rattle.sorting.specs.declared.sort.Sorting.{Sorting}
+use Rattle.grouping.specs.Blocks.{blockFirsts}
+use Rattle.grouping.specs.Layouts.{layout, layoutRefusal, textLine}
+use Rattle.segmenting.specs.Answers.{left, leftBy, segmented, SegmentRoom, SortedRoom}
+use Rattle.segmenting.specs.Results.{resultsLeft}
+use Rattle.segmenting.specs.Segments.{rowsOf, glyphsIn, linesIn, RowsHeld, SortedPage}
+use Rattle.segmenting.specs.Writing.{boxesOfLines, figuresOf, ResultsRoom}
+use Rattle.segmenting.specs.declared.page.SegmentAnswer.the-variants.{Segmented, Refused}
+use Rattle.segmenting.specs.declared.results.Segmentation.{Segmentation}
+use Rattle.segmenting.specs.declared.rows.Rows.{Rows}
+
+max-more : (a : ℕ) {x y : ℕ} → x ≤ y → max a x ≤ max a y
+max-more a l = omega arith
+
+max-fits : (a : ℕ) {x y P : ℕ} → max a x ≤ P → (x ≤ P → y ≤ P) → max a y ≤ P
+max-fits a l f = let g = f (omega arith) in omega arith
+
+module _ (p : LayoutParams) (w h : ℕ) (m : List ℕ) (P : ℕ) where
+  most : ℕ
+  most = greatest (layout p w h m .components)
+
+  -- the greatest of the five labellings is that of the four of sorting or that of the smoothed glyphs
+  most-sorted : mostComponents (sorted p w h m) ≤ most
+  unfolding most layout greatest
+  most-sorted =
+      max-more (length (sorted p w h m .ink .components))
+      (max-more (length (sorted p w h m .horizontal .components))
+      (max-more (length (sorted p w h m .vertical .components)) (max-more (length (sorted p w h m .rest .components)) (omega arith))))
+
+  most-rows : length (rowsOf p w h m .components) ≤ most
+  unfolding most layout greatest rowsOf
+  most-rows = omega arith
+
+  most-few : mostComponents (sorted p w h m) ≤ P → length (rowsOf p w h m .components) ≤ P → most ≤ P
+  unfolding most layout greatest rowsOf
+  most-few a b =
+      max-fits (length (sorted p w h m .ink .components)) a
+      (λ a₁. max-fits (length (sorted p w h m .horizontal .components)) a₁
+      (λ a₂. max-fits (length (sorted p w h m .vertical .components)) a₂ (λ a₃. max-fits (length (sorted p w h m .rest .components)) a₃ (λ _. omega arith))))
+
+  many-lines : length (layout p w h m .lines) ≡ length (linesIn p w h m)
+  unfolding layout linesIn glyphsIn rowsOf
+  many-lines = length-table (textLine (linesIn p w h m) (blockFirsts p (boxesOfLines (linesIn p w h m)))) (length (linesIn p w h m))
+
+  refused-many : P < most → layoutRefusal P (layout p w h m) ≡ 20
+  unfolding layoutRefusal refuseIf most
+  refused-many l = rw (lt-ltb P (greatest (layout p w h m .components)) l) refl
+
+  refused-lines : most ≤ P → maxLines < length (linesIn p w h m) → layoutRefusal P (layout p w h m) ≡ 21
+  unfolding layoutRefusal refuseIf most
+  refused-lines a b =
+      rw (le-ltb P (greatest (layout p w h m .components)) a) (rw (lt-ltb maxLines (length (layout p w h m .lines)) (let e = many-lines in omega arith)) refl)
+
+  not-refused : most ≤ P → length (linesIn p w h m) ≤ maxLines → layoutRefusal P (layout p w h m) ≡ 0
+  unfolding layoutRefusal refuseIf most
+  not-refused a b =
+      rw (le-ltb P (greatest (layout p w h m .components)) a) (rw (le-ltb maxLines (length (layout p w h m .lines)) (let e = many-lines in omega arith)) refl)
+
+  module _ (results kinds : List ℕ) where
+    by-number : (n : ℕ) → layoutRefusal P (layout p w h m) ≡ n → leftBy n w P (layout p w h m) results kinds ≡ segmented p w h m P results kinds
+    unfolding segmented
+    by-number n e = ap (λ k. leftBy k w P (layout p w h m) results kinds) (sym e)
+
+    left-many : P < most → left (Refused 20) results kinds ≡ segmented p w h m P results kinds
+    unfolding leftBy
+    left-many l = by-number 20 (refused-many l)
+
+    -- more than P components in a labelling of sorting
+    pub sorted-many : P < mostComponents (sorted p w h m) → left (Refused 20) results kinds ≡ segmented p w h m P results kinds
+    sorted-many l = left-many (let a = most-sorted in omega arith)
+
+    -- more than P smoothed components
+    pub rows-refused : P < length (rowsOf p w h m .components) → left (Refused 20) results kinds ≡ segmented p w h m P results kinds
+    rows-refused l = left-many (let a = most-rows in omega arith)
+
+    -- more lines than a page may have
+    pub lines-refused : mostComponents (sorted p w h m) ≤ P → length (rowsOf p w h m .components) ≤ P → maxLines < length (linesIn p w h m)
+        → left (Refused 21) results kinds ≡ segmented p w h m P results kinds
+    unfolding leftBy
+    lines-refused a b d = by-number 21 (refused-lines (most-few a b) d)
+
+    -- none of these
+    pub page-segmented : mostComponents (sorted p w h m) ≤ P → length (rowsOf p w h m .components) ≤ P → length (linesIn p w h m) ≤ maxLines
+        → (f : Segmentation) (results' kinds' : List ℕ) → f ≡ figuresOf (layout p w h m) → results' ≡ resultsLeft w P (layout p w h m) results
+        → kinds' ≡ over (layout p w h m .kinds) kinds → left (Segmented f) results' kinds' ≡ segmented p w h m P results kinds
+    unfolding leftBy
+    page-segmented a b d f results' kinds' e₁ e₂ e₃ = (λ i. left (Segmented (e₁ i)) (e₂ i) (e₃ i)) ∙ by-number 0 (not-refused (most-few a b) d)
+
+-- What the stages ask
+
+room-kept : {p : LayoutParams} {w h : ℕ} {m : List ℕ} {P : ℕ} {s s' : List ℕ} → SortRoom p w h m P s → length s' ≡ length s → SortRoom p w h m P s'
+room-kept S e =
+    record {
+      wide = S .wide;
+      narrow = S .narrow;
+      high = S .high;
+      low = S .low;
+      whole = S .whole;
+      ones = S .ones;
+      few = S .few;
+      valid = S .valid;
+      room = let a = S .room in omega arith;
+    }
+
+module _ {p : LayoutParams} {w h : ℕ} {m : List ℕ} {P : ℕ} {s : List ℕ} {found : Sorting} {results kinds : ℕ} (R : SortedRoom p w h m P s found results kinds) where
+  -- the rows
+  pub rows-ask : {unit : _} → unit ≡ unitValue (found .unit) → SortedPage p w h m P s unit (found .runs)
+  rows-ask e = record { room = R .room .plane; few = R .held .few; held = R .held .held; unit-is = e ∙ ap unitValue (R .held .figures .unit-is) }
+
+  -- the results
+  pub results-ask : (s' : List ℕ) (rows : Rows) → length s' ≡ length s → RowsHeld p w h m P s' (found .runs) rows → ResultsRoom p w h m P s' found rows results kinds
+  results-ask s' rows e H =
+      record {
+        plane = room-kept (R .room .plane) e;
+        few = R .held .few;
+        figures = R .held .figures;
+        held = H;
+        results-room = R .room .results-room;
+        kinds-room = R .room .kinds-room;
+      }
+
+-- the sorted plane
+pub sorted-ask : {p : LayoutParams} {w h : ℕ} {m : List ℕ} {P : ℕ} {s : List ℕ} {results kinds : ℕ} → SegmentRoom p w h m P s results kinds
+    → (s' : List ℕ) (found : Sorting) → length s' ≡ length s → SortHeld p w h m P s' found → SortedRoom p w h m P s' found results kinds
+sorted-ask R s' found e H = record { room = record { plane = room-kept (R .plane) e; results-room = R .results-room; kinds-room = R .kinds-room }; held = H }

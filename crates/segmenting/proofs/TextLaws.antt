@@ -1,0 +1,91 @@
+-- Glyphs and lines ordered and written: what each call asks and what all leave, by the counts and the words that the code has.
+use mathlib.Core.Path.{_≡_, sym, ap, _∙_, subst}
+use mathlib.Core.List.{List, map}
+use Prim.Native.Nat.{ℕ, suc, _+_, _-_}
+use native.Mathlib.Omega.{arith}
+use lib.Ieee.{Float}
+use lib.ListN.{length, take, drop}
+use borrow.Rule.Slice.PartMut.{putMid}
+use Rattle.memory.specs.Lists.{upto, indexFrom}
+use Rattle.memory.specs.Limits.{noLine}
+use Rattle.memory.specs.Records.{encoded}
+use Rattle.memory.specs.Words.{over}
+use Rattle.labelling.specs.declared.component.Component.{Component}
+use Rattle.params.specs.declared.LayoutParams.{LayoutParams}
+use Rattle.sorting.specs.Scratch.{horizontalAt, verticalAt, sizesAt, kindsAt, smoothedAt, glyphsAt}
+use Rattle.grouping.specs.Layouts.{glyphBox}
+use Rattle.grouping.specs.Lines.{keptLines}
+use Rattle.grouping.specs.Words.{glyphRecord, putAt}
+use Rattle.segmenting.specs.LineWords.{glyphsOf, Filled, lineRows, OrderRoom, orderedRow, OrderedLines, NumberRoom, orderAt, GlyphRoom, WrittenGlyphs, lineRecordAt, LinesRoom}
+use Rattle.segmenting.specs.Results.{glyphRecordsAt, linesAt}
+use Rattle.segmenting.specs.Writing.{plainRecords, LinesHeld, LinesOrdered, linesLeft}
+use Rattle.segmenting.proofs.PutLaws.{part-length, put-part}
+use Rattle.segmenting.proofs.WritingLaws.{order-ask, number-ask, lines-ordered, glyphs-ask, glyphs-count, glyphs-records, lines-ask, lines-records}
+
+module _ {p : LayoutParams} {unit : Float} {cs : List Component} {ks : List ℕ} {labels : ℕ → ℕ} {rows : List Component} {w h dots P : ℕ} {s : List ℕ} {out : ℕ}
+    (H : LinesHeld p unit cs ks labels rows w h dots P s out) where
+  -- by the count of smoothed components
+  module _ {n : ℕ} (e : n ≡ length rows) where
+    pub text-order : OrderRoom (horizontalAt dots) (smoothedAt dots P) (glyphsAt dots P) n s
+    text-order = subst (λ k. OrderRoom (horizontalAt dots) (smoothedAt dots P) (glyphsAt dots P) k s) (sym e) (order-ask H)
+
+    module _ {s₁ : List ℕ} {r : ℕ} (O : OrderedLines (lineRows p unit s (smoothedAt dots P) (glyphsAt dots P) n) (horizontalAt dots) s s₁ r) where
+      ordered : OrderedLines (lineRows p unit s (smoothedAt dots P) (glyphsAt dots P) (length rows)) (horizontalAt dots) s s₁ r
+      ordered = subst (λ k. OrderedLines (lineRows p unit s (smoothedAt dots P) (glyphsAt dots P) k) (horizontalAt dots) s s₁ r) e O
+
+      pub text-number : NumberRoom (horizontalAt dots) r (verticalAt dots P) n s₁
+      text-number = subst (λ k. NumberRoom (horizontalAt dots) r (verticalAt dots P) k s₁) (sym e) (number-ask H ordered)
+
+      pub text-ordered : {s₂ : List ℕ} → Filled (λ t. indexFrom noLine 0 (suc t) (orderAt s₁ (horizontalAt dots) r)) (verticalAt dots P) n s₁ s₂
+          → LinesOrdered p unit cs ks labels rows dots P s s₂ r
+      text-ordered {s₂} F =
+          lines-ordered H ordered (subst (λ k. Filled (λ t. indexFrom noLine 0 (suc t) (orderAt s₁ (horizontalAt dots) r)) (verticalAt dots P) k s₁ s₂) e F)
+
+  -- by the count of components, with words enough for the results
+  module _ {s₂ : List ℕ} {n : ℕ} (L : LinesOrdered p unit cs ks labels rows dots P s s₂ n) {m : ℕ} (d : m ≡ length cs) where
+    pub text-glyphs : (results : List ℕ) → length results ≡ out
+        → GlyphRoom (sizesAt dots P) (kindsAt dots P) m (verticalAt dots P) s₂ (length (take (length results - glyphRecordsAt w P) (drop (glyphRecordsAt w P) results)))
+    text-glyphs results q =
+        let part = take (length results - glyphRecordsAt w P) (drop (glyphRecordsAt w P) results) in
+        let a = part-length (glyphRecordsAt w P) results in
+        let b = H .results-room in
+        let f = H .few-components in
+        subst (λ k. GlyphRoom (sizesAt dots P) (kindsAt dots P) k (verticalAt dots P) s₂ (length part)) (sym d) (glyphs-ask H L (length part) (omega arith))
+
+    pub text-lines : (results : List ℕ) → length results ≡ out
+        → LinesRoom (horizontalAt dots) n 0 (h + 1) (sizesAt dots P) (kindsAt dots P) m (smoothedAt dots P) (glyphsAt dots P) s₂ (length (take (length results - linesAt w P) (drop (linesAt w P) results)))
+    text-lines results q =
+        let part = take (length results - linesAt w P) (drop (linesAt w P) results) in
+        let a = part-length (linesAt w P) results in
+        let b = H .results-room in
+        let f = H .few-rows in
+        let g = L .few in
+        subst (λ k. LinesRoom (horizontalAt dots) n 0 (h + 1) (sizesAt dots P) (kindsAt dots P) k (smoothedAt dots P) (glyphsAt dots P) s₂ (length part)) (sym d)
+        (lines-ask H L (length part) (omega arith))
+
+    -- what both leave
+    module _ (results : List ℕ) {part : List ℕ} {found : ℕ}
+        (G : WrittenGlyphs (sizesAt dots P) (kindsAt dots P) m (verticalAt dots P) s₂ (take (length results - glyphRecordsAt w P) (drop (glyphRecordsAt w P) results)) part found) where
+      written : WrittenGlyphs (sizesAt dots P) (kindsAt dots P) (length cs) (verticalAt dots P) s₂ (take (length results - glyphRecordsAt w P) (drop (glyphRecordsAt w P) results)) part found
+      written =
+          subst (λ k. WrittenGlyphs (sizesAt dots P) (kindsAt dots P) k (verticalAt dots P) s₂ (take (length results - glyphRecordsAt w P) (drop (glyphRecordsAt w P) results)) part found) d G
+
+      pub text-found : found ≡ length (glyphsOf cs ks labels)
+      text-found = written .count-is ∙ glyphs-count H L
+
+      glyphs-put : putMid (glyphRecordsAt w P) (length results - glyphRecordsAt w P) results part
+          ≡ putAt (glyphRecordsAt w P) (encoded glyphRecord (map (glyphBox (keptLines p unit (glyphsOf cs ks labels) rows)) (glyphsOf cs ks labels))) results
+      glyphs-put =
+          put-part (glyphRecordsAt w P) results (encoded glyphRecord (map (glyphBox (keptLines p unit (glyphsOf cs ks labels) rows)) (glyphsOf cs ks labels))) part
+          (written .words ∙ ap (λ (z : List ℕ). over z (take (length results - glyphRecordsAt w P) (drop (glyphRecordsAt w P) results))) (glyphs-records H L))
+
+      pub text-left : (one last : List ℕ) → one ≡ putMid (glyphRecordsAt w P) (length results - glyphRecordsAt w P) results part
+          → last
+          ≡ over (encoded (λ i. lineRecordAt s₂ (smoothedAt dots P) (glyphsAt dots P) (sizesAt dots P) (kindsAt dots P) m (orderedRow s₂ (horizontalAt dots) i)) (upto n))
+          (take (length one - linesAt w P) (drop (linesAt w P) one))
+          → putMid (linesAt w P) (length one - linesAt w P) one last ≡ linesLeft w P (glyphsOf cs ks labels) (keptLines p unit (glyphsOf cs ks labels) rows) results
+      text-left one last q F =
+          let records = ap (λ k. encoded (λ i. lineRecordAt s₂ (smoothedAt dots P) (glyphsAt dots P) (sizesAt dots P) (kindsAt dots P) k (orderedRow s₂ (horizontalAt dots) i)) (upto n)) d ∙ lines-records H L in
+          put-part (linesAt w P) one (plainRecords (keptLines p unit (glyphsOf cs ks labels) rows)) last
+          (F ∙ ap (λ (z : List ℕ). over z (take (length one - linesAt w P) (drop (linesAt w P) one))) records)
+          ∙ ap (putAt (linesAt w P) (plainRecords (keptLines p unit (glyphsOf cs ks labels) rows))) (q ∙ glyphs-put)

@@ -1,0 +1,80 @@
+use borrow.Author.Needs.{needs}
+use mathlib.Core.Path.{refl}
+use native.Mathlib.Omega.{arith}
+use Rattle.segmenting.proofs.PutLaws.{part-length}
+use Rattle.segmenting.specs.Results.{linesAt}
+use Rattle.segmenting.proofs.ResultLaws.{blocks-ask, found-is, columns-ask, groups-left}
+use Rattle.segmenting.proofs.groups.write_groups.Statement.{statement}
+use Rattle.segmenting.proofs.groups.write_groups.Tie as tie
+
+mul-at : tie.Need-mul-at
+mul-at c = search needs
+
+mul-at-2 : tie.Need-mul-at-2
+mul-at-2 c = search needs
+
+add-at : tie.Need-add-at
+add-at c = search needs
+
+mul-behind : tie.Need-mul-behind
+mul-behind c = search needs
+
+mul-blocks : tie.Need-mul-blocks
+mul-blocks c = search needs
+
+sub-blocks : tie.Need-sub-blocks
+sub-blocks c = search needs
+
+part-blocks-start : tie.Need-part-blocks-start
+part-blocks-start c = search needs
+
+part-blocks-end : tie.Need-part-blocks-end
+part-blocks-end c = search needs
+
+blocks-requires : tie.Need-blocks-requires
+blocks-requires c κs =
+    let a = c .before .before .before .before .args in
+    let G = c .before .before .before .before .pre .2 in
+    let k = part-length (linesAt (a .w) (a .capacity)) (a .results .now) in let e = G .count in let f = G .few in let r = G .room in
+    (blocks-ask G, omega arith, omega arith)
+
+columns-requires : tie.Need-columns-requires
+columns-requires c κs =
+    let a = c .before .before .before .before .before .before .before .before .before .before .before .args in
+    let G = c .before .before .before .before .before .before .before .before .before .before .before .pre .2 in
+    let b = c .before .before .before .before .before .before .blocks2 in
+    let r = G .room in let e = G .count in let f = G .few in let k = G .capacity in
+    ((a .height, columns-ask G (a .sheet) (a .unit) (b .last .0) (b .result) (b .ensures .0) (b .ensures .1) _ refl (omega arith)), omega arith, omega arith, search needs, search needs, omega arith)
+
+same-length : tie.Need-same-length
+same-length c = search needs
+
+same-length-2 : tie.Need-same-length-2
+same-length-2 c = search needs
+
+returns : tie.Need-returns
+returns c =
+    λ ls before G.
+    let a = c .before .before .before .before .before .before .before .before .before .before .before .before .before .before .before .before .args in
+    let b = c .before .before .before .before .before .before .before .before .before .before .before .blocks2 in
+    let d = c .before .before .before .before .columns in
+    let L = groups-left G (a .sheet) (a .unit) (b .last .0) (b .result) (b .ensures .0) (b .ensures .1) _ refl (omega arith) (d .last .0) (d .result) (d .ensures .0) (d .ensures .1) in
+    (found-is G (a .sheet) (a .unit) (b .last .0) (b .result) (b .ensures .0) (b .ensures .1), L .0, L .1)
+
+pub write-groups-spec : {M : Type 1} → statement M
+write-groups-spec =
+    tie.close
+    (tie.spec
+    mul-at
+    mul-at-2
+    add-at
+    mul-behind
+    mul-blocks
+    sub-blocks
+    part-blocks-start
+    part-blocks-end
+    blocks-requires
+    columns-requires
+    same-length
+    same-length-2
+    returns)

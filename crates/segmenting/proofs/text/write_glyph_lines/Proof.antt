@@ -1,0 +1,161 @@
+use Prim.Native.Nat.{_-_}
+use mathlib.Core.Path.{refl, _∙_}
+use lib.ListN.{length}
+use borrow.Author.Needs.{needs}
+use borrow.Rule.Slice.PartMut.{putMid}
+use Rattle.segmenting.specs.Results.{glyphRecordsAt}
+use Rattle.segmenting.proofs.TextLaws.{text-glyphs, text-lines, text-found, text-left}
+use Rattle.segmenting.proofs.text.write_glyph_lines.Statement.{statement}
+use Rattle.segmenting.proofs.text.write_glyph_lines.Tie as tie
+
+order-labels-requires : tie.Need-order-labels-requires
+order-labels-requires c κs = search needs
+
+mul-order : tie.Need-mul-order
+mul-order c = search needs
+
+add-order : tie.Need-add-order
+add-order c = search needs
+
+mul-sizes : tie.Need-mul-sizes
+mul-sizes c = search needs
+
+add-sizes : tie.Need-add-sizes
+add-sizes c = search needs
+
+mul-kinds : tie.Need-mul-kinds
+mul-kinds c = search needs
+
+add-kinds : tie.Need-add-kinds
+add-kinds c = search needs
+
+mul-glyphs-at : tie.Need-mul-glyphs-at
+mul-glyphs-at c = search needs
+
+mul-glyphs-at-2 : tie.Need-mul-glyphs-at-2
+mul-glyphs-at-2 c = search needs
+
+add-glyphs-at : tie.Need-add-glyphs-at
+add-glyphs-at c = search needs
+
+mul-write-glyphs : tie.Need-mul-write-glyphs
+mul-write-glyphs c = search needs
+
+add-write-glyphs : tie.Need-add-write-glyphs
+add-write-glyphs c = search needs
+
+mul-write-glyphs-2 : tie.Need-mul-write-glyphs-2
+mul-write-glyphs-2 c = search needs
+
+sub-write-glyphs : tie.Need-sub-write-glyphs
+sub-write-glyphs c = search needs
+
+part-write-glyphs-start : tie.Need-part-write-glyphs-start
+part-write-glyphs-start c = search needs
+
+part-write-glyphs-end : tie.Need-part-write-glyphs-end
+part-write-glyphs-end c = search needs
+
+write-glyphs-requires : tie.Need-write-glyphs-requires
+write-glyphs-requires c κs =
+    let a = c .before .before .before .before .before .before .before .before .args in
+    let q = c .before .before .before .before .before .before .before .before .pre in
+    let L = c .before .before .before .before .order-labels .ensures _ _ _ _ _ _ _ (q .5) (q .6) in
+    text-glyphs (q .6) L (q .4) (a .results .now) refl
+
+mul-lines-at : tie.Need-mul-lines-at
+mul-lines-at c = search needs
+
+mul-lines-at-2 : tie.Need-mul-lines-at-2
+mul-lines-at-2 c = search needs
+
+add-lines-at : tie.Need-add-lines-at
+add-lines-at c = search needs
+
+mul-write-lines : tie.Need-mul-write-lines
+mul-write-lines c = search needs
+
+add-write-lines : tie.Need-add-write-lines
+add-write-lines c = search needs
+
+mul-write-lines-2 : tie.Need-mul-write-lines-2
+mul-write-lines-2 c = search needs
+
+add-write-lines-2 : tie.Need-add-write-lines-2
+add-write-lines-2 c = search needs
+
+add-write-lines-3 : tie.Need-add-write-lines-3
+add-write-lines-3 c = search needs
+
+mul-write-lines-3 : tie.Need-mul-write-lines-3
+mul-write-lines-3 c = search needs
+
+sub-write-lines : tie.Need-sub-write-lines
+sub-write-lines c = search needs
+
+part-write-lines-start : tie.Need-part-write-lines-start
+part-write-lines-start c = search needs
+
+part-write-lines-end : tie.Need-part-write-lines-end
+part-write-lines-end c = search needs
+
+write-lines-requires : tie.Need-write-lines-requires
+write-lines-requires c κs =
+    let a = c .before .before .before .before .before .before .before .before .before .before .before .before .before .args in
+    let q = c .before .before .before .before .before .before .before .before .before .before .before .before .before .pre in
+    let L = c .before .before .before .before .before .before .before .before .before .order-labels .ensures _ _ _ _ _ _ _ (q .5) (q .6) in
+    let one = putMid (glyphRecordsAt (a .w) (a .capacity)) (length (a .results .now) - glyphRecordsAt (a .w) (a .capacity)) (a .results .now) (c .before .before .before .before .write-glyphs .last .1 .1 .1 .1 .1 .0) in
+    text-lines (q .6) L (q .4) one (c .before .before .before .results .given .1)
+
+same-length : tie.Need-same-length
+same-length c = search needs
+
+same-length-2 : tie.Need-same-length-2
+same-length-2 c = search needs
+
+returns : tie.Need-returns
+returns c =
+    λ cs ks labels rs d e H.
+    (let a = c .before .before .before .before .before .before .before .before .before .before .before .before .before .before .before .before .before .before .args in
+    let L = c .before .before .before .before .before .before .before .before .before .before .before .before .before .before .order-labels .ensures cs ks labels rs _ _ _ e H in
+    let one = putMid (glyphRecordsAt (a .w) (a .capacity)) (length (a .results .now) - glyphRecordsAt (a .w) (a .capacity)) (a .results .now) (c .before .before .before .before .before .before .before .before .before .write-glyphs .last .1 .1 .1 .1 .1 .0) in
+    let W = c .before .before .before .before .write-lines .ensures in
+    (text-found H L d (a .results .now) (c .before .before .before .before .before .before .before .before .before .write-glyphs .ensures), W .0 .len ∙ L .kept .len, text-left H L d (a .results .now) (c .before .before .before .before .before .before .before .before .before .write-glyphs .ensures) one _ refl (W .1)))
+
+pub write-glyph-lines-spec : {M : Type 1} → statement M
+write-glyph-lines-spec =
+    tie.close
+    (tie.spec
+    order-labels-requires
+    mul-order
+    add-order
+    mul-sizes
+    add-sizes
+    mul-kinds
+    add-kinds
+    mul-glyphs-at
+    mul-glyphs-at-2
+    add-glyphs-at
+    mul-write-glyphs
+    add-write-glyphs
+    mul-write-glyphs-2
+    sub-write-glyphs
+    part-write-glyphs-start
+    part-write-glyphs-end
+    write-glyphs-requires
+    mul-lines-at
+    mul-lines-at-2
+    add-lines-at
+    mul-write-lines
+    add-write-lines
+    mul-write-lines-2
+    add-write-lines-2
+    add-write-lines-3
+    mul-write-lines-3
+    sub-write-lines
+    part-write-lines-start
+    part-write-lines-end
+    write-lines-requires
+    same-length
+    same-length-2
+    returns)

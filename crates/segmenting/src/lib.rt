@@ -1,0 +1,40 @@
+// Segmenting: a whole page, from its ink to its lists (layout.rs, segment). The stages lie in one slice of scratch, laid out in sorting's
+// specs/Scratch; what they leave is in specs/.
+mod boxes;
+mod glyphs;
+mod groups;
+mod lines;
+mod lists;
+mod page;
+mod painting;
+mod results;
+mod rows;
+mod smooth;
+mod text;
+
+pub use boxes::area_of_kind;
+pub use boxes::unpack_boxes;
+pub use boxes::write_boxes;
+pub use boxes::write_rules;
+pub use glyphs::count_glyphs;
+pub use glyphs::label_glyphs;
+pub use glyphs::write_glyphs;
+pub use groups::GroupCounts;
+pub use groups::write_groups;
+pub use lines::count_lines;
+pub use lines::number_labels;
+pub use lines::order_lines;
+pub use lines::write_lines;
+pub use lists::BoxCounts;
+pub use lists::write_box_lists;
+pub use page::SegmentAnswer;
+pub use page::segment;
+pub use painting::paint_kinds;
+pub use results::KindDots;
+pub use results::Segmentation;
+pub use results::write_results;
+pub use rows::Rows;
+pub use rows::RowsAnswer;
+pub use rows::group_rows;
+pub use smooth::smooth_runs;
+pub use text::write_glyph_lines;
