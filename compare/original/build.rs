@@ -26,10 +26,16 @@ const LIMITS: [&str; 2] = [
     "    let thick_max = ((p.rule_max_thick_xh * xheight).round() as usize).max(1);",
 ];
 
-/// .. and those that say which kind a component is.
+/// .. and those that say which kind a component is;
 const KIND: [&str; 2] = [
     "            let (w, h) = (f64::from(c.width()), f64::from(c.height()));",
     "                Kind::Glyph\n            }",
+];
+
+/// .. those from the first labelling to that of the smoothed glyphs ..
+const SORTING: [&str; 2] = [
+    "    let mut lab = components::label_8(&ink, width, height);",
+    "    let rows = components::label_8(&smeared, width, height);",
 ];
 
 /// What the comparison needs of `layout.rs` that is private there. A later part adds its own lines here.
@@ -96,7 +102,7 @@ impl Original {
     /// Functions of `segment`'s own lines.
     fn of_lines(&self) -> String {
         let (levelling, extents) = (self.lines(LEVELLING), self.lines(EXTENTS));
-        let (limits, kind) = (self.lines(LIMITS), self.lines(KIND));
+        let (limits, kind, sorting) = (self.lines(LIMITS), self.lines(KIND), self.lines(SORTING));
         format!(
             "
 pub fn compare_level(ink: Vec<u8>, width: usize, height: usize, skew_deg: f64, p: &LayoutParams) -> Layout {{
@@ -124,6 +130,32 @@ pub fn compare_kind(c: &Component, width: usize, height: usize, xheight: f64, p:
         Kind::Glyph => 4,
         Kind::Speck => 5,
     }}
+}}
+
+/// How many components each labelling has: ink, horizontal cuts, vertical cuts, ink after the cut, smoothed glyphs; whether any of
+/// them could be measured; and the kind of each dot.
+#[allow(unused_variables, unused_assignments, unused_mut)]
+pub fn compare_sorted(ink: Vec<u8>, width: usize, height: usize, p: &LayoutParams) -> ([usize; 5], bool, Vec<u8>) {{
+    let uncut = ink.clone();
+{sorting}
+    let count = |mask: &[u8]| components::label_8(mask, width, height).components.len();
+    let counts = [count(&uncut), count(&cut_h), count(&cut_v), lab.components.len(), rows.components.len()];
+    let large = p.xheight_min_area.max(p.glyph_min_area);
+    let measured = lab
+        .components
+        .iter()
+        .any(|c| c.area >= large && f64::from(c.width()) < max_w && f64::from(c.height()) < max_h);
+    let kind = |i: usize| match (uncut[i], lab.labels[i]) {{
+        (0, _) => 0,
+        (_, 0) => 1,
+        (_, label) => match kinds[(label - 1) as usize] {{
+            Kind::Rule => 2,
+            Kind::Graphic => 3,
+            Kind::Glyph => 4,
+            Kind::Speck => 5,
+        }},
+    }};
+    (counts, measured, (0..uncut.len()).map(kind).collect())
 }}
 "
         )

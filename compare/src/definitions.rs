@@ -89,7 +89,7 @@ fn case(i: u64, random: &mut Random) -> String {
 }
 
 /// A valid sheet of values at which small pages differ.
-fn sheet(random: &mut Random) -> LayoutParams {
+pub fn sheet(random: &mut Random) -> LayoutParams {
     LayoutParams {
         glyph_min_area: 1 + random.below(3) as u32,
         glyph_max_extent_frac: random.pick(&[1.0, 0.9, 0.5, 0.7]),

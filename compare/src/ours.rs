@@ -101,6 +101,39 @@ mod c {
             words_length: usize,
             marks: u32,
         ) -> u8;
+        pub fn novlizeb_segment(
+            ink: *const u8,
+            ink_length: usize,
+            width: u32,
+            height: u32,
+            glyph_min_area: u32,
+            glyph_max_extent_frac: f64,
+            xheight_min_area: u32,
+            xheight_fallback_px: f64,
+            rule_min_len_xh: f64,
+            rule_max_thick_xh: f64,
+            rule_run_xh: f64,
+            graphic_min_xh: f64,
+            smear_xh: f64,
+            line_min_glyphs: u32,
+            line_min_height_xh: f64,
+            line_max_height_xh: f64,
+            block_min_overlap: f64,
+            block_gap_margin_lines: f64,
+            block_max_gap_lines: f64,
+            column_gap_xh: f64,
+            column_cover_frac: f64,
+            shear_min_deg: f64,
+            capacity: u32,
+            words: *mut u32,
+            words_length: usize,
+            results: *mut u32,
+            results_length: usize,
+            kinds: *mut u8,
+            kinds_length: usize,
+            figures: *mut u32,
+            figures_length: usize,
+        ) -> u32;
         pub fn novlizeb_run_min(rule_run_xh: f64, unit: f64) -> u32;
         pub fn novlizeb_thick_max(rule_max_thick_xh: f64, unit: f64) -> u32;
         pub fn novlizeb_kind_by_size(
@@ -318,6 +351,53 @@ pub fn thin_rulings(
             marks,
         )
     })
+}
+
+/// What is lent to a whole segmentation.
+pub struct Page<'a> {
+    pub words: &'a mut [u32],
+    pub results: &'a mut [u32],
+    pub kinds: &'a mut [u8],
+    pub figures: &'a mut [u32],
+}
+
+/// A whole segmentation of an ink plane: document 01's number of its refusal, 0 where it has none.
+pub fn segment(ink: &[u8], width: u32, height: u32, p: &LayoutParams, capacity: u32, lent: &mut Page) -> u32 {
+    unsafe {
+        c::novlizeb_segment(
+            ink.as_ptr(),
+            ink.len(),
+            width,
+            height,
+            p.glyph_min_area,
+            p.glyph_max_extent_frac,
+            p.xheight_min_area,
+            p.xheight_fallback_px,
+            p.rule_min_len_xh,
+            p.rule_max_thick_xh,
+            p.rule_run_xh,
+            p.graphic_min_xh,
+            p.smear_xh,
+            p.line_min_glyphs,
+            p.line_min_height_xh,
+            p.line_max_height_xh,
+            p.block_min_overlap,
+            p.block_gap_margin_lines,
+            p.block_max_gap_lines,
+            p.column_gap_xh,
+            p.column_cover_frac,
+            p.shear_min_deg,
+            capacity,
+            lent.words.as_mut_ptr(),
+            lent.words.len(),
+            lent.results.as_mut_ptr(),
+            lent.results.len(),
+            lent.kinds.as_mut_ptr(),
+            lent.kinds.len(),
+            lent.figures.as_mut_ptr(),
+            lent.figures.len(),
+        )
+    }
 }
 
 /// The least run and the greatest thickness of a thin ruling.

@@ -34,7 +34,7 @@ fn size(random: &mut Random, most: u64) -> [u32; 3] {
 }
 
 /// A valid sheet with thresholds at or near the sides of this size.
-fn near_sheet(random: &mut Random, unit: f64, frame: (u32, u32), size: [u32; 3]) -> LayoutParams {
+pub fn near_sheet(random: &mut Random, unit: f64, frame: (u32, u32), size: [u32; 3]) -> LayoutParams {
     let mut p = sheet(&valid(random));
     let sides = [f64::from(size[1]), f64::from(size[2])];
     for field in [

@@ -34,4 +34,5 @@ parts! {
     extents,
     rulings,
     kinds,
+    segments,
 }

@@ -78,7 +78,7 @@ pub fn valid(random: &mut Random) -> Words {
 }
 
 /// The document's own sheet of the show program: every field well inside its limits but for those at an end.
-fn plain() -> Words {
+pub fn plain() -> Words {
     let floats = [
         1.0f64, 1.0, 4.0, 0.5, 4.0, 8.0, 1.0, 0.5, 3.0, 0.5, 0.5, 3.0, 1.0, 0.0, 0.0,
     ];

@@ -19,7 +19,7 @@ use Rattle.labelling.specs.InkRuns.{turns}
 use Rattle.labelling.specs.Extraction.{RowScan, ScanRoom, Scanned, RowRoom, RowExtracted, PlaneRoom}
 use Rattle.labelling.specs.Marked.{passes, passing, rowPassing, MarkedScanRoom, MarkedScanned, MarkedRowRoom, MarkedRowLeft, MarkedRoom, MarkedLeft}
 use Rattle.labelling.specs.declared.marked.Test.{Test}
-use Rattle.labelling.specs.declared.marked.Test.the-variants.{Neither}
+use Rattle.labelling.specs.declared.marked.Test.the-variants.{First, Second, Neither}
 use Rattle.labelling.proofs.CountLaws.{count-zero}
 use Rattle.labelling.proofs.ScanLaws.{turns-fit}
 use Rattle.labelling.proofs.RunLabelLaws.{turns-even}
@@ -100,11 +100,16 @@ passing-more t ink marks n i count here l e h =
     (h ∙ (bit-again (passes t (getD ink i 0) (getD marks i 0)) ∙ ap (λ z. cond (eqb z 0) 0 1) (sym (passing-at t ink marks n i l))))
 
 -- no ink: none that passes
-pub passing-blank : (ink marks : List ℕ) (n : ℕ) → countIf (isInk ink) n ≡ 0 → 0 ≡ countIf (isInk (passing Neither ink marks n)) n
+blank-fails : (t : Test) (ink mark : ℕ) → ltb 0 ink ≡ false → passes t ink mark ≡ false
+blank-fails First ink mark e = ap (λ b. b && eqb (mark % 2) 1) e
+blank-fails Second ink mark e = ap (λ b. b && ltb 1 mark) e
+blank-fails Neither ink mark e = ap (λ b. b && eqb mark 0) e
+
+pub passing-blank : (t : Test) (ink marks : List ℕ) (n : ℕ) → countIf (isInk ink) n ≡ 0 → 0 ≡ countIf (isInk (passing t ink marks n)) n
 unfolding isInk
-passing-blank ink marks n e =
-    sym (count-none (isInk (passing Neither ink marks n)) n
-    (λ i l. passing-ink Neither ink marks n i l ∙ ap (λ b. b && eqb (getD marks i 0) 0) (count-zero (isInk ink) n e i l)))
+passing-blank t ink marks n e =
+    sym (count-none (isInk (passing t ink marks n)) n
+    (λ i l. passing-ink t ink marks n i l ∙ blank-fails t (getD ink i 0) (getD marks i 0) (count-zero (isInk ink) n e i l)))
 
 -- Dots read one by one
 

@@ -12,10 +12,10 @@ use Rattle.labelling.specs.Sizes.{HoldsRuns}
 use Rattle.labelling.specs.declared.marked.Test.{Test}
 use Rattle.labelling.specs.declared.marked.Test.the-variants.{First, Second, Neither}
 
--- a mark's first bit, its second bit; or ink without a mark
+-- ink whose mark has its first bit, its second bit, or none
 abbrev pub passes : Test → ℕ → ℕ → Bool
-passes First ink mark = eqb (mark % 2) 1
-passes Second ink mark = ltb 1 mark
+passes First ink mark = ltb 0 ink && eqb (mark % 2) 1
+passes Second ink mark = ltb 0 ink && ltb 1 mark
 passes Neither ink mark = ltb 0 ink && eqb mark 0
 
 -- the mask of the n dots that pass

@@ -12,7 +12,7 @@ ghost use Rattle.labelling.specs.Marked.{passes, passing, MarkedScanRoom
 // The dots of a block, which are counted at once.
 const BLOCK: usize = 32;
 
-// Which dots count: those whose mark has its first bit, its second bit, or ink without a mark.
+// Which dots count: ink whose mark has its first bit, its second bit, or none.
 pub enum Test {
     First,
     Second,
@@ -24,8 +24,8 @@ fn passes(test: Test, ink: u8, mark: u32) -> u8
     ensures { λ r. ⌜ r ≡ cond (passes test ink mark) 1 0 ⌝ }
 {
     match test {
-        Test::First => (mark % 2 == 1) as u8,
-        Test::Second => (1 < mark) as u8,
+        Test::First => ((0 < ink) & (mark % 2 == 1)) as u8,
+        Test::Second => ((0 < ink) & (1 < mark)) as u8,
         Test::Neither => ((0 < ink) & (mark == 0)) as u8,
     }
 }
@@ -58,20 +58,18 @@ fn count_passing(test: Test, ink: &[u8], marks: &[u32]) -> u8
     count
 }
 
-// The same, one count for each test; without ink and with a test that asks for it, the marks are not looked at.
+// The same, one loop for each test; without ink the marks, four times as wide, are not looked at.
 fn count_block(test: Test, ink: &[u8], marks: &[u32]) -> u8
     requires { ⌜ (length (now ink) ≡ 32) × (length (now marks) ≡ 32) ⌝ }
     ensures { λ r. ⌜ r ≡ countIf (isInk (passing test (now (ink .entry)) (now (marks .entry)) 32)) 32 ⌝ }
 {
+    if is_blank(ink) {
+        return 0;
+    }
     match test {
         Test::First => count_passing(Test::First, ink, marks),
         Test::Second => count_passing(Test::Second, ink, marks),
-        Test::Neither => {
-            if is_blank(ink) {
-                return 0;
-            }
-            count_passing(Test::Neither, ink, marks)
-        }
+        Test::Neither => count_passing(Test::Neither, ink, marks),
     }
 }
 

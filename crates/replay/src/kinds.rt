@@ -4,6 +4,7 @@
 // its line in agrees. The words of a kind are said above its function; a part of compare/ writes them.
 use crate::levels;
 use crate::masks;
+use crate::segments;
 use crate::text;
 use params::LayoutParams;
 
@@ -24,6 +25,7 @@ pub fn agrees(kind: u64, body: &[u8]) -> bool {
         9 => masks::label(body),
         10 => masks::extents(body),
         11 => levels::level(body),
+        12 => segments::segment(body),
         _ => false,
     }
 }
@@ -101,7 +103,7 @@ fn pairwise_sum(body: &[u8]) -> bool {
 }
 
 // The sheet that the first 18 words are, in the order of its fields.
-fn sheet(body: &[u8]) -> LayoutParams {
+pub fn sheet(body: &[u8]) -> LayoutParams {
     LayoutParams {
         glyph_min_area: text::whole(body, 0),
         glyph_max_extent_frac: float(body, 1),

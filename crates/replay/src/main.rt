@@ -7,6 +7,7 @@
 mod kinds;
 mod levels;
 mod masks;
+mod segments;
 mod text;
 
 use libc::STDIN_FILENO;

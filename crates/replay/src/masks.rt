@@ -78,6 +78,17 @@ fn hash(words: &[u32]) -> u64 {
     h
 }
 
+// The same of bytes.
+pub fn hash_bytes(bytes: &[u8]) -> u64 {
+    let mut h: u64 = 1;
+    let mut i = 0;
+    while i < bytes.len() {
+        h = hash_step(h, bytes[i] as u32);
+        i += 1;
+    }
+    h
+}
+
 // The hash of the first n words, 0 where there are fewer.
 pub fn hash_of(words: &[u32], n: usize) -> u64 {
     if n <= words.len() {

@@ -15,7 +15,7 @@ use Rattle.labelling.specs.declared.marked.Test.the-variants.{First, Second, Ne
 use Rattle.sorting.specs.Extents.{Plane, maskOf}
 use Rattle.sorting.specs.Rulings.{cutHorizontal, cutVertical, afterCut, cutMark}
 use Rattle.sorting.specs.Scratch.{marksAt, horizontalAt}
-use Rattle.sorting.proofs.MaskLaws.{isInk-maskOf, afterCut-ink}
+use Rattle.sorting.proofs.MaskLaws.{isInk-maskOf, horizontal-blank, vertical-blank, afterCut-ink}
 use Rattle.sorting.specs.Sortings.{passed}
 
 -- the same marks pass the same dots
@@ -43,6 +43,11 @@ second-bit true false = refl
 second-bit false true = refl
 second-bit false false = refl
 
+-- what is cut is ink
+on-ink : (x y : Bool) → (x ≡ false → y ≡ false) → (x && y) ≡ y
+on-ink true y f = refl
+on-ink false y f = sym (f refl)
+
 neither-bit : (a b : Bool) → eqb (cond a 1 0 + cond b 2 0) 0 ≡ not (a || b)
 neither-bit true true = refl
 neither-bit true false = refl
@@ -60,13 +65,25 @@ module _ (run-min thick-max w h : ℕ) (m marks : List ℕ) (told : (i : ℕ) �
   unfolding cutMark a b
   mark i l = told i l
 
-  pub passing-first : passing First m marks (w * h) ≡ cutHorizontal run-min thick-max w h m
-  unfolding a b cutHorizontal
-  passing-first = passing-mask First w h m marks _ (λ i l. ap (λ (k : ℕ). eqb (k % 2) 1) (mark i l) ∙ first-bit (isInk a i) (isInk b i))
+  first-ink : 0 < w → (i : ℕ) → i < w * h → passes First (getD m i 0) (getD marks i 0) ≡ isInk a i
+  unfolding a isInk
+  first-ink wide i l =
+      ap (λ (k : ℕ). ltb 0 (getD m i 0) && eqb (k % 2) 1) (mark i l)
+      ∙ (ap (λ (t : Bool). ltb 0 (getD m i 0) && t) (first-bit (isInk a i) (isInk b i)) ∙ on-ink (isInk m i) (isInk a i) (horizontal-blank run-min thick-max w h m wide i l))
 
-  pub passing-second : passing Second m marks (w * h) ≡ cutVertical run-min thick-max w h m
-  unfolding a b cutVertical
-  passing-second = passing-mask Second w h m marks _ (λ i l. ap (λ (k : ℕ). ltb 1 k) (mark i l) ∙ second-bit (isInk a i) (isInk b i))
+  second-ink : 0 < w → (i : ℕ) → i < w * h → passes Second (getD m i 0) (getD marks i 0) ≡ isInk b i
+  unfolding b isInk
+  second-ink wide i l =
+      ap (λ (k : ℕ). ltb 0 (getD m i 0) && ltb 1 k) (mark i l)
+      ∙ (ap (λ (t : Bool). ltb 0 (getD m i 0) && t) (second-bit (isInk a i) (isInk b i)) ∙ on-ink (isInk m i) (isInk b i) (vertical-blank run-min thick-max w h m wide i l))
+
+  pub passing-first : 0 < w → passing First m marks (w * h) ≡ cutHorizontal run-min thick-max w h m
+  unfolding a cutHorizontal
+  passing-first wide = passing-mask First w h m marks _ (first-ink wide)
+
+  pub passing-second : 0 < w → passing Second m marks (w * h) ≡ cutVertical run-min thick-max w h m
+  unfolding b cutVertical
+  passing-second wide = passing-mask Second w h m marks _ (second-ink wide)
 
   pub passing-neither : 0 < w → passing Neither m marks (w * h) ≡ afterCut w h (cutHorizontal run-min thick-max w h m) (cutVertical run-min thick-max w h m) m
   unfolding a b isInk afterCut

@@ -255,8 +255,8 @@ module _ (p : LayoutParams) (w h : ℕ) (m : List ℕ) (P : ℕ) where
   sort-done r ink run thick s₃ s₄ s₅ wide l e er et eq C =
       sort-by r ink s₅ l e
       (subst (λ (z : List ℕ). cutsLeft r p w h A B z P ink s₅) (passing-neither (runMin p firstUnit) (thickMax p firstUnit) w h m marks told wide)
-      (subst (λ (z : List ℕ). cutsLeft r p w h A z (passed Neither w h m s₄) P ink s₅) (passing-second (runMin p firstUnit) (thickMax p firstUnit) w h m marks told)
-      (subst (λ (z : List ℕ). cutsLeft r p w h z (passed Second w h m s₄) (passed Neither w h m s₄) P ink s₅) (passing-first (runMin p firstUnit) (thickMax p firstUnit) w h m marks told) C)))
+      (subst (λ (z : List ℕ). cutsLeft r p w h A z (passed Neither w h m s₄) P ink s₅) (passing-second (runMin p firstUnit) (thickMax p firstUnit) w h m marks told wide)
+      (subst (λ (z : List ℕ). cutsLeft r p w h z (passed Second w h m s₄) (passed Neither w h m s₄) P ink s₅) (passing-first (runMin p firstUnit) (thickMax p firstUnit) w h m marks told wide) C)))
     where
       A : List ℕ
       A = cutHorizontal (runMin p firstUnit) (thickMax p firstUnit) w h m

@@ -1,0 +1,97 @@
+// The kind of case that is a whole segmentation.
+use crate::kinds::sheet;
+use crate::masks;
+use crate::text;
+
+// The most dots of a page.
+const MOST_DOTS: usize = 1024;
+
+// The digits before the sheet, those of two words, and before the page, those of 21.
+const SHEET_FROM: usize = 32;
+
+const PAGE_FROM: usize = 336;
+
+// Scratch for as many dots and a capacity of 64, and results at the greatest width.
+const SCRATCH_WORDS: usize = 5184;
+
+const RESULT_WORDS: usize = 4288;
+
+const FIGURES: usize = 15;
+
+// Whether the last four words are these.
+fn ends_with(body: &[u8], number: u32, figures: u64, results: u64, kinds: u64) -> bool {
+    let words = text::count(body);
+    if words < 4 {
+        return false;
+    }
+    (text::word(body, words - 4) == number as u64)
+        & (text::word(body, words - 3) == figures)
+        & (text::word(body, words - 2) == results)
+        & (text::word(body, words - 1) == kinds)
+}
+
+// Segments the page that the digits spell, of as many dots as there are kinds.
+fn segment_page(body: &[u8], width: u32, height: u32, ink: &mut [u8], kinds: &mut [u8]) -> bool {
+    if body.len() < PAGE_FROM {
+        return false;
+    }
+    masks::read_mask(&body[PAGE_FROM..], ink);
+    let p = sheet(&body[SHEET_FROM..]);
+    let capacity = text::whole(body, 20);
+    let mut scratch = [0u32; SCRATCH_WORDS];
+    let mut results = [0u32; RESULT_WORDS];
+    let mut figures = [0u32; FIGURES];
+    let number = boundary::novlizeb_segment(
+        ink,
+        width,
+        height,
+        p.glyph_min_area,
+        p.glyph_max_extent_frac,
+        p.xheight_min_area,
+        p.xheight_fallback_px,
+        p.rule_min_len_xh,
+        p.rule_max_thick_xh,
+        p.rule_run_xh,
+        p.graphic_min_xh,
+        p.smear_xh,
+        p.line_min_glyphs,
+        p.line_min_height_xh,
+        p.line_max_height_xh,
+        p.block_min_overlap,
+        p.block_gap_margin_lines,
+        p.block_max_gap_lines,
+        p.column_gap_xh,
+        p.column_cover_frac,
+        p.shear_min_deg,
+        capacity,
+        &mut scratch,
+        &mut results,
+        kinds,
+        &mut figures,
+    );
+    let words = 2 * width as usize + 35 * capacity as usize;
+    ends_with(
+        body,
+        number,
+        masks::hash_of(&figures, FIGURES),
+        masks::hash_of(&results, words),
+        masks::hash_bytes(kinds),
+    )
+}
+
+// 0C: width, height, the eighteen fields of a sheet, capacity, the page, 64 dots a word; the refusal's number or 0, the hash of
+// the figures, of the lists' words and of the plane of kinds, all 0 before the call.
+pub fn segment(body: &[u8]) -> bool {
+    let width = text::whole(body, 0);
+    let height = text::whole(body, 1);
+    let n = masks::dots(width, height);
+    if n > MOST_DOTS {
+        return false;
+    }
+    if text::count(body) != 25 + (n + 63) / 64 {
+        return false;
+    }
+    let mut ink = [0u8; MOST_DOTS];
+    let mut kinds = [0u8; MOST_DOTS];
+    segment_page(body, width, height, &mut ink[0..n], &mut kinds[0..n])
+}
