@@ -10,3 +10,5 @@ pub mod MapLaws
 pub mod RulingLaws
 -- the value of a unit, measured or assumed, and a kind by it
 pub mod KindLaws
+-- a whole segmentation: refusals, room, figures, and what a call leaves
+pub mod PageLaws

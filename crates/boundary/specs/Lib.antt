@@ -10,3 +10,5 @@ pub mod ExtentAnswers
 pub mod Levels
 -- thin rulings and kinds
 pub mod Sorting
+-- a whole segmentation
+pub mod Pages

@@ -11,6 +11,7 @@ ghost use Rattle.boundary.specs.Sheet.{sheetOf};
 
 mod levels;
 mod masks;
+mod pages;
 mod sorting_parts;
 
 use params::LayoutParams;

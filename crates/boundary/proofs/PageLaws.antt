@@ -1,0 +1,236 @@
+-- A whole segmentation at the boundary: which number a call is refused with, what a passed chain says, and what the call leaves. Assumes nothing.
+use mathlib.Core.Path.{_≡_, refl, sym, ap, _∙_, subst}
+use mathlib.Core.List.{List, [], _∷_, _++_}
+use mathlib.Core.Bool.{Bool, true, false, not}
+use Prim.Native.Nat.{ℕ, suc, _+_, _*_, _≤_, _<_}
+use native.Mathlib.Nat.{le-refl, le-trans, mul-le-mul-left, mul-le-mul-right}
+use native.Mathlib.Omega.{arith}
+use borrow.Author.Tests.{ltb-false, leb-true, eqb-true, eqb-false, not-false, ne-eqb}
+use lib.Dec.{eqb, ltb, leb}
+use lib.Ieee.{Float}
+use lib.ListN.{length, getD, set, take, drop, length-append, length-drop, length-set}
+use lib.Seq.{drop-at, length-take-le}
+use Rattle.memory.specs.Floats.{withFloat}
+use Rattle.memory.specs.Limits.{maxFrameWidth, maxFrameHeight, maxCapacity, scratchWords}
+use Rattle.memory.specs.Lists.{table, greatest}
+use Rattle.memory.specs.Refusals.{refuseIf}
+use Rattle.memory.specs.Words.{over}
+use Rattle.memory.proofs.CountLaws.{list-is-table}
+use Rattle.memory.proofs.RefusalLaws.{refusal-passed}
+use Rattle.rounding.proofs.Tests.{yes}
+use Rattle.params.specs.Valid.{valid}
+use Rattle.params.specs.Facts.{ValidSheet}
+use Rattle.params.specs.declared.LayoutParams.{LayoutParams}
+use Rattle.params.proofs.SheetLaws.{valid-gives}
+use Rattle.labelling.proofs.EntryLaws.{Passes}
+use Rattle.levelling.proofs.ShearLaws.{greatest-bounds}
+use Rattle.sorting.specs.Units.{unitValue}
+use Rattle.grouping.specs.Layouts.{layout, layoutRefusal}
+use Rattle.segmenting.specs.Answers as Answers
+use Rattle.segmenting.specs.Results.{resultWords}
+use Rattle.segmenting.specs.declared.results.Segmentation.{Segmentation}
+use Rattle.segmenting.specs.declared.page.SegmentAnswer.{SegmentAnswer}
+use Rattle.boundary.specs.Pages.{isMask, planeRefusal, lentRefusal, pageRefusal, figuresLength, measuredWord, figureWords, figuresLeft, left, leftWith, paged}
+
+-- The bytes
+
+pub most-is : (m : List ℕ) (most i : ℕ) → i ≡ length m → most ≡ greatest (table (λ k. getD m k 0) i) → leb most 1 ≡ isMask m
+unfolding isMask
+most-is m most i e f = ap (λ z. leb z 1) (f ∙ (ap (λ n. greatest (table (λ k. getD m k 0) n)) e ∙ ap greatest (sym (list-is-table m))))
+
+mask-ones : (m : List ℕ) → isMask m ≡ true → (i : ℕ) → getD m i 0 ≤ 1
+unfolding isMask
+mask-ones m e i = le-trans (greatest-bounds m i) (leb-true (greatest m) 1 e)
+
+-- A chain of tests before others
+
+passes-none : Passes (λ x. x)
+passes-none = record { pass = λ _ x. refl; stop = λ n x. absurd (n refl) }
+
+passes-if : (b : Bool) (k : ℕ) {F : ℕ → ℕ} → Passes F → Passes (λ x. refuseIf b (suc k) (F x))
+unfolding refuseIf
+passes-if true k p = record { pass = λ e x. absurd (omega arith); stop = λ _ x. refl }
+passes-if false k p = record { pass = p .pass; stop = p .stop }
+
+plane-pass : (w h : ℕ) (m : List ℕ) → Passes (planeRefusal w h m)
+unfolding planeRefusal
+plane-pass w h m =
+    passes-if (eqb w 0) 0
+    (passes-if (ltb maxFrameWidth w) 0
+    (passes-if (eqb h 0) 0 (passes-if (ltb maxFrameHeight h) 0 (passes-if (not (eqb (length m) (w * h))) 1 (passes-if (not (isMask m)) 2 passes-none)))))
+
+lent-pass : (p : LayoutParams) (w dots P words results kinds figures : ℕ) → Passes (lentRefusal p w dots P words results kinds figures)
+unfolding lentRefusal
+lent-pass p w dots P words results kinds figures =
+    passes-if (not (valid p)) 5
+    (passes-if (eqb P 0) 6
+    (passes-if (ltb maxCapacity P) 6
+    (passes-if (ltb words (scratchWords dots P)) 8
+    (passes-if (ltb results (resultWords w P)) 8 (passes-if (ltb kinds dots) 8 (passes-if (ltb figures figuresLength) 8 passes-none))))))
+
+-- What a passed chain says
+
+pub record PlaneGood (w h : ℕ) (m : List ℕ) : Type 0 where
+  pub wide : 0 < w
+  pub narrow : w ≤ maxFrameWidth
+  pub high : 0 < h
+  pub low : h ≤ maxFrameHeight
+  pub dots : w * h ≤ maxFrameWidth * maxFrameHeight
+  pub whole : length m ≡ w * h
+  pub ones : (i : ℕ) → getD m i 0 ≤ 1
+
+plane-good : (w h : ℕ) (m : List ℕ) → planeRefusal w h m 0 ≡ 0 → PlaneGood w h m
+unfolding planeRefusal
+plane-good w h m e =
+    let p₁ = refusal-passed (eqb w 0) 0 _ e in
+    let p₂ = refusal-passed (ltb maxFrameWidth w) 0 _ (p₁ .later) in
+    let p₃ = refusal-passed (eqb h 0) 0 _ (p₂ .later) in
+    let p₄ = refusal-passed (ltb maxFrameHeight h) 0 _ (p₃ .later) in
+    let p₅ = refusal-passed (not (eqb (length m) (w * h))) 1 _ (p₄ .later) in
+    let p₆ = refusal-passed (not (isMask m)) 2 _ (p₅ .later) in
+    let a = eqb-false w 0 (p₁ .passed) in
+    let b = eqb-false h 0 (p₃ .passed) in
+    let narrow = ltb-false maxFrameWidth w (p₂ .passed) in
+    let low = ltb-false maxFrameHeight h (p₄ .passed) in
+    record {
+      wide = omega arith;
+      narrow = narrow;
+      high = omega arith;
+      low = low;
+      dots = le-trans (mul-le-mul-right h narrow) (mul-le-mul-left maxFrameWidth low);
+      whole = eqb-true (length m) (w * h) (not-false (eqb (length m) (w * h)) (p₅ .passed));
+      ones = mask-ones m (not-false (isMask m) (p₆ .passed));
+    }
+
+pub record LentGood (p : LayoutParams) (w dots P words results kinds figures : ℕ) : Type 0 where
+  pub sheet : ValidSheet p
+  pub few : P ≤ maxCapacity
+  pub words-room : scratchWords dots P ≤ words
+  pub results-room : resultWords w P ≤ results
+  pub kinds-room : dots ≤ kinds
+  pub figures-room : figuresLength ≤ figures
+
+lent-good : (p : LayoutParams) (w dots P words results kinds figures : ℕ) → lentRefusal p w dots P words results kinds figures 0 ≡ 0 → LentGood p w dots P words results kinds figures
+unfolding lentRefusal
+lent-good p w dots P words results kinds figures e =
+    let p₁ = refusal-passed (not (valid p)) 5 _ e in
+    let p₂ = refusal-passed (eqb P 0) 6 _ (p₁ .later) in
+    let p₃ = refusal-passed (ltb maxCapacity P) 6 _ (p₂ .later) in
+    let p₄ = refusal-passed (ltb words (scratchWords dots P)) 8 _ (p₃ .later) in
+    let p₅ = refusal-passed (ltb results (resultWords w P)) 8 _ (p₄ .later) in
+    let p₆ = refusal-passed (ltb kinds dots) 8 _ (p₅ .later) in
+    let p₇ = refusal-passed (ltb figures figuresLength) 8 _ (p₆ .later) in
+    record {
+      sheet = valid-gives p (yes (not-false (valid p) (p₁ .passed)));
+      few = ltb-false maxCapacity P (p₃ .passed);
+      words-room = ltb-false words (scratchWords dots P) (p₄ .passed);
+      results-room = ltb-false results (resultWords w P) (p₅ .passed);
+      kinds-room = ltb-false kinds dots (p₆ .passed);
+      figures-room = ltb-false figures figuresLength (p₇ .passed);
+    }
+
+-- The figures
+
+-- the words v stored one by one from word k on
+abbrev stores : List ℕ → ℕ → List ℕ → List ℕ
+stores [] k s = s
+stores (a ∷ v) k s = stores v (suc k) (set s k a)
+
+stores-behind : (v s : List ℕ) (x k : ℕ) → stores v (suc k) (x ∷ s) ≡ x ∷ stores v k s
+stores-behind [] s x k = refl
+stores-behind (a ∷ v) s x k = stores-behind v (set s k a) x (suc k)
+
+stores-over : (v s : List ℕ) → length v ≤ length s → stores v 0 s ≡ over v s
+stores-over [] s l = refl
+stores-over (a ∷ v) [] l = absurd (omega arith)
+stores-over (a ∷ v) (x ∷ s) l = stores-behind v s a 0 ∙ ap (λ z. a ∷ z) (stores-over v s (omega arith))
+
+pub figures-long : (s t : List ℕ) (a : ℕ) (x : Float) → figuresLength ≤ length s → t ≡ withFloat (set s 0 a) 1 x → length t ≡ length s
+figures-long s t a x l e = ap length e ∙ simp length-set
+
+pub figures-written : (f : Segmentation) (s t : List ℕ) (a : ℕ) (x : Float) → figuresLength ≤ length s → a ≡ measuredWord (f .unit) → x ≡ unitValue (f .unit) → t ≡ withFloat (set s 0 a) 1 x
+    → set
+    (set
+    (set (set (set (set (set (set (set (set (set (set t 3 (f .rules)) 4 (f .graphics)) 5 (f .glyphs)) 6 (f .lines)) 7 (f .blocks)) 8 (f .columns)) 9 (f .ink)) 10 (f .cut)) 11 (f .rule)) 12 (f .graphic))
+    13
+    (f .glyph))
+    14
+    (f .speck)
+    ≡ over (figureWords f) s
+unfolding figureWords
+figures-written f s t a x l ea ex et =
+    (λ i. stores (f .rules ∷ f .graphics ∷ f .glyphs ∷ f .lines ∷ f .blocks ∷ f .columns ∷ f .ink ∷ f .cut ∷ f .rule ∷ f .graphic ∷ f .glyph ∷ f .speck ∷ []) 3 ((et ∙ (λ j. withFloat (set s 0 (ea j)) 1 (ex j))) i))
+    ∙ stores-over (figureWords f) s l
+
+-- What a call leaves
+
+module _ (p : LayoutParams) (w h : ℕ) (m : List ℕ) (P : ℕ) (words results kinds figures : List ℕ) where
+  abbrev by-lent : ℕ → ℕ
+  by-lent = lentRefusal p w (w * h) P (length words) (length results) (length kinds) (length figures)
+
+  abbrev by-page : ℕ
+  by-page = layoutRefusal P (layout p w h m)
+
+  refused : (n : ℕ) → planeRefusal w h m (by-lent by-page) ≡ n → (n ≡ 0 → ⊥)
+      → left n results kinds figures (length words) (drop (scratchWords (w * h) P) words) ≡ paged p w h m P words results kinds figures
+  unfolding Answers.leftBy
+  refused n e ne = rw (e, ne-eqb n 0 ne) refl
+
+  pub refused-plane : (n : ℕ) → n ≡ planeRefusal w h m 0 → (n ≡ 0 → ⊥)
+      → left n results kinds figures (length words) (drop (scratchWords (w * h) P) words) ≡ paged p w h m P words results kinds figures
+  refused-plane n e ne = refused n (plane-pass w h m .stop (λ z. ne (e ∙ z)) (by-lent by-page) ∙ sym e) ne
+
+  module _ (plane : ℕ) (ep : plane ≡ planeRefusal w h m 0) (gp : plane ≡ 0) where
+    pub page-plane : PlaneGood w h m
+    page-plane = plane-good w h m (sym ep ∙ gp)
+
+    module _ (lent : ℕ) (el : lent ≡ by-lent 0) where
+      pub refused-lent : (lent ≡ 0 → ⊥) → left lent results kinds figures (length words) (drop (scratchWords (w * h) P) words) ≡ paged p w h m P words results kinds figures
+      refused-lent ne =
+          refused lent
+          (plane-pass w h m .pass (sym ep ∙ gp) (by-lent by-page)
+          ∙ (lent-pass p w (w * h) P (length words) (length results) (length kinds) (length figures) .stop (λ z. ne (el ∙ z)) by-page ∙ sym el))
+          ne
+
+      module _ (gl : lent ≡ 0) where
+        pub page-lent : LentGood p w (w * h) P (length words) (length results) (length kinds) (length figures)
+        page-lent = lent-good p w (w * h) P (length words) (length results) (length kinds) (length figures) (sym el ∙ gl)
+
+        pub page-room : Answers.SegmentRoom p w h m P (take (4 * (w * h) + 16 * P + 64) words) (length results) (length kinds)
+        page-room =
+            let G = page-plane in
+            let L = page-lent in
+            record {
+              plane = record {
+                wide = G .wide;
+                narrow = G .narrow;
+                high = G .high;
+                low = G .low;
+                whole = G .whole;
+                ones = G .ones;
+                few = L .few;
+                valid = L .sheet;
+                room = subst (λ z. scratchWords (w * h) P ≤ z) (sym (length-take-le (4 * (w * h) + 16 * P + 64) words (L .words-room))) (le-refl _);
+              };
+              results-room = L .results-room;
+              kinds-room = L .kinds-room;
+            }
+
+        pub page-done : (n : ℕ) (r : SegmentAnswer) (results' kinds' figures' part : List ℕ) → length part ≡ length (take (4 * (w * h) + 16 * P + 64) words)
+            → Answers.left r results' kinds' ≡ Answers.segmented p w h m P results kinds
+            → n ≡ Answers.numberOf r
+            → figures' ≡ figuresLeft r figures
+            → left n results' kinds' figures' (length (part ++ drop (4 * (w * h) + 16 * P + 64) words)) (drop (scratchWords (w * h) P) (part ++ drop (4 * (w * h) + 16 * P + 64) words))
+            ≡ paged p w h m P words results kinds figures
+        unfolding Answers.segmented
+        page-done n r results' kinds' figures' part e s en ef =
+            let need = 4 * (w * h) + 16 * P + 64 in
+            let l : length part ≡ need = e ∙ length-take-le need words (page-lent .words-room) in
+            let j : planeRefusal w h m (by-lent by-page) ≡ by-page =
+            plane-pass w h m .pass (sym ep ∙ gp) (by-lent by-page)
+            ∙ lent-pass p w (w * h) P (length words) (length results) (length kinds) (length figures) .pass (sym el ∙ gl) by-page in
+            let f : length (part ++ drop need words) ≡ length words = length-append part (drop need words) ∙ (let q = length-drop need words in let g = page-lent .words-room in omega arith) in
+            let d : drop need (part ++ drop need words) ≡ drop need words = drop-at part (drop need words) need l in
+            (λ i. left (en i) results' kinds' (ef i) (f i) (d i))
+            ∙ (ap (λ (z : Answers.Left). leftWith z figures (length words) (drop need words)) s
+            ∙ ap (λ z. leftWith (Answers.leftBy z w P (layout p w h m) results kinds) figures (length words) (drop need words)) (sym j))

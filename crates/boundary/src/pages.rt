@@ -1,0 +1,245 @@
+// A whole segmentation of an ink plane. The answer is 0, or document 01's number of a refusal; a call that is refused writes nothing
+// but scratch, and that only where the page itself has too much on it (20 and 21).
+ghost use mathlib.Core.Path.{_≡_};
+ghost use Prim.Native.Nat.{_*_, _≤_};
+ghost use lib.ListN.{length, drop};
+ghost use Rattle.memory.specs.Limits.{maxFrameWidth, maxFrameHeight, scratchWords};
+ghost use Rattle.memory.specs.Words.{over};
+ghost use Rattle.segmenting.specs.Answers.{numberOf};
+ghost use Rattle.boundary.specs.Sheet.{sheetOf};
+ghost use Rattle.boundary.specs.Pages.{isMask, planeRefusal, lentRefusal, measuredWord, figureWords, figuresLength, figuresLeft, left, paged};
+use memory::put_float;
+use memory::refuse_if;
+use params::LayoutParams;
+use segmenting::SegmentAnswer;
+use segmenting::Segmentation;
+use sorting::Unit;
+
+// 01's limits, under the names that specs/Limits of the crate memory gives them.
+const MAX_FRAME_WIDTH: u32 = 24574;
+
+const MAX_FRAME_HEIGHT: u32 = 16383;
+
+const MAX_CAPACITY: usize = 65535;
+
+const FIGURES: usize = 15;
+
+// Whether no byte is above 1: by the greatest, so that every byte is read alike and the compiler can take many at once.
+fn is_mask(ink: &[u8]) -> bool
+    ensures { λ r. ⌜ r ≡ isMask (now (ink .entry)) ⌝ }
+{
+    let mut most: u8 = 0;
+    let mut i = 0;
+    while i < ink.len() {
+        let byte = ink[i];
+        if most < byte {
+            most = byte;
+        }
+        i += 1;
+    }
+    most <= 1
+}
+
+// 1, 2 or 3 where a side, the ink's length or a byte of it is not as it must be, else 0.
+fn judge_plane(ink: &[u8], width: u32, height: u32) -> u32
+    ensures { λ r. ⌜ r ≡ planeRefusal width height (now (ink .entry)) 0 ⌝ }
+{
+    let dots = (width as usize) * (height as usize);
+    let by_byte = refuse_if(!is_mask(ink), 3, 0);
+    let by_length = refuse_if(ink.len() != dots, 2, by_byte);
+    let by_height = refuse_if(
+        height == 0,
+        1,
+        refuse_if(MAX_FRAME_HEIGHT < height, 1, by_length),
+    );
+    refuse_if(
+        width == 0,
+        1,
+        refuse_if(MAX_FRAME_WIDTH < width, 1, by_height),
+    )
+}
+
+// 6, 7 or 9 where the sheet, the capacity or the memory lent is not as it must be, else 0.
+fn judge_lent(
+    sheet: LayoutParams,
+    w: usize,
+    dots: usize,
+    capacity: usize,
+    words: usize,
+    results: usize,
+    kinds: usize,
+    figures: usize,
+) -> u32
+    requires { ⌜ (w ≤ maxFrameWidth) × (dots ≤ maxFrameWidth * maxFrameHeight) × (capacity ≤ 4294967295) ⌝ }
+    ensures { λ r. ⌜ r ≡ lentRefusal sheet w dots capacity words results kinds figures 0 ⌝ }
+{
+    let by_figures = refuse_if(figures < FIGURES, 9, 0);
+    let by_kinds = refuse_if(kinds < dots, 9, by_figures);
+    let by_results = refuse_if(results < 2 * w + 35 * capacity, 9, by_kinds);
+    let by_words = refuse_if(words < 4 * dots + 16 * capacity + 64, 9, by_results);
+    let by_capacity = refuse_if(
+        capacity == 0,
+        7,
+        refuse_if(MAX_CAPACITY < capacity, 7, by_words),
+    );
+    refuse_if(!sheet.validate(), 6, by_capacity)
+}
+
+fn measured_word(unit: Unit) -> u32
+    ensures { λ r. ⌜ r ≡ measuredWord unit ⌝ }
+{
+    match unit {
+        Unit::Measured(_) => 1,
+        Unit::Assumed(_) => 0,
+    }
+}
+
+// The figures over the front of the words lent for them.
+fn write_figures(found: Segmentation, figures: &mut [u32])
+    requires { ⌜ figuresLength ≤ length (now figures) ⌝ }
+    ensures { λ _. ⌜ now (figures .exit) ≡ over (figureWords found) (now (figures .entry)) ⌝ }
+{
+    let unit = found.unit;
+    figures[0] = measured_word(unit);
+    put_float(figures, 1, unit.value());
+    figures[3] = found.rules;
+    figures[4] = found.graphics;
+    figures[5] = found.glyphs;
+    figures[6] = found.lines;
+    figures[7] = found.blocks;
+    figures[8] = found.columns;
+    figures[9] = found.ink;
+    figures[10] = found.cut;
+    figures[11] = found.rule;
+    figures[12] = found.graphic;
+    figures[13] = found.glyph;
+    figures[14] = found.speck;
+}
+
+// The number of an answer; its figures are written.
+fn tell(answer: SegmentAnswer, figures: &mut [u32]) -> u32
+    requires { ⌜ figuresLength ≤ length (now figures) ⌝ }
+    ensures { λ r. ⌜ (r ≡ numberOf answer) × (now (figures .exit) ≡ figuresLeft answer (now (figures .entry))) ⌝ }
+{
+    match answer {
+        SegmentAnswer::Segmented(found) => {
+            write_figures(found, figures);
+            0
+        }
+        SegmentAnswer::Refused(number) => number,
+    }
+}
+
+// What can refuse the call is judged before anything is written.
+fn segment_page(
+    ink: &[u8],
+    width: u32,
+    height: u32,
+    sheet: LayoutParams,
+    capacity: u32,
+    words: &mut [u32],
+    results: &mut [u32],
+    kinds: &mut [u8],
+    figures: &mut [u32],
+) -> u32
+    ensures { λ r. ⌜ left r (now (results .exit)) (now (kinds .exit)) (now (figures .exit)) (length (now (words .exit))) (drop (scratchWords (width * height) capacity) (now (words .exit))) ≡ paged sheet width height (now (ink .entry)) capacity (now (words .entry)) (now (results .entry)) (now (kinds .entry)) (now (figures .entry)) ⌝ }
+{
+    let plane = judge_plane(ink, width, height);
+    if plane != 0 {
+        return plane;
+    }
+    let w = width as usize;
+    let dots = w * (height as usize);
+    let p = capacity as usize;
+    let lent = judge_lent(
+        sheet,
+        w,
+        dots,
+        p,
+        words.len(),
+        results.len(),
+        kinds.len(),
+        figures.len(),
+    );
+    if lent != 0 {
+        return lent;
+    }
+    let need = 4 * dots + 16 * p + 64;
+    let answer = segmenting::segment(
+        ink,
+        width,
+        height,
+        sheet,
+        p,
+        &mut words[..need],
+        results,
+        kinds,
+    );
+    tell(answer, figures)
+}
+
+// Segments an ink plane of bytes 0 and 1 by a sheet of eighteen numbers: the lists in the words of results, the kind of each dot in
+// kinds, and in the first fifteen words of figures what is told besides (specs/Pages). The words are worked in.
+#[no_mangle]
+pub extern "C" fn novlizeb_segment(
+    ink: &[u8],
+    width: u32,
+    height: u32,
+    glyph_min_area: u32,
+    glyph_max_extent_frac: f64,
+    xheight_min_area: u32,
+    xheight_fallback_px: f64,
+    rule_min_len_xh: f64,
+    rule_max_thick_xh: f64,
+    rule_run_xh: f64,
+    graphic_min_xh: f64,
+    smear_xh: f64,
+    line_min_glyphs: u32,
+    line_min_height_xh: f64,
+    line_max_height_xh: f64,
+    block_min_overlap: f64,
+    block_gap_margin_lines: f64,
+    block_max_gap_lines: f64,
+    column_gap_xh: f64,
+    column_cover_frac: f64,
+    shear_min_deg: f64,
+    capacity: u32,
+    words: &mut [u32],
+    results: &mut [u32],
+    kinds: &mut [u8],
+    figures: &mut [u32],
+) -> u32
+    ensures { λ r. ⌜ left r (now (results .exit)) (now (kinds .exit)) (now (figures .exit)) (length (now (words .exit))) (drop (scratchWords (width * height) capacity) (now (words .exit))) ≡ paged (sheetOf «glyph_min_area» «glyph_max_extent_frac» «xheight_min_area» «xheight_fallback_px» «rule_min_len_xh» «rule_max_thick_xh» «rule_run_xh» «graphic_min_xh» «smear_xh» «line_min_glyphs» «line_min_height_xh» «line_max_height_xh» «block_min_overlap» «block_gap_margin_lines» «block_max_gap_lines» «column_gap_xh» «column_cover_frac» «shear_min_deg») width height (now (ink .entry)) capacity (now (words .entry)) (now (results .entry)) (now (kinds .entry)) (now (figures .entry)) ⌝ }
+{
+    let sheet = LayoutParams {
+        glyph_min_area,
+        glyph_max_extent_frac,
+        xheight_min_area,
+        xheight_fallback_px,
+        rule_min_len_xh,
+        rule_max_thick_xh,
+        rule_run_xh,
+        graphic_min_xh,
+        smear_xh,
+        line_min_glyphs,
+        line_min_height_xh,
+        line_max_height_xh,
+        block_min_overlap,
+        block_gap_margin_lines,
+        block_max_gap_lines,
+        column_gap_xh,
+        column_cover_frac,
+        shear_min_deg,
+    };
+    segment_page(
+        ink,
+        width,
+        height,
+        sheet,
+        capacity,
+        words,
+        results,
+        kinds,
+        figures,
+    )
+}
