@@ -19,6 +19,7 @@ use params::LayoutParams;
 // The replay calls these by their own names.
 pub use levels::novlizeb_frame_size;
 pub use levels::novlizeb_level_plane;
+pub use pages::novlizeb_segment;
 
 // x at the nearest whole number, halves away from zero.
 #[no_mangle]
