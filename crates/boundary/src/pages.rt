@@ -13,6 +13,7 @@ use memory::refuse_if;
 use params::LayoutParams;
 use segmenting::SegmentAnswer;
 use segmenting::Segmentation;
+use segmenting::segment;
 use sorting::Unit;
 
 // 01's limits, under the names that specs/Limits of the crate memory gives them.
@@ -133,8 +134,8 @@ fn tell(answer: SegmentAnswer, figures: &mut [u32]) -> u32
 // What can refuse the call is judged before anything is written.
 fn segment_page(
     ink: &[u8],
-    width: u32,
-    height: u32,
+    w: u32,
+    h: u32,
     sheet: LayoutParams,
     capacity: u32,
     words: &mut [u32],
@@ -142,18 +143,17 @@ fn segment_page(
     kinds: &mut [u8],
     figures: &mut [u32],
 ) -> u32
-    ensures { λ r. ⌜ left r (now (results .exit)) (now (kinds .exit)) (now (figures .exit)) (length (now (words .exit))) (drop (scratchWords (width * height) capacity) (now (words .exit))) ≡ paged sheet width height (now (ink .entry)) capacity (now (words .entry)) (now (results .entry)) (now (kinds .entry)) (now (figures .entry)) ⌝ }
+    ensures { λ r. ⌜ left r (now (results .exit)) (now (kinds .exit)) (now (figures .exit)) (length (now (words .exit))) (drop (scratchWords (w * h) capacity) (now (words .exit))) ≡ paged sheet w h (now (ink .entry)) capacity (now (words .entry)) (now (results .entry)) (now (kinds .entry)) (now (figures .entry)) ⌝ }
 {
-    let plane = judge_plane(ink, width, height);
+    let plane = judge_plane(ink, w, h);
     if plane != 0 {
         return plane;
     }
-    let w = width as usize;
-    let dots = w * (height as usize);
+    let dots = (w as usize) * (h as usize);
     let p = capacity as usize;
     let lent = judge_lent(
         sheet,
-        w,
+        w as usize,
         dots,
         p,
         words.len(),
@@ -165,16 +165,7 @@ fn segment_page(
         return lent;
     }
     let need = 4 * dots + 16 * p + 64;
-    let answer = segmenting::segment(
-        ink,
-        width,
-        height,
-        sheet,
-        p,
-        &mut words[..need],
-        results,
-        kinds,
-    );
+    let answer = segment(ink, w, h, sheet, p, &mut words[..need], results, kinds);
     tell(answer, figures)
 }
 

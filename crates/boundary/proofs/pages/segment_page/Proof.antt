@@ -14,29 +14,29 @@ judge-plane-requires c κs = search needs
 returns : tie.Need-returns
 returns c =
     let s = c .before .before .before .before .before .before .before in
-    refused-plane (s .args .sheet) (s .args .width) (s .args .height) (s .args .ink .now) (s .args .capacity) (s .args .words .now) (s .args .results .now) (s .args .kinds .now) (s .args .figures .now) (c .before .judge-plane .result) (c .before .judge-plane .ensures) (c .if1 .taken)
+    refused-plane (s .args .sheet) (s .args .w) (s .args .h) (s .args .ink .now) (s .args .capacity) (s .args .words .now) (s .args .results .now) (s .args .kinds .now) (s .args .figures .now) (c .before .judge-plane .result) (c .before .judge-plane .ensures) (c .if1 .taken)
 
 mul-dots : tie.Need-mul-dots
 mul-dots c =
     let s = c .before .before .before .before .before .before .before in
-    let g = page-plane (s .args .sheet) (s .args .width) (s .args .height) (s .args .ink .now) (s .args .capacity) (s .args .words .now) (s .args .results .now) (s .args .kinds .now) (s .args .figures .now) (c .before .judge-plane .result) (c .before .judge-plane .ensures) (c .if1 .left) in
+    let g = page-plane (s .args .sheet) (s .args .w) (s .args .h) (s .args .ink .now) (s .args .capacity) (s .args .words .now) (s .args .results .now) (s .args .kinds .now) (s .args .figures .now) (c .before .judge-plane .result) (c .before .judge-plane .ensures) (c .if1 .left) in
     omega (arith, g .dots)
 
 judge-lent-requires : tie.Need-judge-lent-requires
 judge-lent-requires c κs =
     let s = c .before .before .before .before .before .before .before in
-    let g = page-plane (s .args .sheet) (s .args .width) (s .args .height) (s .args .ink .now) (s .args .capacity) (s .args .words .now) (s .args .results .now) (s .args .kinds .now) (s .args .figures .now) (c .before .judge-plane .result) (c .before .judge-plane .ensures) (c .if1 .left) in
+    let g = page-plane (s .args .sheet) (s .args .w) (s .args .h) (s .args .ink .now) (s .args .capacity) (s .args .words .now) (s .args .results .now) (s .args .kinds .now) (s .args .figures .now) (c .before .judge-plane .result) (c .before .judge-plane .ensures) (c .if1 .left) in
     (g .narrow, g .dots, omega arith)
 
 returns-2 : tie.Need-returns-2
 returns-2 c =
     let s = c .before .before .before .before .before .before .before .before .before in
-    refused-lent (s .args .sheet) (s .args .width) (s .args .height) (s .args .ink .now) (s .args .capacity) (s .args .words .now) (s .args .results .now) (s .args .kinds .now) (s .args .figures .now) (c .before .before .before .judge-plane .result) (c .before .before .before .judge-plane .ensures) (c .before .before .if1 .left) (c .before .judge-lent .result) (c .before .judge-lent .ensures) (c .if2 .taken)
+    refused-lent (s .args .sheet) (s .args .w) (s .args .h) (s .args .ink .now) (s .args .capacity) (s .args .words .now) (s .args .results .now) (s .args .kinds .now) (s .args .figures .now) (c .before .before .before .judge-plane .result) (c .before .before .before .judge-plane .ensures) (c .before .before .if1 .left) (c .before .judge-lent .result) (c .before .judge-lent .ensures) (c .if2 .taken)
 
 mul-need : tie.Need-mul-need
 mul-need c =
     let s = c .before .before .before .before .before .before .before .before .before in
-    let g = page-plane (s .args .sheet) (s .args .width) (s .args .height) (s .args .ink .now) (s .args .capacity) (s .args .words .now) (s .args .results .now) (s .args .kinds .now) (s .args .figures .now) (c .before .before .before .judge-plane .result) (c .before .before .before .judge-plane .ensures) (c .before .before .if1 .left) in
+    let g = page-plane (s .args .sheet) (s .args .w) (s .args .h) (s .args .ink .now) (s .args .capacity) (s .args .words .now) (s .args .results .now) (s .args .kinds .now) (s .args .figures .now) (c .before .before .before .judge-plane .result) (c .before .before .before .judge-plane .ensures) (c .before .before .if1 .left) in
     omega (arith, g .dots)
 
 mul-need-2 : tie.Need-mul-need-2
@@ -46,39 +46,39 @@ mul-need-2 c =
 add-need : tie.Need-add-need
 add-need c =
     let s = c .before .before .before .before .before .before .before .before .before in
-    let g = page-plane (s .args .sheet) (s .args .width) (s .args .height) (s .args .ink .now) (s .args .capacity) (s .args .words .now) (s .args .results .now) (s .args .kinds .now) (s .args .figures .now) (c .before .before .before .judge-plane .result) (c .before .before .before .judge-plane .ensures) (c .before .before .if1 .left) in
+    let g = page-plane (s .args .sheet) (s .args .w) (s .args .h) (s .args .ink .now) (s .args .capacity) (s .args .words .now) (s .args .results .now) (s .args .kinds .now) (s .args .figures .now) (c .before .before .before .judge-plane .result) (c .before .before .before .judge-plane .ensures) (c .before .before .if1 .left) in
     omega (arith, g .dots)
 
 add-need-2 : tie.Need-add-need-2
 add-need-2 c =
     let s = c .before .before .before .before .before .before .before .before .before in
-    let g = page-plane (s .args .sheet) (s .args .width) (s .args .height) (s .args .ink .now) (s .args .capacity) (s .args .words .now) (s .args .results .now) (s .args .kinds .now) (s .args .figures .now) (c .before .before .before .judge-plane .result) (c .before .before .before .judge-plane .ensures) (c .before .before .if1 .left) in
+    let g = page-plane (s .args .sheet) (s .args .w) (s .args .h) (s .args .ink .now) (s .args .capacity) (s .args .words .now) (s .args .results .now) (s .args .kinds .now) (s .args .figures .now) (c .before .before .before .judge-plane .result) (c .before .before .before .judge-plane .ensures) (c .before .before .if1 .left) in
     omega (arith, g .dots)
 
 slice-relend-prefix-segment : tie.Need-slice-relend-prefix-segment
 slice-relend-prefix-segment c =
     let s = c .before .before .before .before .before .before .before .before .before in
-    page-lent (s .args .sheet) (s .args .width) (s .args .height) (s .args .ink .now) (s .args .capacity) (s .args .words .now) (s .args .results .now) (s .args .kinds .now) (s .args .figures .now) (c .before .before .before .judge-plane .result) (c .before .before .before .judge-plane .ensures) (c .before .before .if1 .left) (c .before .judge-lent .result) (c .before .judge-lent .ensures) (c .if2 .left) .words-room
+    page-lent (s .args .sheet) (s .args .w) (s .args .h) (s .args .ink .now) (s .args .capacity) (s .args .words .now) (s .args .results .now) (s .args .kinds .now) (s .args .figures .now) (c .before .before .before .judge-plane .result) (c .before .before .before .judge-plane .ensures) (c .before .before .if1 .left) (c .before .judge-lent .result) (c .before .judge-lent .ensures) (c .if2 .left) .words-room
 
 slice-aggregate-segment : tie.Need-slice-aggregate-segment
 slice-aggregate-segment c =
     let s = c .before .before .before .before .before .before .before .before .before .before in
-    sym (length-take-le _ (s .args .words .now) (page-lent (s .args .sheet) (s .args .width) (s .args .height) (s .args .ink .now) (s .args .capacity) (s .args .words .now) (s .args .results .now) (s .args .kinds .now) (s .args .figures .now) (c .before .before .before .before .judge-plane .result) (c .before .before .before .before .judge-plane .ensures) (c .before .before .before .if1 .left) (c .before .before .judge-lent .result) (c .before .before .judge-lent .ensures) (c .before .if2 .left) .words-room))
+    sym (length-take-le _ (s .args .words .now) (page-lent (s .args .sheet) (s .args .w) (s .args .h) (s .args .ink .now) (s .args .capacity) (s .args .words .now) (s .args .results .now) (s .args .kinds .now) (s .args .figures .now) (c .before .before .before .before .judge-plane .result) (c .before .before .before .before .judge-plane .ensures) (c .before .before .before .if1 .left) (c .before .before .judge-lent .result) (c .before .before .judge-lent .ensures) (c .before .if2 .left) .words-room))
 
 segment-requires : tie.Need-segment-requires
 segment-requires c κs =
     let s = c .before .before .before .before .before .before .before .before .before .before .before .before in
-    page-room (s .args .sheet) (s .args .width) (s .args .height) (s .args .ink .now) (s .args .capacity) (s .args .words .now) (s .args .results .now) (s .args .kinds .now) (s .args .figures .now) (c .before .before .before .before .before .before .judge-plane .result) (c .before .before .before .before .before .before .judge-plane .ensures) (c .before .before .before .before .before .if1 .left) (c .before .before .before .before .judge-lent .result) (c .before .before .before .before .judge-lent .ensures) (c .before .before .before .if2 .left)
+    page-room (s .args .sheet) (s .args .w) (s .args .h) (s .args .ink .now) (s .args .capacity) (s .args .words .now) (s .args .results .now) (s .args .kinds .now) (s .args .figures .now) (c .before .before .before .before .before .before .judge-plane .result) (c .before .before .before .before .before .before .judge-plane .ensures) (c .before .before .before .before .before .if1 .left) (c .before .before .before .before .judge-lent .result) (c .before .before .before .before .judge-lent .ensures) (c .before .before .before .if2 .left)
 
 tell-requires : tie.Need-tell-requires
 tell-requires c κs =
     let s = c .before .before .before .before .before .before .before .before .before .before .before .before .before .before .before .before .before .before .before .before in
-    page-lent (s .args .sheet) (s .args .width) (s .args .height) (s .args .ink .now) (s .args .capacity) (s .args .words .now) (s .args .results .now) (s .args .kinds .now) (s .args .figures .now) (c .before .before .before .before .before .before .before .before .before .before .before .before .before .before .judge-plane .result) (c .before .before .before .before .before .before .before .before .before .before .before .before .before .before .judge-plane .ensures) (c .before .before .before .before .before .before .before .before .before .before .before .before .before .if1 .left) (c .before .before .before .before .before .before .before .before .before .before .before .before .judge-lent .result) (c .before .before .before .before .before .before .before .before .before .before .before .before .judge-lent .ensures) (c .before .before .before .before .before .before .before .before .before .before .before .if2 .left) .figures-room
+    page-lent (s .args .sheet) (s .args .w) (s .args .h) (s .args .ink .now) (s .args .capacity) (s .args .words .now) (s .args .results .now) (s .args .kinds .now) (s .args .figures .now) (c .before .before .before .before .before .before .before .before .before .before .before .before .before .before .judge-plane .result) (c .before .before .before .before .before .before .before .before .before .before .before .before .before .before .judge-plane .ensures) (c .before .before .before .before .before .before .before .before .before .before .before .before .before .if1 .left) (c .before .before .before .before .before .before .before .before .before .before .before .before .judge-lent .result) (c .before .before .before .before .before .before .before .before .before .before .before .before .judge-lent .ensures) (c .before .before .before .before .before .before .before .before .before .before .before .if2 .left) .figures-room
 
 same-length : tie.Need-same-length
 same-length c =
     let s = c .before .before .before .before .before .before .before .before .before .before .before .before .before .before .before .before .before .before .before .before .before .before .before in
-    length-front (s .args .words .now) (c .before .before .before .before .before .before .before .before .before .before .segment .last .1 .1 .1 .1 .1 .0) (4 * (s .args .width * s .args .height) + 16 * s .args .capacity + 64) (c .before .before .before .before .before .before .before .before .before .before .segment .kept .1 .1 .1 .1 .1 .0)
+    length-front (s .args .words .now) (c .before .before .before .before .before .before .before .before .before .before .segment .last .1 .1 .1 .1 .1 .0) (4 * (s .args .w * s .args .h) + 16 * s .args .capacity + 64) (c .before .before .before .before .before .before .before .before .before .before .segment .kept .1 .1 .1 .1 .1 .0)
 
 same-length-2 : tie.Need-same-length-2
 same-length-2 c =
@@ -97,7 +97,7 @@ returns-3 c =
     let s = c .before .before .before .before .before .before .before .before .before .before .before .before .before .before .before .before .before .before .before .before .before .before .before in
     let g = c .before .before .before .before .before .before .before .before .before .before .segment in
     let t = c .before .before .tell in
-    page-done (s .args .sheet) (s .args .width) (s .args .height) (s .args .ink .now) (s .args .capacity) (s .args .words .now) (s .args .results .now) (s .args .kinds .now) (s .args .figures .now) (c .before .before .before .before .before .before .before .before .before .before .before .before .before .before .before .before .before .judge-plane .result) (c .before .before .before .before .before .before .before .before .before .before .before .before .before .before .before .before .before .judge-plane .ensures) (c .before .before .before .before .before .before .before .before .before .before .before .before .before .before .before .before .if1 .left) (c .before .before .before .before .before .before .before .before .before .before .before .before .before .before .before .judge-lent .result) (c .before .before .before .before .before .before .before .before .before .before .before .before .before .before .before .judge-lent .ensures) (c .before .before .before .before .before .before .before .before .before .before .before .before .before .before .if2 .left) (t .result) (g .result) (g .last .1 .1 .1 .1 .1 .1 .0) (g .last .1 .1 .1 .1 .1 .1 .1 .0) (t .last .1 .0) (g .last .1 .1 .1 .1 .1 .0) (g .kept .1 .1 .1 .1 .1 .0) (g .ensures .1) (t .ensures .0) (t .ensures .1)
+    page-done (s .args .sheet) (s .args .w) (s .args .h) (s .args .ink .now) (s .args .capacity) (s .args .words .now) (s .args .results .now) (s .args .kinds .now) (s .args .figures .now) (c .before .before .before .before .before .before .before .before .before .before .before .before .before .before .before .before .before .judge-plane .result) (c .before .before .before .before .before .before .before .before .before .before .before .before .before .before .before .before .before .judge-plane .ensures) (c .before .before .before .before .before .before .before .before .before .before .before .before .before .before .before .before .if1 .left) (c .before .before .before .before .before .before .before .before .before .before .before .before .before .before .before .judge-lent .result) (c .before .before .before .before .before .before .before .before .before .before .before .before .before .before .before .judge-lent .ensures) (c .before .before .before .before .before .before .before .before .before .before .before .before .before .before .if2 .left) (t .result) (g .result) (g .last .1 .1 .1 .1 .1 .1 .0) (g .last .1 .1 .1 .1 .1 .1 .1 .0) (t .last .1 .0) (g .last .1 .1 .1 .1 .1 .0) (g .kept .1 .1 .1 .1 .1 .0) (g .ensures .1) (t .ensures .0) (t .ensures .1)
 
 pub segment-page-spec : {M : Type 1} → statement M
 segment-page-spec =
