@@ -411,7 +411,7 @@ const REPLAYED_CAPACITY: usize = 64;
 /// Small pages of every kind, and those with lines, blocks and columns.
 fn list(list: &mut List) {
     let mut random = Random::new();
-    for i in 0..700 {
+    for i in 0..420 {
         let (width, height) = if i % 3 == 0 {
             (20 + random.below(20) as usize, 16 + random.below(10) as usize)
         } else {

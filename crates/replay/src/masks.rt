@@ -78,12 +78,20 @@ fn hash(words: &[u32]) -> u64 {
     h
 }
 
-// The same of bytes.
+// The same of a byte.
+fn hash_byte(h: u64, byte: u8) -> u64
+    requires { ⌜ h < 4294967291 ⌝ }
+    ensures { λ r. ⌜ r < 4294967291 ⌝ }
+{
+    hash_step(h, byte as u32)
+}
+
+// Many bytes as one word.
 pub fn hash_bytes(bytes: &[u8]) -> u64 {
     let mut h: u64 = 1;
     let mut i = 0;
     while i < bytes.len() {
-        h = hash_step(h, bytes[i] as u32);
+        h = hash_byte(h, bytes[i]);
         i += 1;
     }
     h

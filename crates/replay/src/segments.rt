@@ -30,6 +30,11 @@ fn ends_with(body: &[u8], number: u32, figures: u64, results: u64, kinds: u64) -
         & (text::word(body, words - 1) == kinds)
 }
 
+// The words of results for a page so wide and this capacity.
+fn result_words(width: u32, capacity: u32) -> usize {
+    2 * (width as usize) + 35 * (capacity as usize)
+}
+
 // Segments the page that the digits spell, of as many dots as there are kinds.
 fn segment_page(body: &[u8], width: u32, height: u32, ink: &mut [u8], kinds: &mut [u8]) -> bool {
     if body.len() < PAGE_FROM {
@@ -69,7 +74,7 @@ fn segment_page(body: &[u8], width: u32, height: u32, ink: &mut [u8], kinds: &mu
         kinds,
         &mut figures,
     );
-    let words = 2 * width as usize + 35 * capacity as usize;
+    let words = result_words(width, capacity);
     ends_with(
         body,
         number,

@@ -1,4 +1,4 @@
--- `replay::masks::hash` is safe and ends: the index stays within the words, and the hash below its divisor. Assumes nothing.
+-- `replay::masks::hash_bytes` is safe and ends: the index stays within the bytes, and the hash below its divisor. Assumes nothing.
 use Prim.Native.Nat.{_≤_, _<_, _-_}
 use lib.ListN.{length}
 use borrow.Author.Needs.{needs}
@@ -14,14 +14,11 @@ abbrev μ-loop : tie.MeasureT-loop
 loop-holds : tie.Need-loop-holds Inv-loop μ-loop
 loop-holds c = search needs
 
-mul-hash-step : tie.Need-mul-hash-step Inv-loop μ-loop
-mul-hash-step c = search needs
+shared-slice-read-hash-byte : tie.Need-shared-slice-read-hash-byte Inv-loop μ-loop
+shared-slice-read-hash-byte c = search needs
 
-shared-slice-read-hash-step : tie.Need-shared-slice-read-hash-step Inv-loop μ-loop
-shared-slice-read-hash-step c = search needs
-
-hash-step-requires : tie.Need-hash-step-requires Inv-loop μ-loop
-hash-step-requires c κs = search needs
+hash-byte-requires : tie.Need-hash-byte-requires Inv-loop μ-loop
+hash-byte-requires c κs = search needs
 
 add-i : tie.Need-add-i Inv-loop μ-loop
 add-i c = search needs
@@ -42,9 +39,8 @@ hash-bytes-spec =
     Inv-loop
     μ-loop
     loop-holds
-    mul-hash-step
-    shared-slice-read-hash-step
-    hash-step-requires
+    shared-slice-read-hash-byte
+    hash-byte-requires
     add-i
     loop-less
     loop-again
