@@ -11,11 +11,11 @@ use borrow.Author.Tests.{le-leb, lt-leb, eq-eqb, ne-eqb}
 use lib.ListN.{getD, length, set, take, drop, length-append, length-drop, length-set}
 use lib.Seq.{getD-take, getD-drop, take-at, drop-at, length-take-le, take-set-le, drop-set-add}
 use lib.Dec.{eqb, leb}
-use Rattle.memory.specs.Limits.{maxMaskSide}
+use Rattle.memory.specs.Limits.{maxMaskSide, maxMaskDots}
 use Rattle.labelling.specs.Classes.{renamed}
 use Rattle.labelling.specs.InkRuns.{startOf, endOf, touchRuns}
-use Rattle.labelling.specs.Forests.{Forest, Seen, Joined, joinF}
-use Rattle.labelling.specs.Linking.{touching, Order, RunList, Kept, Linked, Joining, Linkable, Joinable, Skipped, Parented, LinkedOne, RowLinkable, LinkedTo, RowEnd, AllLinked, firstRun}
+use Rattle.labelling.specs.Forests.{Forest, Seen, Joined, Kin, joinF}
+use Rattle.labelling.specs.Linking.{touching, Order, RunList, Kept, Linked, Joining, Linkable, Joinable, Skipped, Parented, LinkedOne, RowLinkable, LinkedTo, RowEnd, RowAhead, RowLinked, AllLinked, firstRun}
 use Rattle.labelling.proofs.LinkLaws.{seen-none, seen-skip, seen-join, seen-next, seen-all}
 use Rattle.labelling.proofs.TouchLaws.{row-rise}
 use Rattle.labelling.proofs.TransferLaws.{named-firsts}
@@ -110,6 +110,16 @@ pub record Sweep (w c : ℕ) (s₀ s : List ℕ) (first to j k member : ℕ) : T
   pub upto : k ≤ to
   pub joining : Joining w c (take (2 * c) s₀) (drop (2 * c) s) j k member
 
+-- a run and its parent are kin, and so are a run and itself
+
+pub kin-parent : (c : ℕ) (s : List ℕ) (k r : ℕ) → r ≡ getD s (2 * c + k) 0 → getD (drop (2 * c) s) k 0 ≤ k → Kin (drop (2 * c) s) k r
+kin-parent c s k r e d =
+    let q : r ≡ getD (drop (2 * c) s) k 0 = e ∙ sym (getD-drop (2 * c) s k 0) in
+    record { low = omega arith; same = λ f n l F. ap f q ∙ F .same k l }
+
+pub kin-self : (p : List ℕ) (k : ℕ) → Kin p k k
+kin-self p k = record { low = le-refl k; same = λ f n l F. refl }
+
 module _ {w c first to j : ℕ} {s : List ℕ} (A : Joinable w c s first to j) where
   -- run j has met those before `first`, none of which it touches
   met-before : Seen (touching w (take (2 * c) s)) c (A .linked .rep) j first
@@ -140,17 +150,16 @@ module _ {w c first to j : ℕ} {s : List ℕ} (A : Joinable w c s first to j) w
   pub none-left : first < to → endOf (take (2 * c) s) 0 j < startOf (take (2 * c) s) first + w → Parented w c s s j j
   none-left l h = none-touched (λ a l₁ l₂. let u = A .under .high in stop-right w c (take (2 * c) s) (A .list .order) first a j l₁ (omega arith) h)
 
-  -- run j touches `first`, whose parent is of its class then
-  pub sweep-first : first < to → startOf (take (2 * c) s) first + w ≤ endOf (take (2 * c) s) 0 j → (member : ℕ) → member ≡ getD s (2 * c + first) 0 → Sweep w c s s first to j (first + 1) member
-  sweep-first l t member em =
+  -- run j touches `first`, whose kin are of its class then
+  pub sweep-kin : first < to → startOf (take (2 * c) s) first + w ≤ endOf (take (2 * c) s) 0 j → (member : ℕ) → Kin (drop (2 * c) s) first member → Sweep w c s s first to j (first + 1) member
+  sweep-kin l t member N =
       let L = A .linked in
       let f = L .rep in
       let p = drop (2 * c) s in
       let u₁ = A .under .mid in
       let below : first < j = omega arith in
-      let e : member ≡ getD p first 0 = em ∙ sym (getD-drop (2 * c) s first 0) in
       let touch : touching w (take (2 * c) s) first j ≡ true = touch-sure w (take (2 * c) s) first j (A .under .above first (le-refl first) l) t (A .reach l) in
-      let d = L .forest .down first below in
+      let d = N .low in
       record {
         asks = A;
         kept = kept-none c s;
@@ -161,10 +170,23 @@ module _ {w c first to j : ℕ} {s : List ℕ} (A : Joinable w c s first to j) w
               rep = joinF f first j;
               seen = rw (add-one first) (seen-join (touching w (take (2 * c) s)) c f j first below (A .under .high) touch met-before);
               forest = forest-fresh f p first j (L .seen .low) (L .seen .own refl) below (L .forest);
-              own = ap (joinF f first j) e ∙ (ap (renamed (max (f first) (f j)) (min (f first) (f j))) (L .forest .same first below) ∙ (joinF-a f first j ∙ sym (joinF-b f first j)));
+              own = ap (renamed (max (f first) (f j)) (min (f first) (f j))) (N .same f j below (L .forest)) ∙ (joinF-a f first j ∙ sym (joinF-b f first j));
               low = omega arith;
             };
       }
+
+  pub sweep-first : first < to → startOf (take (2 * c) s) first + w ≤ endOf (take (2 * c) s) 0 j → (member : ℕ) → member ≡ getD s (2 * c + first) 0 → Sweep w c s s first to j (first + 1) member
+  sweep-first l t member em =
+      let u = A .under .mid in
+      sweep-kin l t member (kin-parent c s first member em (A .linked .forest .down first (omega arith)))
+
+  -- the parent of `first` is no later
+  pub first-down : first < to → getD s (2 * c + first) 0 ≤ first
+  first-down l =
+      let u = A .under .mid in
+      let d = A .linked .forest .down first (omega arith) in
+      let e = getD-drop (2 * c) s first 0 in
+      omega arith
 
 module _ {w c first to j : ℕ} {s₀ s : List ℕ} {k member : ℕ} (S : Sweep w c s₀ s first to j k member) where
   -- what `join` asks
@@ -305,6 +327,20 @@ row-none {w} {c} {s} {above} {here} {next} A =
     }
 
 module _ {w c : ℕ} {s₀ s : List ℕ} {above here next i j : ℕ} (S : RowSweep w c s₀ s above here next i j) where
+  -- the same, of a longer row
+  pub row-longer : (further : ℕ) → next ≤ further → RowLinkable w c s₀ above here further → RowSweep w c s₀ s above here further i j
+  row-longer further l A =
+      record {
+        asks = A;
+        kept = S .kept;
+        from = S .from;
+        upto = let h = S .upto in omega arith;
+        low = S .low;
+        high = S .high;
+        left = S .left;
+        linked = S .linked;
+      }
+
   pub row-linkable : j < next → Linkable w c s i here j
   row-linkable l =
       let R = S .asks .rows in
@@ -341,6 +377,44 @@ module _ {w c : ℕ} {s₀ s : List ℕ} {above here next i j : ℕ} (S : RowSwe
 
   pub row-done : next ≤ j → LinkedTo w c s₀ s next
   row-done l = record { kept = S .kept; linked = subst (Linked w c (take (2 * c) s₀) (drop (2 * c) s)) (let h = S .upto in let e : j ≡ next = omega arith in e) (S .linked) }
+
+-- A row whose end is not known yet: the runs below j are of it, and linked
+
+pub record RowWalk (w c limit : ℕ) (s₀ s : List ℕ) (above here i j : ℕ) : Type 0 where
+  pub asks : RowAhead w c limit s₀ above here
+  pub upto : j ≤ c
+  pub within : (a : ℕ) → here ≤ a → a < j → startOf s₀ a < limit
+  pub sweep : RowSweep w c s₀ s above here j i j
+
+pub walk-none : {w c limit : ℕ} {s : List ℕ} {above here : ℕ} → RowAhead w c limit s above here → RowWalk w c limit s s above here above here
+walk-none {w} {c} {limit} {s} {above} {here} A =
+    let none : (a : ℕ) → here ≤ a → a < here → startOf s a < limit = λ a l₁ l₂. absurd (omega arith) in
+    record { asks = A; upto = A .low; within = none; sweep = row-none (A .rows here (le-refl here) (A .low) none) }
+
+module _ {w c limit : ℕ} {s₀ s : List ℕ} {above here i j : ℕ} (S : RowWalk w c limit s₀ s above here i j) where
+  pub walk-room : (2 * c ≤ length s) × (c ≤ maxMaskDots)
+  walk-room = let L = kept-list (S .sweep .kept) (S .sweep .asks .list) in let r = L .room in (omega arith, L .few)
+
+  -- the start of run j, as it was
+  pub walk-start : j < c → getD s (2 * j) 0 ≡ startOf s₀ j
+  walk-start l = kept-word (S .sweep .kept) (2 * j) (omega arith) ∙ getD-take (2 * c) s₀ (2 * j) 0 (omega arith)
+
+  module _ (l : j < c) (q : startOf s₀ j < limit) where
+    within-more : (a : ℕ) → here ≤ a → a < j + 1 → Dec (a ≡ j) → startOf s₀ a < limit
+    within-more a l₁ l₂ (yes e) = rw e q
+    within-more a l₁ l₂ (no ne) = S .within a l₁ (omega arith)
+
+    longer : RowSweep w c s₀ s above here (j + 1) i j
+    longer = let f = S .sweep .from in row-longer (S .sweep) (j + 1) (omega arith) (S .asks .rows (j + 1) (omega arith) (omega arith) (λ a l₁ l₂. within-more a l₁ l₂ (ℕ-discrete a j)))
+
+    pub walk-linkable : Linkable w c s i here j
+    walk-linkable = row-linkable longer (omega arith)
+
+    pub walk-more : (s' : List ℕ) (r : ℕ) → LinkedOne w c s s' i here j r → RowWalk w c limit s₀ s' above here r (j + 1)
+    walk-more s' r L = record { asks = S .asks; upto = omega arith; within = λ a l₁ l₂. within-more a l₁ l₂ (ℕ-discrete a j); sweep = row-more longer (omega arith) s' r L }
+
+  pub walk-done : (j < c → limit ≤ startOf s₀ j) → RowLinked w c limit s₀ s here j
+  walk-done past = record { row = record { from = S .sweep .from; upto = S .upto; inside = S .within; past = past }; linked = row-done (S .sweep) (le-refl j) }
 
 -- All rows: those before row y are linked, which starts at dot `base`
 
@@ -414,18 +488,18 @@ module _ {w c h : ℕ} {s₀ s : List ℕ} {above here base y : ℕ} (S : PlaneS
       let h : y * w ≤ maxMaskSide * w = mul-le-mul-right w (let x : y ≤ maxMaskSide = omega arith in x) in
       omega arith
 
-  module _ (next : ℕ) (E : RowEnd c here (base + w) s next) where
-    start-is-now : (a : ℕ) → a < c → startOf s a ≡ startOf (take (2 * c) s₀) a
-    start-is-now a l = kept-word (S .kept) (2 * a) (omega arith)
+  start-is-now : (a : ℕ) → a < c → startOf s a ≡ startOf (take (2 * c) s₀) a
+  start-is-now a l = kept-word (S .kept) (2 * a) (omega arith)
 
+  -- the runs up to `next` are of this row
+  module _ (next : ℕ) (from : here ≤ next) (upto : next ≤ c) (within : (a : ℕ) → here ≤ a → a < next → startOf s a < base + w) where
     row-of-next : (a : ℕ) → here ≤ a → a < next → startOf (take (2 * c) s₀) a / w ≡ y
     row-of-next a l₁ l₂ =
-        let u = E .upto in
         let e = start-is-now a (omega arith) in
-        let i = E .inside a l₁ l₂ in
+        let i = within a l₁ l₂ in
         row-at w base y (startOf (take (2 * c) s₀) a) hw (S .base-is) (S .rest a l₁ (omega arith)) (omega arith)
 
-    pub plane-linkable : RowLinkable w c s above here next
+    plane-linkable : RowLinkable w c s above here next
     plane-linkable =
         record {
           list = kept-list (S .kept) (S .list);
@@ -433,8 +507,8 @@ module _ {w c h : ℕ} {s₀ s : List ℕ} {above here base y : ℕ} (S : PlaneS
               rw (S .kept .runs)
               (record {
                 low = S .low;
-                mid = E .from;
-                high = E .upto;
+                mid = from;
+                high = upto;
                 far = λ a j l₁ l₂ l₃. other-row w (take (2 * c) s₀) a j (row-far w base y _ _ hw (S .base-is) (S .far a l₁) (S .rest j l₂ l₃));
                 rows = λ a j l₁ l₂ l₃ l₄. row-above w base y _ hw (S .base-is) (S .row-low a l₁ l₂) (S .row-high a l₂) ∙ sym (row-of-next j l₃ l₄);
                 beside = λ a j l₁ l₂ l₃.
@@ -445,6 +519,10 @@ module _ {w c h : ℕ} {s₀ s : List ℕ} {above here base y : ℕ} (S : PlaneS
           linked = rw (S .kept .runs) (S .linked);
         }
 
+  pub plane-ahead : RowAhead w c (base + w) s above here
+  plane-ahead = record { low = S .high; rows = plane-linkable }
+
+  module _ (next : ℕ) (E : RowEnd c here (base + w) s next) where
     pub plane-more : y < h → (s' : List ℕ) → LinkedTo w c s s' next → PlaneSweep w c h s₀ s' here next (base + w) (y + 1)
     plane-more l s' L =
         let u = E .upto in

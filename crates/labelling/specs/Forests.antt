@@ -52,3 +52,8 @@ pub record Joined (p p' : List ℕ) (member k r : ℕ) : Type 0 where
   pub len : length p' ≡ length p
   pub joined : (f : ℕ → ℕ) (n j : ℕ) → k < n → member < n → n ≤ length p → ((i : ℕ) → f i ≤ i) → ((i : ℕ) → f (f i) ≡ f i) → f member ≡ f j → Forest f p n
       → Forest (joinF f k j) p' n × (joinF f k j r ≡ joinF f k j j) × (r < n)
+
+-- r is of the class of k, and no later
+pub record Kin (p : List ℕ) (k r : ℕ) : Type 0 where
+  pub low : r ≤ k
+  pub same : (f : ℕ → ℕ) (n : ℕ) → k < n → Forest f p n → f r ≡ f k

@@ -119,6 +119,16 @@ pub record RowEnd (c k limit : ℕ) (t : List ℕ) (r : ℕ) : Type 0 where
   pub inside : (a : ℕ) → k ≤ a → a < r → startOf t a < limit
   pub past : r < c → limit ≤ startOf t r
 
+-- what linking a row asks: the runs from `here` on that start before dot `limit` are its own
+pub record RowAhead (w c limit : ℕ) (s : List ℕ) (above here : ℕ) : Type 0 where
+  pub low : here ≤ c
+  pub rows : (next : ℕ) → here ≤ next → next ≤ c → ((a : ℕ) → here ≤ a → a < next → startOf s a < limit) → RowLinkable w c s above here next
+
+-- a row from `here` up to r is linked
+pub record RowLinked (w c limit : ℕ) (s s' : List ℕ) (here r : ℕ) : Type 0 where
+  pub row : RowEnd c here limit s r
+  pub linked : LinkedTo w c s s' r
+
 -- each run's parents lead to the first run of its component
 pub record AllLinked (w c : ℕ) (s s' : List ℕ) : Type 0 where
   pub kept : Kept c s s'

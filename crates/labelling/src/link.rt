@@ -2,12 +2,15 @@
 // (the end excluded), then the parent of each. Nothing here sees a mask: any run list is linked so.
 ghost use mathlib.Core.Path.{_≡_};
 ghost use Prim.Native.Nat.{ℕ, _+_, _*_, _≤_, _<_, max};
-ghost use lib.ListN.{length, getD, take};
+ghost use lib.ListN.{length, getD, take, drop};
 ghost use Rattle.memory.specs.Limits.{maxMaskSide};
-ghost use Rattle.labelling.specs.Forests.{Found, United, Joined};
+ghost use Rattle.labelling.specs.Forests.{Found, United, Joined, Kin};
 ghost use Rattle.labelling.specs.InkRuns.{startOf, endOf};
-ghost use Rattle.labelling.specs.Linking.{RunList, Linkable, Joinable, RowLinkable, Skipped, Parented, LinkedOne, LinkedTo, RowEnd, AllLinked};
+ghost use Rattle.labelling.specs.Linking.{RunList, Linkable, Joinable, Skipped, Parented, LinkedOne, RowAhead, RowLinked, AllLinked};
 use crate::words::wide;
+
+// How many runs back a parent is near. One farther off lies in slower memory when the numbering reads it.
+const NEAR: usize = 262144;
 
 // The root of run x; each second parent on the way is passed over from now on.
 pub fn find(parents: &mut [u32], x: usize) -> usize
@@ -85,6 +88,18 @@ fn join_touching(words: &mut [u32], c: usize, w: usize, first: usize, to: usize,
     member
 }
 
+// A run of the class of run k: its parent, unless that is far off; then run k itself.
+fn near_parent(words: &[u32], c: usize, k: usize) -> usize
+    requires { ⌜ (k < c) × (3 * c ≤ length (now words)) × (getD (now words) (2 * c + k) 0 ≤ k) ⌝ }
+    ensures { λ r. ⌜ Kin (drop (2 * c) (now (words .entry))) k r ⌝ }
+{
+    let parent = wide(words[2 * c + k]);
+    if parent + NEAR < k {
+        return k;
+    }
+    parent
+}
+
 // A parent for run j, from the runs of the row above, `first` up to `to`: itself where it touches none of them.
 fn parent_of(words: &mut [u32], c: usize, w: usize, first: usize, to: usize, j: usize) -> usize
     requires { ⌜ Joinable w c (now words) first to j ⌝ }
@@ -93,8 +108,16 @@ fn parent_of(words: &mut [u32], c: usize, w: usize, first: usize, to: usize, j: 
     if to <= first {
         return j;
     }
-    if wide(words[2 * j + 1]) < wide(words[2 * first]) + w {
+    let end = wide(words[2 * j + 1]);
+    if end < wide(words[2 * first]) + w {
         return j;
+    }
+    let next = first + 1;
+    if to <= next {
+        return near_parent(&words[..], c, first);
+    }
+    if end < wide(words[2 * next]) + w {
+        return near_parent(&words[..], c, first);
     }
     join_touching(words, c, w, first, to, j)
 }
@@ -111,32 +134,22 @@ fn link_one(words: &mut [u32], c: usize, w: usize, i: usize, to: usize, j: usize
     first
 }
 
-// Gives the runs of a row, `here` up to `next`, their parents; the runs of the row above are `above` up to `here`.
-fn link_row(words: &mut [u32], c: usize, w: usize, above: usize, here: usize, next: usize)
-    requires { ⌜ RowLinkable w c (now words) above here next ⌝ }
-    ensures { λ _. ⌜ LinkedTo w c (now (words .entry)) (now (words .exit)) next ⌝ }
+// Gives the runs of a row, those from `here` on that start before dot `limit`, their parents, and answers where they end; the runs of the row
+// above are `above` up to `here`.
+fn link_row(words: &mut [u32], c: usize, w: usize, above: usize, here: usize, limit: usize) -> usize
+    requires { ⌜ RowAhead w c limit (now words) above here ⌝ }
+    ensures { λ r. ⌜ RowLinked w c limit (now (words .entry)) (now (words .exit)) here r ⌝ }
 {
     let mut i = above;
     let mut j = here;
-    while j < next {
+    while j < c {
+        if limit <= wide(words[2 * j]) {
+            return j;
+        }
         i = link_one(words, c, w, i, here, j);
         j += 1;
     }
-}
-
-// The first run, from k on, that starts at dot `limit` or later.
-fn row_end(runs: &[u32], c: usize, k: usize, limit: usize) -> usize
-    requires { ⌜ (k ≤ c) × (2 * c ≤ length (now runs)) ⌝ }
-    ensures { λ r. ⌜ RowEnd c k limit (now (runs .entry)) r ⌝ }
-{
-    let mut r = k;
-    while r < c {
-        if limit <= wide(runs[2 * r]) {
-            return r;
-        }
-        r += 1;
-    }
-    r
+    j
 }
 
 // Gives each of the c runs of a plane, w wide and h high, its parent.
@@ -149,8 +162,7 @@ pub fn link_runs(words: &mut [u32], c: usize, w: usize, h: usize)
     let mut base = 0;
     let mut y = 0;
     while y < h {
-        let next = row_end(&words[..], c, here, base + w);
-        link_row(words, c, w, above, here, next);
+        let next = link_row(words, c, w, above, here, base + w);
         above = here;
         here = next;
         base += w;

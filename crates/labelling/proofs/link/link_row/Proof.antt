@@ -1,20 +1,43 @@
 use borrow.Author.Needs.{needs}
-use Prim.Native.Nat.{_-_}
-use Rattle.labelling.proofs.RunLinkLaws.{RowSweep, row-none, row-linkable, row-more, row-done}
+use native.Mathlib.Omega.{arith}
+use Prim.Native.Nat.{_-_, _*_}
+use Rattle.labelling.proofs.RunLinkLaws.{RowWalk, walk-none, walk-room, walk-start, walk-linkable, walk-more, walk-done}
 use Rattle.labelling.proofs.link.link_row.Statement.{statement}
 use Rattle.labelling.proofs.link.link_row.Tie as tie
+use Rattle.labelling.proofs.link.link_row.Reads as reads
+use Rattle.labelling.proofs.link.link_row.Lts as lts
+use Rattle.labelling.proofs.link.link_one.Reads as link-one-reads
+use Rattle.labelling.proofs.words.wide.Reads as wide-reads
 
 abbrev Inv-loop : tie.InvT-loop
-Inv-loop words₀ c w above here next i₀ j₀ words i j = RowSweep w c words₀ words above here next i j
+Inv-loop words₀ c w above here limit i₀ j₀ words i j = RowWalk w c limit words₀ words above here i j
 
 abbrev μ-loop : tie.MeasureT-loop
-μ-loop words₀ c w above here next i₀ j₀ words i j = next - j
+μ-loop words₀ c w above here limit i₀ j₀ words i j = c - j
 
 loop-holds : tie.Need-loop-holds Inv-loop μ-loop
-loop-holds c = row-none ((c .before) .pre)
+loop-holds c = walk-none ((c .before) .pre)
+
+mul-wide : tie.Need-mul-wide Inv-loop μ-loop
+mul-wide c = omega (arith, walk-room ((c .before .loop) .inv))
+
+mul-wide-2 : tie.Need-mul-wide-2 Inv-loop μ-loop
+mul-wide-2 c = omega (arith, walk-room ((c .before .loop) .inv))
+
+slice-read-wide : tie.Need-slice-read-wide Inv-loop μ-loop
+slice-read-wide c = omega (arith, walk-room ((c .before .before .loop) .inv), (c .before .loop-test) .taken)
+
+wide-requires : tie.Need-wide-requires Inv-loop μ-loop
+wide-requires c κs = search needs
+
+same-length : tie.Need-same-length Inv-loop μ-loop
+same-length c = (c .before .before .before .before .loop) .inv .sweep .kept .len
+
+returns : tie.Need-returns Inv-loop μ-loop
+returns c = walk-done ((c .before .before .before .before .loop) .inv) (λ _. omega (arith, (c .if1) .taken, (c .before .wide) .ensures, walk-start ((c .before .before .before .before .loop) .inv) ((c .before .before .before .loop-test) .taken)))
 
 link-one-requires : tie.Need-link-one-requires Inv-loop μ-loop
-link-one-requires c κs = row-linkable ((c .before .before .loop) .inv) ((c .before .loop-test) .taken)
+link-one-requires c κs = walk-linkable ((c .before .before .before .before .before .loop) .inv) ((c .before .before .before .before .loop-test) .taken) (omega (arith, (c .before .if1) .left, (c .before .before .wide) .ensures, walk-start ((c .before .before .before .before .before .loop) .inv) ((c .before .before .before .before .loop-test) .taken)))
 
 add-j : tie.Need-add-j Inv-loop μ-loop
 add-j c = search needs
@@ -23,13 +46,13 @@ loop-less : tie.Need-loop-less Inv-loop μ-loop
 loop-less c = search needs
 
 loop-again : tie.Need-loop-again Inv-loop μ-loop
-loop-again c = row-more ((c .before .before .before .before .before .loop) .inv) ((c .before .before .before .before .loop-test) .taken) ((c .before .before .link-one) .last .0) ((c .before .before .link-one) .result) ((c .before .before .link-one) .ensures)
+loop-again c = walk-more ((c .before .before .before .before .before .before .before .before .loop) .inv) ((c .before .before .before .before .before .before .before .loop-test) .taken) (omega (arith, (c .before .before .before .before .if1) .left, (c .before .before .before .before .before .wide) .ensures, walk-start ((c .before .before .before .before .before .before .before .before .loop) .inv) ((c .before .before .before .before .before .before .before .loop-test) .taken))) ((c .before .before .link-one) .last .0) ((c .before .before .link-one) .result) ((c .before .before .link-one) .ensures)
 
-same-length : tie.Need-same-length Inv-loop μ-loop
-same-length c = (c .before .loop) .inv .kept .len
+same-length-2 : tie.Need-same-length-2 Inv-loop μ-loop
+same-length-2 c = (c .before .loop) .inv .sweep .kept .len
 
-returns : tie.Need-returns Inv-loop μ-loop
-returns c = row-done ((c .before .loop) .inv) ((c .loop-test) .left)
+returns-2 : tie.Need-returns-2 Inv-loop μ-loop
+returns-2 c = walk-done ((c .before .loop) .inv) (λ l. absurd (omega (arith, (c .loop-test) .left)))
 
 pub link-row-spec : {M : Type 1} → statement M
 link-row-spec =
@@ -38,9 +61,15 @@ link-row-spec =
     Inv-loop
     μ-loop
     loop-holds
+    mul-wide
+    mul-wide-2
+    slice-read-wide
+    wide-requires
+    same-length
+    returns
     link-one-requires
     add-j
     loop-less
     loop-again
-    same-length
-    returns)
+    same-length-2
+    returns-2)

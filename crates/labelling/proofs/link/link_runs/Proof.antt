@@ -1,7 +1,7 @@
 use borrow.Author.Needs.{needs}
 use native.Mathlib.Omega.{arith}
 use Prim.Native.Nat.{_-_}
-use Rattle.labelling.proofs.RunLinkLaws.{PlaneSweep, plane-none, plane-linkable, plane-small, plane-more, plane-done}
+use Rattle.labelling.proofs.RunLinkLaws.{PlaneSweep, plane-none, plane-ahead, plane-small, plane-more, plane-done}
 use Rattle.labelling.proofs.link.link_runs.Statement.{statement}
 use Rattle.labelling.proofs.link.link_runs.Tie as tie
 
@@ -14,17 +14,14 @@ abbrev μ-loop : tie.MeasureT-loop
 loop-holds : tie.Need-loop-holds Inv-loop μ-loop
 loop-holds c = plane-none _ _ _ _ ((c .before) .pre .0) ((c .before) .pre .1) ((c .before) .pre .2)
 
-add-row-end : tie.Need-add-row-end Inv-loop μ-loop
-add-row-end c = let h = plane-small ((c .before .before .loop) .inv) in omega (arith, (c .before .before .before .before) .pre .0 .narrow)
-
-row-end-requires : tie.Need-row-end-requires Inv-loop μ-loop
-row-end-requires c κs = search needs
+add-link-row : tie.Need-add-link-row Inv-loop μ-loop
+add-link-row c = let h = plane-small ((c .before .before .loop) .inv) in omega (arith, (c .before .before .before .before) .pre .0 .narrow)
 
 link-row-requires : tie.Need-link-row-requires Inv-loop μ-loop
-link-row-requires c κs = plane-linkable ((c .before .before .before .before .loop) .inv) ((c .before .row-end) .result) ((c .before .row-end) .ensures)
+link-row-requires c κs = plane-ahead ((c .before .before .loop) .inv)
 
 add-base : tie.Need-add-base Inv-loop μ-loop
-add-base c = let h = plane-small ((c .before .before .before .before .before .before .before .loop) .inv) in omega (arith, (c .before .before .before .before .before .before .before .before .before) .pre .0 .narrow)
+add-base c = let h = plane-small ((c .before .before .before .before .before .loop) .inv) in omega (arith, (c .before .before .before .before .before .before .before) .pre .0 .narrow)
 
 add-y : tie.Need-add-y Inv-loop μ-loop
 add-y c = search needs
@@ -33,7 +30,7 @@ loop-less : tie.Need-loop-less Inv-loop μ-loop
 loop-less c = search needs
 
 loop-again : tie.Need-loop-again Inv-loop μ-loop
-loop-again c = plane-more ((c .before .before .before .before .before .before .before .loop) .inv) ((c .before .before .before .before .row-end) .result) ((c .before .before .before .before .row-end) .ensures) ((c .before .before .before .before .before .before .loop-test) .taken) ((c .before .before .link-row) .last .0) ((c .before .before .link-row) .ensures)
+loop-again c = plane-more ((c .before .before .before .before .before .loop) .inv) ((c .before .before .link-row) .result) ((c .before .before .link-row) .ensures .row) ((c .before .before .before .before .loop-test) .taken) ((c .before .before .link-row) .last .0) ((c .before .before .link-row) .ensures .linked)
 
 same-length : tie.Need-same-length Inv-loop μ-loop
 same-length c = (c .before .loop) .inv .kept .len
@@ -48,8 +45,7 @@ link-runs-spec =
     Inv-loop
     μ-loop
     loop-holds
-    add-row-end
-    row-end-requires
+    add-link-row
     link-row-requires
     add-base
     add-y

@@ -2,9 +2,14 @@ use borrow.Author.Needs.{needs}
 use native.Mathlib.Omega.{arith}
 use Prim.Native.Nat.{_+_, _*_}
 use lib.Seq.{getD-take}
-use Rattle.labelling.proofs.RunLinkLaws.{none-above, none-left}
+use Rattle.labelling.proofs.RunLinkLaws.{none-above, none-left, first-down, sweep-kin, sweep-stop, sweep-end}
 use Rattle.labelling.proofs.link.parent_of.Statement.{statement}
 use Rattle.labelling.proofs.link.parent_of.Tie as tie
+use Rattle.labelling.proofs.link.parent_of.Reads as reads
+use Rattle.labelling.proofs.link.parent_of.Lts as lts
+use Rattle.labelling.proofs.link.join_touching.Reads as join-touching-reads
+use Rattle.labelling.proofs.link.near_parent.Reads as near-parent-reads
+use Rattle.labelling.proofs.words.wide.Reads as wide-reads
 
 returns : tie.Need-returns
 returns c = none-above ((c .before .before) .pre) ((c .if1) .taken)
@@ -42,14 +47,50 @@ add-if2 c = omega (arith, (c .wide2) .ensures, (c .before .slice-known3) .given 
 returns-2 : tie.Need-returns-2
 returns-2 c = let u = (c .before .before .before .before .before .before .before) .pre .under in let lk = (c .before .before .before .before .before .if1) .left in none-left ((c .before .before .before .before .before .before .before) .pre) lk (omega (arith, (c .if2) .taken, (c .before .before .before .wide) .ensures, (c .before .wide2) .ensures, getD-take (2 * (c .before .before .before .before .before .before .before) .args .c) ((c .before .before .before .before .before .before .before) .args .words .now) (2 * (c .before .before .before .before .before .before .before) .args .j + 1) 0 (omega arith), getD-take (2 * (c .before .before .before .before .before .before .before) .args .c) ((c .before .before .before .before .before .before .before) .args .words .now) (2 * (c .before .before .before .before .before .before .before) .args .first) 0 (omega arith)))
 
-join-touching-requires : tie.Need-join-touching-requires
-join-touching-requires c κs = let u = (c .before .before .before .before .before .before .before .before) .pre .under in let lk = (c .before .before .before .before .before .before .if1) .left in ((c .before .before .before .before .before .before .before .before) .pre, lk, omega (arith, (c .before .if2) .left, (c .before .before .before .before .wide) .ensures, (c .before .before .wide2) .ensures, getD-take (2 * (c .before .before .before .before .before .before .before .before) .args .c) ((c .before .before .before .before .before .before .before .before) .args .words .now) (2 * (c .before .before .before .before .before .before .before .before) .args .j + 1) 0 (omega arith), getD-take (2 * (c .before .before .before .before .before .before .before .before) .args .c) ((c .before .before .before .before .before .before .before .before) .args .words .now) (2 * (c .before .before .before .before .before .before .before .before) .args .first) 0 (omega arith)))
+add-next : tie.Need-add-next
+add-next c = omega (arith, (c .before .before .before .before .before .before .before) .pre .list .few, (c .before .before .before .before .before .before .before) .pre .list .room, (c .before .before .before .before .before .before .before) .pre .under .high, (c .before .before .before .before .before .before .before) .pre .under .mid, (c .before .before .before .before .before .if1) .left)
+
+near-parent-requires : tie.Need-near-parent-requires
+near-parent-requires c κs = let u = (c .before .before .before .before .before .before .before .before .before) .pre .under in let lk = (c .before .before .before .before .before .before .before .if1) .left in (omega (arith, (c .before .before .before .before .before .before .before .before .before) .pre .list .few, (c .before .before .before .before .before .before .before .before .before) .pre .list .room, (c .before .before .before .before .before .before .before .before .before) .pre .under .high, (c .before .before .before .before .before .before .before .before .before) .pre .under .mid), (c .before .before .before .before .before .before .before .before .before) .pre .list .room, first-down ((c .before .before .before .before .before .before .before .before .before) .pre) lk)
 
 same-length : tie.Need-same-length
-same-length c = (c .before .before .join-touching) .ensures .kept .len
+same-length c = search needs
 
 returns-3 : tie.Need-returns-3
-returns-3 c = (c .before .before .join-touching) .ensures
+returns-3 c = let u = (c .before .before .before .before .before .before .before .before .before .before) .pre .under in let lk = (c .before .before .before .before .before .before .before .before .if1) .left in sweep-end (sweep-kin ((c .before .before .before .before .before .before .before .before .before .before) .pre) lk (omega (arith, (c .before .before .before .if2) .left, (c .before .before .before .before .before .before .wide) .ensures, (c .before .before .before .before .wide2) .ensures, getD-take (2 * (c .before .before .before .before .before .before .before .before .before .before) .args .c) ((c .before .before .before .before .before .before .before .before .before .before) .args .words .now) (2 * (c .before .before .before .before .before .before .before .before .before .before) .args .j + 1) 0 (omega arith), getD-take (2 * (c .before .before .before .before .before .before .before .before .before .before) .args .c) ((c .before .before .before .before .before .before .before .before .before .before) .args .words .now) (2 * (c .before .before .before .before .before .before .before .before .before .before) .args .first) 0 (omega arith))) ((c .near-parent) .result) ((c .near-parent) .ensures)) ((c .before .before .if3) .taken)
+
+mul-wide-5 : tie.Need-mul-wide-5
+mul-wide-5 c = omega (arith, (c .before .before .before .before .before .before .before .before) .pre .list .few, (c .before .before .before .before .before .before .before .before) .pre .list .room, (c .before .before .before .before .before .before .before .before) .pre .under .high, (c .before .before .before .before .before .before .before .before) .pre .under .mid, (c .before .before .before .before .before .before .if1) .left, (c .if3) .left)
+
+mul-wide-6 : tie.Need-mul-wide-6
+mul-wide-6 c = omega (arith, (c .before .before .before .before .before .before .before .before) .pre .list .few, (c .before .before .before .before .before .before .before .before) .pre .list .room, (c .before .before .before .before .before .before .before .before) .pre .under .high, (c .before .before .before .before .before .before .before .before) .pre .under .mid, (c .before .before .before .before .before .before .if1) .left, (c .if3) .left)
+
+slice-read-wide-3 : tie.Need-slice-read-wide-3
+slice-read-wide-3 c = omega (arith, (c .before .before .before .before .before .before .before .before .before) .pre .list .few, (c .before .before .before .before .before .before .before .before .before) .pre .list .room, (c .before .before .before .before .before .before .before .before .before) .pre .under .high, (c .before .before .before .before .before .before .before .before .before) .pre .under .mid, (c .before .before .before .before .before .before .before .if1) .left, (c .before .if3) .left)
+
+wide-requires-3 : tie.Need-wide-requires-3
+wide-requires-3 c κs = search needs
+
+add-if4 : tie.Need-add-if4
+add-if4 c = omega (arith, (c .wide3) .ensures, (c .before .slice-known4) .given (2 * ((c .before .before .before .before .before .before .before .before .before .before) .args .first + 1)), (c .before .before .before .before .before .before .before .before .before .before) .pre .list .narrow)
+
+near-parent-requires-2 : tie.Need-near-parent-requires-2
+near-parent-requires-2 c κs = let u = (c .before .before .before .before .before .before .before .before .before .before .before .before) .pre .under in let lk = (c .before .before .before .before .before .before .before .before .before .before .if1) .left in (omega (arith, (c .before .before .before .before .before .before .before .before .before .before .before .before) .pre .list .few, (c .before .before .before .before .before .before .before .before .before .before .before .before) .pre .list .room, (c .before .before .before .before .before .before .before .before .before .before .before .before) .pre .under .high, (c .before .before .before .before .before .before .before .before .before .before .before .before) .pre .under .mid), (c .before .before .before .before .before .before .before .before .before .before .before .before) .pre .list .room, first-down ((c .before .before .before .before .before .before .before .before .before .before .before .before) .pre) lk)
+
+same-length-2 : tie.Need-same-length-2
+same-length-2 c = search needs
+
+returns-4 : tie.Need-returns-4
+returns-4 c = let u = (c .before .before .before .before .before .before .before .before .before .before .before .before .before) .pre .under in let lk = (c .before .before .before .before .before .before .before .before .before .before .before .if1) .left in let ln = (c .before .before .before .before .before .if3) .left in sweep-stop (sweep-kin ((c .before .before .before .before .before .before .before .before .before .before .before .before .before) .pre) lk (omega (arith, (c .before .before .before .before .before .before .if2) .left, (c .before .before .before .before .before .before .before .before .before .wide) .ensures, (c .before .before .before .before .before .before .before .wide2) .ensures, getD-take (2 * (c .before .before .before .before .before .before .before .before .before .before .before .before .before) .args .c) ((c .before .before .before .before .before .before .before .before .before .before .before .before .before) .args .words .now) (2 * (c .before .before .before .before .before .before .before .before .before .before .before .before .before) .args .j + 1) 0 (omega arith), getD-take (2 * (c .before .before .before .before .before .before .before .before .before .before .before .before .before) .args .c) ((c .before .before .before .before .before .before .before .before .before .before .before .before .before) .args .words .now) (2 * (c .before .before .before .before .before .before .before .before .before .before .before .before .before) .args .first) 0 (omega arith))) ((c .near-parent2) .result) ((c .near-parent2) .ensures)) (omega arith) (omega (arith, (c .before .before .if4) .taken, (c .before .before .before .before .before .before .before .before .before .wide) .ensures, (c .before .before .before .wide3) .ensures, getD-take (2 * (c .before .before .before .before .before .before .before .before .before .before .before .before .before) .args .c) ((c .before .before .before .before .before .before .before .before .before .before .before .before .before) .args .words .now) (2 * (c .before .before .before .before .before .before .before .before .before .before .before .before .before) .args .j + 1) 0 (omega arith), getD-take (2 * (c .before .before .before .before .before .before .before .before .before .before .before .before .before) .args .c) ((c .before .before .before .before .before .before .before .before .before .before .before .before .before) .args .words .now) (2 * ((c .before .before .before .before .before .before .before .before .before .before .before .before .before) .args .first + 1)) 0 (omega arith)))
+
+join-touching-requires : tie.Need-join-touching-requires
+join-touching-requires c κs = let u = (c .before .before .before .before .before .before .before .before .before .before .before .before) .pre .under in let lk = (c .before .before .before .before .before .before .before .before .before .before .if1) .left in ((c .before .before .before .before .before .before .before .before .before .before .before .before) .pre, lk, omega (arith, (c .before .before .before .before .before .if2) .left, (c .before .before .before .before .before .before .before .before .wide) .ensures, (c .before .before .before .before .before .before .wide2) .ensures, getD-take (2 * (c .before .before .before .before .before .before .before .before .before .before .before .before) .args .c) ((c .before .before .before .before .before .before .before .before .before .before .before .before) .args .words .now) (2 * (c .before .before .before .before .before .before .before .before .before .before .before .before) .args .j + 1) 0 (omega arith), getD-take (2 * (c .before .before .before .before .before .before .before .before .before .before .before .before) .args .c) ((c .before .before .before .before .before .before .before .before .before .before .before .before) .args .words .now) (2 * (c .before .before .before .before .before .before .before .before .before .before .before .before) .args .first) 0 (omega arith)))
+
+same-length-3 : tie.Need-same-length-3
+same-length-3 c = (c .before .before .join-touching) .ensures .kept .len
+
+returns-5 : tie.Need-returns-5
+returns-5 c = (c .before .before .join-touching) .ensures
 
 pub parent-of-spec : {M : Type 1} → statement M
 parent-of-spec =
@@ -67,6 +108,18 @@ parent-of-spec =
     wide-requires-2
     add-if2
     returns-2
-    join-touching-requires
+    add-next
+    near-parent-requires
     same-length
-    returns-3)
+    returns-3
+    mul-wide-5
+    mul-wide-6
+    slice-read-wide-3
+    wide-requires-3
+    add-if4
+    near-parent-requires-2
+    same-length-2
+    returns-4
+    join-touching-requires
+    same-length-3
+    returns-5)
