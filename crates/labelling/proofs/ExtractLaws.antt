@@ -315,22 +315,51 @@ module _ {row : List ℕ} {from to base : ℕ} {s₀ s : List ℕ} {at k before 
   sweep-done l =
       record {
         len = S .len;
+        short = let b = S .short in let h = S .high in omega arith;
         read = λ s₁ start R.
             let Q = S .read s₁ start R in
             subst (λ z. RowScan row base s₁ s start k (k % 2) z) (let h = S .high in let e : x ≡ to = omega arith in e)
             (subst (λ z. RowScan row base s₁ s start k z x) (sym (scan-parity Q)) Q);
       }
 
-pub block-long : (row : List ℕ) (from : ℕ) → from + 32 ≤ length row → length (take (from + 32 - from) (drop from row)) ≡ 32
-block-long row from l = let e : from + 32 - from ≡ 32 = omega arith in rw e (length-take-le 32 (drop from row) (simp length-drop (omega arith)))
+-- dots read by a callee
+module _ {row : List ℕ} {from to base : ℕ} {s₀ s : List ℕ} {at k x : ℕ} (S : ScanSweep row from to base s₀ s at k (k % 2) x) (upto : ℕ) (l : x ≤ upto) (h : upto ≤ to) where
+  pub sweep-asks : ScanRoom row x upto base s k
+  sweep-asks =
+      let A = S .asks in
+      let a = A .room in
+      let b = A .dots in
+      let c = A .high in
+      let d = S .short in
+      let n = S .len in
+      let o = S .low in
+      record { low = l; high = omega arith; dots = omega arith; room = omega arith }
+
+  pub sweep-read : (s' : List ℕ) (r : ℕ) → Scanned row x upto base s s' k r → ScanSweep row from to base s₀ s' at r (r % 2) upto
+  sweep-read s' r X =
+      let o = S .low in
+      record {
+        asks = S .asks;
+        len = X .len ∙ S .len;
+        low = omega arith;
+        high = h;
+        short = let b = S .short in let c = X .short in omega arith;
+        read = λ s₁ start R. X .read s₁ start (S .read s₁ start R);
+      }
+
+-- d dots from `from` on, which are counted at once
+module _ (d : ℕ) (row : List ℕ) (from : ℕ) (h : from + d ≤ length row) where
+  pub block-long : length (take (from + d - from) (drop from row)) ≡ d
+  block-long = let e : from + d - from ≡ d = omega arith in rw e (length-take-le d (drop from row) (simp length-drop (omega arith)))
 
 -- a block that is passed over
-pub block-still : (row : List ℕ) (from base : ℕ) (s : List ℕ) (at count : ℕ) → ScanRoom row from (from + 32) base s at
-    → count ≡ countIf (isInk (take (from + 32 - from) (drop from row))) 32 → count ≡ 32 * (at % 2) → Scanned row from (from + 32) base s s at at
-block-still row from base s at count A e c =
+pub block-still : (d : ℕ) (row : List ℕ) (from base : ℕ) (s : List ℕ) (at count : ℕ) → ScanRoom row from (from + d) base s at
+    → count ≡ countIf (isInk (take (from + d - from) (drop from row))) d → count ≡ d * (at % 2) → Scanned row from (from + d) base s s at at
+block-still d row from base s at count A e c =
     record {
       len = refl;
-      read = λ s₁ start R. scan-still R 32 (A .high) (ap (λ z. countIf (isInk (take z (drop from row))) 32) (let q : 32 ≡ from + 32 - from = omega arith in q) ∙ (sym e ∙ c));
+      short = omega arith;
+      read = λ s₁ start R. scan-still R d (A .high) (ap (λ z. countIf (isInk (take z (drop from row))) d) (let q : d ≡ from + d - from = omega arith in q) ∙ (sym e ∙ c));
     }
 
 -- Row by row

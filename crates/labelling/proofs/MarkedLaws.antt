@@ -180,7 +180,7 @@ pub block-passed : {t : Test} {ink : List ℕ} {from base : ℕ} {s : List ℕ} 
 block-passed {t} {ink} {from} {base} {s} {at} {marks} A count e c =
     record {
       len = refl;
-      scanned = block-still (rowPassing t ink (drop marks s) base) from base (take marks s) at count (A .asks) (e ∙ ap (λ z. countIf (isInk z) 32) (sym same)) c;
+      scanned = block-still 32 (rowPassing t ink (drop marks s) base) from base (take marks s) at count (A .asks) (e ∙ ap (λ z. countIf (isInk z) 32) (sym same)) c;
       kept = refl;
     }
   where

@@ -39,9 +39,10 @@ pub record ScanRoom (row : List ℕ) (from to base : ℕ) (s : List ℕ) (at : �
   pub dots : base + to ≤ maxMaskDots
   pub room : at + (to - from) ≤ length s
 
--- they are read
+-- they are read, and no more turns than dots
 pub record Scanned (row : List ℕ) (from to base : ℕ) (s s' : List ℕ) (at r : ℕ) : Type 0 where
   pub len : length s' ≡ length s
+  pub short : r ≤ at + (to - from)
   pub read : (s₀ : List ℕ) (start : ℕ) → RowScan row base s₀ s start at (at % 2) from → RowScan row base s₀ s' start r (r % 2) to
 
 -- the row's turns stand after what stood before `at`, up to r

@@ -1,5 +1,10 @@
 use borrow.Author.Needs.{needs}
-use Prim.Native.Nat.{_-_}
+use native.Mathlib.Omega.{arith}
+use mathlib.Core.Path.{ap, _∙_}
+use Prim.Native.Nat.{_+_, _-_}
+use lib.ListN.{take, drop}
+use Rattle.memory.specs.Lists.{countIf}
+use Rattle.labelling.specs.Labels.{isInk}
 use Rattle.labelling.proofs.ExtractLaws.{block-still, block-long}
 use Rattle.labelling.proofs.runs.scan_block.Statement.{statement}
 use Rattle.labelling.proofs.runs.scan_block.Tie as tie
@@ -17,7 +22,7 @@ part-ink-count-end : tie.Need-part-ink-count-end
 part-ink-count-end c = search needs
 
 ink-count-requires : tie.Need-ink-count-requires
-ink-count-requires c κs = block-long ((c .before .before .before) .args .row .now) ((c .before .before .before) .args .from) ((c .before .before .before) .pre .high)
+ink-count-requires c κs = omega (arith, block-long 32 ((c .before .before .before) .args .row .now) ((c .before .before .before) .args .from) ((c .before .before .before) .pre .high))
 
 cast-if1 : tie.Need-cast-if1
 cast-if1 c = search needs
@@ -26,7 +31,7 @@ mul-if1 : tie.Need-mul-if1
 mul-if1 c = search needs
 
 returns : tie.Need-returns
-returns c = block-still ((c .before .before .before .before .before) .args .row .now) ((c .before .before .before .before .before) .args .from) ((c .before .before .before .before .before) .args .base) ((c .before .before .before .before .before) .args .words .now) ((c .before .before .before .before .before) .args .at) ((c .before .ink-count) .result) ((c .before .before .before .before .before) .pre) ((c .before .ink-count) .ensures) ((c .if1) .taken)
+returns c = block-still 32 ((c .before .before .before .before .before) .args .row .now) ((c .before .before .before .before .before) .args .from) ((c .before .before .before .before .before) .args .base) ((c .before .before .before .before .before) .args .words .now) ((c .before .before .before .before .before) .args .at) ((c .before .ink-count) .result) ((c .before .before .before .before .before) .pre) ((c .before .ink-count) .ensures ∙ ap (countIf (isInk (take ((c .before .before .before .before .before) .args .from + 32 - (c .before .before .before .before .before) .args .from) (drop ((c .before .before .before .before .before) .args .from) ((c .before .before .before .before .before) .args .row .now))))) (block-long 32 ((c .before .before .before .before .before) .args .row .now) ((c .before .before .before .before .before) .args .from) ((c .before .before .before .before .before) .pre .high))) ((c .if1) .taken)
 
 scan-requires : tie.Need-scan-requires
 scan-requires c κs = search needs
