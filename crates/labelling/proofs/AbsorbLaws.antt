@@ -135,3 +135,12 @@ more-dots c f g x x' y l ne ef eg = go (x' - x - 1) (gap-of x x' l ne)
 -- the products that are added fit
 pub between-small : (b z k : ℕ) → b ≤ 131072 → z ≤ k → b * z ≤ 131072 * k
 between-small b z k h l = le-trans (mul-le-mul-right z h) (mul-le-mul-left 131072 l)
+
+-- the sum of the columns of a run: half of its dots times its first and last column
+pub column-half : (x d : ℕ) → suc d * (x + (x + d)) / 2 ≡ columnSum x (suc d)
+column-half x d =
+    let c = columnSum-closed x (suc d) in
+    let m₁ : suc d * (x + (x + d)) ≡ suc d * x + suc d * (x + d) = mul-add (suc d) x (x + d) in
+    let m₂ : suc d * (x + d) ≡ suc d * x + suc d * d = mul-add (suc d) x d in
+    let m₃ : suc d * suc d ≡ suc d * d + suc d = mul-suc (suc d) d in
+    omega arith

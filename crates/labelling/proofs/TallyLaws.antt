@@ -5,6 +5,7 @@ use Prim.Native.Nat.{ℕ, zero, suc, _+_, _-_, _*_, _/_, _%_, _≤_, _<_}
 use native.Mathlib.Nat.{not-suc-le-zero, le-of-suc-le-suc, suc-mul, mod-add-div'}
 use native.Mathlib.Decide.{ℕ-discrete}
 use native.Mathlib.Omega.{arith}
+use borrow.Author.Tests.{lt-ltb, le-ltb}
 use borrow.Rule.Slice.PartMut.{putMid}
 use lib.ListN.{getD, length, set, take, drop, length-append, length-drop, length-set}
 use lib.Seq.{length-take-le, drop-drop, getD-take, getD-drop, sets-eq, take-append-add, drop-append-add, drop-append-seam, ext-getD, getD-set-same, getD-set-other}
@@ -13,7 +14,7 @@ use Rattle.memory.specs.Words.{over}
 use Rattle.memory.specs.Records.{encoded}
 use Rattle.memory.proofs.TableLaws.{length-table, getD-table}
 use Rattle.memory.proofs.RecordLaws.{length-encoded, record-more, record-at}
-use Rattle.labelling.specs.Components.{absorbedRun}
+use Rattle.labelling.specs.Components.{noDots, absorbedRun}
 use Rattle.labelling.specs.RecordWords.{recordWords, recordOf}
 use Rattle.labelling.specs.Tallying.{heldRecord, tallied}
 use Rattle.labelling.specs.declared.component.Component.{Component}
@@ -32,6 +33,16 @@ pub run-tallied : (s : List ℕ) (number count x d y : ℕ) (before after : Comp
 run-tallied s number count x d y before after v eb ea ev =
     nine-put ((number - 1) * 9) s v
     ∙ ap (λ z. take ((number - 1) * 9) s ++ (z ++ drop ((number - 1) * 9 + 9) s)) (ev ∙ ap recordWords (ea ∙ ap (λ z. absorbedRun z x d y) eb))
+
+-- a new record
+pub held-none : (s : List ℕ) (number count : ℕ) → count < number → noDots ≡ heldRecord s number count
+unfolding heldRecord
+held-none s number count l = rw (lt-ltb count number l) refl
+
+-- and one that is there
+pub held-words : (s : List ℕ) (number count : ℕ) → number ≤ count → recordOf (take ((number - 1) * 9 + 9 - (number - 1) * 9) (drop ((number - 1) * 9) s)) ≡ heldRecord s number count
+unfolding heldRecord
+held-words s number count l = rw (le-ltb count number l) (ap recordOf (nine-part ((number - 1) * 9) s))
 
 -- Records in a list of them
 

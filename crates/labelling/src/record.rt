@@ -1,7 +1,11 @@
 // The nine words of a component's record: area, box, the sum of x and the sum of y, the low word of each first.
 ghost use mathlib.Core.Path.{_≡_};
+ghost use Prim.Native.Nat.{_+_, _-_, _≤_, _<_};
 ghost use lib.ListN.{length};
-ghost use Rattle.labelling.specs.RecordWords.{recordWords, recordOf};
+ghost use Rattle.memory.specs.Limits.{maxMaskSide, maxMaskDots};
+ghost use Rattle.labelling.specs.Components.{absorbedRun};
+ghost use Rattle.labelling.specs.RecordWords.{recordWords, recordOf, lowered, raised, longAt, longAdded};
+ghost use Rattle.labelling.specs.Tallying.{Small};
 use crate::component::Component;
 
 // The same number, wider.
@@ -27,18 +31,52 @@ pub fn encode(words: &mut [u32], c: Component)
     words[8] = (c.sum_y / 4294967296) as u32;
 }
 
-// Reads a component's record from nine words.
-pub fn decode(words: &[u32]) -> Component
-    requires { ⌜ length (now words) ≡ 9 ⌝ }
-    ensures { λ r. ⌜ r ≡ recordOf (now (words .entry)) ⌝ }
+// Word i becomes v where that is less. It is stored only then, since most runs lie within the box of their component.
+fn lower(words: &mut [u32], i: usize, v: u32)
+    requires { ⌜ i < length (now words) ⌝ }
+    ensures { λ _. ⌜ now (words .exit) ≡ lowered (now (words .entry)) i v ⌝ }
 {
-    Component {
-        area: words[0],
-        x0: words[1],
-        y0: words[2],
-        x1: words[3],
-        y1: words[4],
-        sum_x: wider(words[5]) + wider(words[6]) * 4294967296,
-        sum_y: wider(words[7]) + wider(words[8]) * 4294967296,
+    if words[i] <= v {
+        return;
     }
+    words[i] = v;
+}
+
+// Word i becomes v where that is greater.
+fn raise(words: &mut [u32], i: usize, v: u32)
+    requires { ⌜ i < length (now words) ⌝ }
+    ensures { λ _. ⌜ now (words .exit) ≡ raised (now (words .entry)) i v ⌝ }
+{
+    if v <= words[i] {
+        return;
+    }
+    words[i] = v;
+}
+
+// Adds to the number whose low word is word i and whose high word is the next.
+fn add_long(words: &mut [u32], i: usize, more: u64)
+    requires { ⌜ (i < 8) × (length (now words) ≡ 9) × (longAt (now words) i + more ≤ 18446744073709551615) ⌝ }
+    ensures { λ _. ⌜ now (words .exit) ≡ longAdded (now (words .entry)) i more ⌝ }
+{
+    let high = i + 1;
+    let sum = wider(words[i]) + wider(words[high]) * 4294967296 + more;
+    words[i] = (sum % 4294967296) as u32;
+    words[high] = (sum / 4294967296) as u32;
+}
+
+// The record in nine words with the dots from column x0 to column x1 of row y more, in its place: what absorb_run gives, with fewer words
+// read and written.
+pub fn absorb_words(words: &mut [u32], x0: u32, x1: u32, y: u32)
+    requires { ⌜ (length (now words) ≡ 9) × (x0 ≤ x1) × (x1 < maxMaskSide) × (y ≤ maxMaskDots) × Small (recordOf (now words)) ⌝ }
+    ensures { λ _. ⌜ now (words .exit) ≡ recordWords (absorbedRun (recordOf (now (words .entry))) x0 (x1 - x0) y) ⌝ }
+{
+    let dots = x1 - x0 + 1;
+    let area = words[0];
+    words[0] = area + dots;
+    lower(words, 1, x0);
+    lower(words, 2, y);
+    raise(words, 3, x1);
+    raise(words, 4, y);
+    add_long(words, 5, wider(dots) * wider(x0 + x1) / 2);
+    add_long(words, 7, wider(dots) * wider(y));
 }

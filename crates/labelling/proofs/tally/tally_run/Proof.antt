@@ -1,13 +1,26 @@
 use borrow.Author.Needs.{needs}
 use native.Mathlib.Omega.{arith}
-use mathlib.Core.Path.{ap}
+use mathlib.Core.Path.{_≡_, refl, sym, ap, _∙_, subst}
 use Prim.Native.Nat.{_-_, _*_}
-use Rattle.labelling.proofs.TallyLaws.{nine-long, run-tallied}
+use Rattle.labelling.specs.Tallying.{Small}
+use Rattle.labelling.proofs.TallyLaws.{nine-long, run-tallied, held-none, held-words}
 use Rattle.labelling.proofs.tally.tally_run.Statement.{statement}
 use Rattle.labelling.proofs.tally.tally_run.Tie as tie
+use Rattle.labelling.proofs.tally.tally_run.Reads as reads
+use Rattle.labelling.proofs.tally.tally_run.Lts as lts
+use Rattle.labelling.proofs.component.Component.absorb_run.Reads as absorb-run-reads
+use Rattle.labelling.proofs.component.Component.none.Reads as none-reads
+use Rattle.labelling.proofs.record.absorb_words.Reads as absorb-words-reads
+use Rattle.labelling.proofs.record.encode.Reads as encode-reads
 
-held-requires : tie.Need-held-requires
-held-requires c κs = search needs
+sub-at : tie.Need-sub-at
+sub-at c = search needs
+
+mul-at : tie.Need-mul-at
+mul-at c = search needs
+
+none-requires : tie.Need-none-requires
+none-requires c κs = search needs
 
 cast-absorb-run : tie.Need-cast-absorb-run
 cast-absorb-run c = search needs
@@ -19,13 +32,7 @@ cast-absorb-run-3 : tie.Need-cast-absorb-run-3
 cast-absorb-run-3 c = search needs
 
 absorb-run-requires : tie.Need-absorb-run-requires
-absorb-run-requires c κs = let p = (c .before .before .before) .pre in let q = p .small in let e = (c .held) .ensures in let e₁ = ap (λ z. z .area) e in let e₂ = ap (λ z. z .«sum_x») e in let e₃ = ap (λ z. z .«sum_y») e in (omega arith, omega arith, omega arith, omega arith, omega arith, omega arith)
-
-sub-at : tie.Need-sub-at
-sub-at c = search needs
-
-mul-at : tie.Need-mul-at
-mul-at c = search needs
+absorb-run-requires c κs = let p = (c .before .before .before) .pre in let e = (c .none) .ensures in let e₁ = ap (λ z. z .area) e in let e₂ = ap (λ z. z .«sum_x») e in let e₃ = ap (λ z. z .«sum_y») e in (omega arith, omega arith, omega arith, omega arith, omega arith, omega arith)
 
 add-encode : tie.Need-add-encode
 add-encode c = search needs
@@ -49,19 +56,52 @@ same-length : tie.Need-same-length
 same-length c = search needs
 
 returns : tie.Need-returns
-returns c = run-tallied ((c .before .before .before .before .before .before .before .before) .args .components .now) ((c .before .before .before .before .before .before .before .before) .args .number) ((c .before .before .before .before .before .before .before .before) .args .count) ((c .before .before .before .before .before .before .before .before) .args .x) ((c .before .before .before .before .before .before .before .before) .args .last - (c .before .before .before .before .before .before .before .before) .args .x) ((c .before .before .before .before .before .before .before .before) .args .y) ((c .before .before .before .before .before .held) .result) ((c .before .before .before .before .absorb-run) .result) ((c .before .before .encode) .last .0) ((c .before .before .before .before .before .held) .ensures) ((c .before .before .before .before .absorb-run) .ensures) ((c .before .before .encode) .ensures)
+returns c = run-tallied ((c .before .before .before .before .before .before .before .before) .args .components .now) ((c .before .before .before .before .before .before .before .before) .args .number) ((c .before .before .before .before .before .before .before .before) .args .count) ((c .before .before .before .before .before .before .before .before) .args .x) ((c .before .before .before .before .before .before .before .before) .args .last - (c .before .before .before .before .before .before .before .before) .args .x) ((c .before .before .before .before .before .before .before .before) .args .y) ((c .before .before .before .before .before .none) .result) ((c .before .before .before .before .absorb-run) .result) ((c .before .before .encode) .last .0) ((c .before .before .before .before .before .none) .ensures ∙ held-none ((c .before .before .before .before .before .before .before .before) .args .components .now) ((c .before .before .before .before .before .before .before .before) .args .number) ((c .before .before .before .before .before .before .before .before) .args .count) ((c .before .before .before .before .before .before .if1) .taken)) ((c .before .before .before .before .absorb-run) .ensures) ((c .before .before .encode) .ensures)
+
+add-absorb-words : tie.Need-add-absorb-words
+add-absorb-words c = search needs
+
+mul-absorb-words : tie.Need-mul-absorb-words
+mul-absorb-words c = search needs
+
+sub-absorb-words : tie.Need-sub-absorb-words
+sub-absorb-words c = search needs
+
+part-absorb-words-start : tie.Need-part-absorb-words-start
+part-absorb-words-start c = search needs
+
+part-absorb-words-end : tie.Need-part-absorb-words-end
+part-absorb-words-end c = search needs
+
+cast-absorb-words : tie.Need-cast-absorb-words
+cast-absorb-words c = search needs
+
+cast-absorb-words-2 : tie.Need-cast-absorb-words-2
+cast-absorb-words-2 c = search needs
+
+cast-absorb-words-3 : tie.Need-cast-absorb-words-3
+cast-absorb-words-3 c = search needs
+
+absorb-words-requires : tie.Need-absorb-words-requires
+absorb-words-requires c κs = let p = (c .before .before .before) .pre in (nine-long (((c .before .before .before) .args .number - 1) * 9) ((c .before .before .before) .args .components .now) (omega arith), omega arith, omega arith, omega arith, subst Small (sym (held-words ((c .before .before .before) .args .components .now) ((c .before .before .before) .args .number) ((c .before .before .before) .args .count) ((c .before .if1) .left))) (p .small))
+
+same-length-2 : tie.Need-same-length-2
+same-length-2 c = search needs
+
+returns-2 : tie.Need-returns-2
+returns-2 c = run-tallied ((c .before .before .before .before .before .before) .args .components .now) ((c .before .before .before .before .before .before) .args .number) ((c .before .before .before .before .before .before) .args .count) ((c .before .before .before .before .before .before) .args .x) ((c .before .before .before .before .before .before) .args .last - (c .before .before .before .before .before .before) .args .x) ((c .before .before .before .before .before .before) .args .y) _ _ ((c .before .before .absorb-words) .last .0) (held-words ((c .before .before .before .before .before .before) .args .components .now) ((c .before .before .before .before .before .before) .args .number) ((c .before .before .before .before .before .before) .args .count) ((c .before .before .before .before .if1) .left)) refl ((c .before .before .absorb-words) .ensures)
 
 pub tally-run-spec : {M : Type 1} → statement M
 tally-run-spec =
     tie.close
     (tie.spec
-    held-requires
+    sub-at
+    mul-at
+    none-requires
     cast-absorb-run
     cast-absorb-run-2
     cast-absorb-run-3
     absorb-run-requires
-    sub-at
-    mul-at
     add-encode
     mul-encode
     sub-encode
@@ -69,4 +109,15 @@ tally-run-spec =
     part-encode-end
     encode-requires
     same-length
-    returns)
+    returns
+    add-absorb-words
+    mul-absorb-words
+    sub-absorb-words
+    part-absorb-words-start
+    part-absorb-words-end
+    cast-absorb-words
+    cast-absorb-words-2
+    cast-absorb-words-3
+    absorb-words-requires
+    same-length-2
+    returns-2)
