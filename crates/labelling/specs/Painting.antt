@@ -1,10 +1,8 @@
 -- What painting asks and gives.
 use mathlib.Core.Path.{_≡_}
-use mathlib.Core.Bool.{cond}
 use mathlib.Core.List.{List, _++_}
 use Prim.Native.Nat.{ℕ, suc, _+_, _*_, _≤_, _<_}
 use lib.ListN.{getD, length, take, drop}
-use lib.Dec.{ltb}
 use Rattle.memory.specs.Lists.{table}
 use Rattle.memory.specs.Limits.{maxMaskDots}
 use Rattle.labelling.specs.InkRuns.{startOf, endOf}
@@ -14,14 +12,12 @@ use Rattle.labelling.specs.Linking.{Order}
 abbrev pub Front : (ℕ → ℕ) → List ℕ → List ℕ → ℕ → Type 0
 Front f l₀ l i = l ≡ table f i ++ drop i l₀
 
--- the values of g, where f has them
-pub record Filled (l l' : List ℕ) (from to : ℕ) (g : ℕ → ℕ) : Type 0 where
+-- the value v from `from` up to `to`, and all else as it was
+pub record Filled (l l' : List ℕ) (from to v : ℕ) : Type 0 where
   pub len : length l' ≡ length l
-  pub front : (f : ℕ → ℕ) (l₀ : List ℕ) → length l₀ ≡ length l → Front f l₀ l from → ((i : ℕ) → from ≤ i → i < to → f i ≡ g i) → Front f l₀ l' to
-
--- 0 up to a run, and its label on it
-abbrev pub runLabels : ℕ → ℕ → ℕ → ℕ
-runLabels start label i = cond (ltb i start) 0 label
+  pub here : (i : ℕ) → from ≤ i → i < to → getD l' i 0 ≡ v
+  pub low : (i : ℕ) → i < from → getD l' i 0 ≡ getD l i 0
+  pub high : (i : ℕ) → to ≤ i → getD l' i 0 ≡ getD l i 0
 
 -- c runs within n dots, with their numbers, and a label for each dot
 pub record Paintable (s : List ℕ) (c : ℕ) (l : List ℕ) (n : ℕ) : Type 0 where

@@ -4,16 +4,19 @@ ghost use Prim.Native.Nat.{_+_, _*_, _/_, _≤_, _<_};
 ghost use lib.ListN.{length};
 ghost use Rattle.memory.specs.Limits.{maxMaskSide, maxMaskDots};
 ghost use Rattle.memory.specs.Words.{over};
-ghost use Rattle.labelling.specs.Painting.{Filled, runLabels, Paintable, Painted};
+ghost use Rattle.labelling.specs.Painting.{Filled, Paintable, Painted};
 ghost use Rattle.labelling.specs.Tallying.{Tallyable, records};
 use crate::tally::larger;
 use crate::tally::tally_run;
 use crate::words::wide;
 
+// How many labels are cleared past a run: so few that they are still in fast memory when the next runs are painted.
+const AHEAD: usize = 1024;
+
 // Writes a value to the labels from `from` up to `to`.
 fn fill(labels: &mut [u32], from: usize, to: usize, value: u32)
     requires { ⌜ (from ≤ to) × (to ≤ length (now labels)) ⌝ }
-    ensures { λ _. ⌜ Filled (now (labels .entry)) (now (labels .exit)) from to (λ _. value) ⌝ }
+    ensures { λ _. ⌜ Filled (now (labels .entry)) (now (labels .exit)) from to value ⌝ }
 {
     let mut i = from;
     while i < to {
@@ -22,24 +25,34 @@ fn fill(labels: &mut [u32], from: usize, to: usize, value: u32)
     }
 }
 
-// The label of dot i: 0 before the run that starts at `start`.
-fn label_from(i: u32, start: u32, label: u32) -> u32
-    ensures { λ r. ⌜ r ≡ runLabels start label i ⌝ }
+// A run's label on its dots, from `start` up to `end`. The first by itself: on a crowded page most runs have no other.
+fn paint_run(labels: &mut [u32], start: usize, end: usize, label: u32)
+    requires { ⌜ (start < end) × (end ≤ length (now labels)) ⌝ }
+    ensures { λ _. ⌜ Filled (now (labels .entry)) (now (labels .exit)) start end label ⌝ }
 {
-    if i < start { 0 } else { label }
+    labels[start] = label;
+    fill(labels, start + 1, end, label);
 }
 
-// Writes 0 to the labels from `from` up to `start`, and a run's label from there up to `end`. One loop for both: most gaps and runs
-// are short, and a loop for each costs more than the test.
-fn paint_run(labels: &mut [u32], from: usize, start: u32, end: usize, label: u32)
-    requires { ⌜ (from ≤ end) × (end ≤ length (now labels)) × (end ≤ maxMaskDots) ⌝ }
-    ensures { λ _. ⌜ Filled (now (labels .entry)) (now (labels .exit)) from end (runLabels start label) ⌝ }
+// Some way past dot `end`, but no further than n.
+fn ahead(end: usize, n: usize) -> usize
+    requires { ⌜ (end ≤ n) × (n ≤ maxMaskDots) ⌝ }
+    ensures { λ r. ⌜ (end ≤ r) × (r ≤ n) ⌝ }
 {
-    let mut i = from;
-    while i < end {
-        labels[i] = label_from(i as u32, start, label);
-        i += 1;
+    if n - end < AHEAD { n } else { end + AHEAD }
+}
+
+// Clears the labels from `clear` on, unless they are cleared up to dot `end` already; answers how far they are then.
+fn clear_ahead(labels: &mut [u32], clear: usize, end: usize, n: usize) -> usize
+    requires { ⌜ (clear ≤ n) × (end ≤ n) × (n ≤ length (now labels)) × (n ≤ maxMaskDots) ⌝ }
+    ensures { λ r. ⌜ (end ≤ r) × (clear ≤ r) × (r ≤ n) × Filled (now (labels .entry)) (now (labels .exit)) clear r 0 ⌝ }
+{
+    if end <= clear {
+        return clear;
     }
+    let to = ahead(end, n);
+    fill(labels, clear, to, 0);
+    to
 }
 
 // How many rows of w dots there are up to that of dot `start`; `rows` are no more than that, and mostly those.
@@ -65,24 +78,23 @@ pub fn paint_runs(
     requires { ⌜ Paintable (now runs) c (now labels) n × Tallyable w c (now runs) (now components) ⌝ }
     ensures { λ _. ⌜ Painted (now (runs .entry)) c (now (labels .entry)) (now (labels .exit)) n × (now (components .exit) ≡ over (records w c (now (runs .entry)) c) (now (components .entry))) ⌝ }
 {
-    let mut done = 0;
+    let mut clear = 0;
     let mut rows = 0;
     let mut count = 0;
     let mut k = 0;
     while k < c {
-        let first = runs[2 * k];
-        let start = wide(first);
+        let start = wide(runs[2 * k]);
         let end = wide(runs[2 * k + 1]);
         let label = runs[2 * c + k];
         let number = wide(label);
-        paint_run(labels, done, first, end, label);
+        clear = clear_ahead(labels, clear, end, n);
+        paint_run(labels, start, end, label);
         rows = rows_through(start, w, rows);
         let y = rows - 1;
         let base = y * w;
         tally_run(components, number, count, start - base, end - base - 1, y);
         count = larger(count, number);
-        done = end;
         k += 1;
     }
-    fill(labels, done, n, 0);
+    fill(labels, clear, n, 0);
 }

@@ -1,6 +1,5 @@
 use borrow.Author.Needs.{needs}
 use native.Mathlib.Omega.{arith}
-use mathlib.Core.Path.{refl}
 use Prim.Native.Nat.{_-_, _≤_}
 use native.Mathlib.Nat.{le-refl}
 use Rattle.labelling.specs.Painting.{Filled}
@@ -9,7 +8,7 @@ use Rattle.labelling.proofs.paint.fill.Statement.{statement}
 use Rattle.labelling.proofs.paint.fill.Tie as tie
 
 abbrev Inv-loop : tie.InvT-loop
-Inv-loop labels₀ from to value i₀ labels i = (from ≤ i) × (i ≤ to) × Filled labels₀ labels from i (λ _. value)
+Inv-loop labels₀ from to value i₀ labels i = (from ≤ i) × (i ≤ to) × Filled labels₀ labels from i value
 
 abbrev μ-loop : tie.MeasureT-loop
 μ-loop labels₀ from to value i₀ labels i = to - i
@@ -30,7 +29,7 @@ loop-less : tie.Need-loop-less Inv-loop μ-loop
 loop-less c = search needs
 
 loop-again : tie.Need-loop-again Inv-loop μ-loop
-loop-again c = (omega arith, omega arith, fill-more ((c .before .before) .args .value) refl ((c .before .loop) .inv .2) ((c .before .loop) .inv .0) (omega (arith, (c .before .before) .pre .1, (c .loop-test) .taken)))
+loop-again c = (omega arith, omega arith, fill-more ((c .before .loop) .inv .2) ((c .before .loop) .inv .0) (omega (arith, (c .before .before) .pre .1, (c .loop-test) .taken)))
 
 same-length : tie.Need-same-length Inv-loop μ-loop
 same-length c = (c .before .loop) .inv .2 .len

@@ -1,61 +1,31 @@
 use borrow.Author.Needs.{needs}
-use native.Mathlib.Omega.{arith}
-use Prim.Native.Nat.{_-_, _≤_}
-use native.Mathlib.Nat.{le-refl}
-use Rattle.labelling.specs.Painting.{Filled, runLabels}
-use Rattle.labelling.proofs.PaintLaws.{fill-none, fill-more, fill-done}
+use mathlib.Core.Path.{_∙_}
+use lib.ListN.{length-set}
+use Rattle.labelling.proofs.PaintLaws.{fill-first}
 use Rattle.labelling.proofs.paint.paint_run.Statement.{statement}
 use Rattle.labelling.proofs.paint.paint_run.Tie as tie
+use Rattle.labelling.proofs.paint.paint_run.Reads as reads
+use Rattle.labelling.proofs.paint.paint_run.Lts as lts
+use Rattle.labelling.proofs.paint.fill.Reads as fill-reads
 
-abbrev Inv-loop : tie.InvT-loop
-Inv-loop labels₀ from start end label i₀ labels i = (from ≤ i) × (i ≤ end) × Filled labels₀ labels from i (runLabels start label)
+mul-labels : tie.Need-mul-labels
+mul-labels c = search needs
 
-abbrev μ-loop : tie.MeasureT-loop
-μ-loop labels₀ from start end label i₀ labels i = end - i
+slice-write-labels : tie.Need-slice-write-labels
+slice-write-labels c = search needs
 
-loop-holds : tie.Need-loop-holds Inv-loop μ-loop
-loop-holds c = (le-refl _, (c .before) .pre .0, fill-none _ _ _)
+add-fill : tie.Need-add-fill
+add-fill c = search needs
 
-cast-label-from : tie.Need-cast-label-from Inv-loop μ-loop
-cast-label-from c = omega (arith, (c .before .before .before) .pre .2, (c .loop-test) .taken)
+fill-requires : tie.Need-fill-requires
+fill-requires c κs = search needs
 
-label-from-requires : tie.Need-label-from-requires Inv-loop μ-loop
-label-from-requires c κs = search needs
+same-length : tie.Need-same-length
+same-length c = simp length-set at ((c .before .before .fill) .ensures .len)
 
-mul-labels : tie.Need-mul-labels Inv-loop μ-loop
-mul-labels c = omega (arith, (c .before .before .before .before) .pre .1)
-
-slice-write-labels : tie.Need-slice-write-labels Inv-loop μ-loop
-slice-write-labels c = omega (arith, (c .before .before .before .before) .pre .1, (c .before .before .loop) .inv .2 .len)
-
-add-i : tie.Need-add-i Inv-loop μ-loop
-add-i c = search needs
-
-loop-less : tie.Need-loop-less Inv-loop μ-loop
-loop-less c = search needs
-
-loop-again : tie.Need-loop-again Inv-loop μ-loop
-loop-again c = (omega arith, omega arith, fill-more ((c .label-from) .result) ((c .label-from) .ensures) ((c .before .before .loop) .inv .2) ((c .before .before .loop) .inv .0) (omega (arith, (c .before .before .before .before) .pre .1, (c .before .loop-test) .taken)))
-
-same-length : tie.Need-same-length Inv-loop μ-loop
-same-length c = (c .before .loop) .inv .2 .len
-
-returns : tie.Need-returns Inv-loop μ-loop
-returns c = fill-done ((c .before .loop) .inv .2) ((c .before .loop) .inv .1) ((c .loop-test) .left)
+returns : tie.Need-returns
+returns c = fill-first ((c .before .before .before .before .before) .pre .0) ((c .before .before .before .before .before) .pre .1) ((c .before .before .fill) .ensures)
 
 pub paint-run-spec : {M : Type 1} → statement M
 paint-run-spec =
-    tie.close
-    (tie.spec
-    Inv-loop
-    μ-loop
-    loop-holds
-    cast-label-from
-    label-from-requires
-    mul-labels
-    slice-write-labels
-    add-i
-    loop-less
-    loop-again
-    same-length
-    returns)
+    tie.close (tie.spec mul-labels slice-write-labels add-fill fill-requires same-length returns)
