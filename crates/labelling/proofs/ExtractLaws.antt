@@ -311,13 +311,6 @@ module _ {row : List ℕ} {from to base : ℕ} {s₀ s : List ℕ} {at k before 
         read = λ s₁ start R. scan-more (S .read s₁ start R) (let h = S .asks .high in omega arith) here turn eh et;
       }
 
-  -- one dot, read by a callee
-  pub sweep-mark : x < to → (here : ℕ) → here ≡ cond (eqb (getD row x 0) 0) 0 1 → (s' : List ℕ) (r : ℕ) → (r ≡ k + cond (eqb before here) 0 1) × (s' ≡ set s k (base + x))
-      → ScanSweep row from to base s₀ s' at r here (x + 1)
-  sweep-mark l here eh s' r e =
-      subst (λ z. ScanSweep row from to base s₀ z at r here (x + 1)) (sym (e .1))
-      (subst (λ z. ScanSweep row from to base s₀ (set s k (base + x)) at z here (x + 1)) (sym (e .0)) (sweep-more l here (cond (eqb before here) 0 1) eh refl))
-
   pub sweep-done : to ≤ x → Scanned row from to base s₀ s at k
   sweep-done l =
       record {

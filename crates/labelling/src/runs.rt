@@ -1,11 +1,10 @@
 // Runs of ink, row by row: for each run the dot where it starts and the dot after its last, as two words; the end of a row ends a run.
 ghost use mathlib.Core.Path.{_≡_};
 ghost use mathlib.Core.Bool.{cond};
-ghost use Prim.Native.Nat.{_+_, _≤_, _<_};
-ghost use lib.ListN.{length, set};
+ghost use Prim.Native.Nat.{_+_, _≤_};
+ghost use lib.ListN.{length};
 ghost use lib.Dec.{eqb};
 ghost use Rattle.memory.specs.Lists.{countIf};
-ghost use Rattle.memory.specs.Limits.{maxMaskDots};
 ghost use Rattle.labelling.specs.Labels.{isInk};
 ghost use Rattle.labelling.specs.Extraction.{ScanRoom, Scanned, RowRoom, RowExtracted, PlaneRoom, Extracted};
 
@@ -62,54 +61,6 @@ fn scan(row: &[u8], from: usize, to: usize, base: usize, words: &mut [u32], at: 
     k
 }
 
-// Writes a dot to word k, and answers where the next turn goes: one further where the dot is not as the one before.
-fn mark(words: &mut [u32], k: usize, dot: usize, before: u8, here: u8) -> usize
-    requires { ⌜ (k < length (now words)) × (dot ≤ maxMaskDots) ⌝ }
-    ensures { λ r. ⌜ (r ≡ k + cond (eqb before here) 0 1) × (now (words .exit) ≡ set (now (words .entry)) k dot) ⌝ }
-{
-    words[k] = dot as u32;
-    k + turn_of(before, here)
-}
-
-// The same as scan for the four dots from x on, without a loop.
-fn scan_four(row: &[u8], x: usize, base: usize, words: &mut [u32], at: usize) -> usize
-    requires { ⌜ ScanRoom (now row) x (x + 4) base (now words) at ⌝ }
-    ensures { λ r. ⌜ Scanned (now (row .entry)) x (x + 4) base (now (words .entry)) (now (words .exit)) at r ⌝ }
-{
-    let second = x + 1;
-    let third = second + 1;
-    let fourth = third + 1;
-    let a = ink_of(row[x]);
-    let b = ink_of(row[second]);
-    let c = ink_of(row[third]);
-    let d = ink_of(row[fourth]);
-    let k = mark(words, at, base + x, (at % 2) as u8, a);
-    let l = mark(words, k, base + second, a, b);
-    let m = mark(words, l, base + third, b, c);
-    mark(words, m, base + fourth, c, d)
-}
-
-// The same for the dots `from` up to `to`, by fours.
-fn scan_fours(
-    row: &[u8],
-    from: usize,
-    to: usize,
-    base: usize,
-    words: &mut [u32],
-    at: usize,
-) -> usize
-    requires { ⌜ ScanRoom (now row) from to base (now words) at ⌝ }
-    ensures { λ r. ⌜ Scanned (now (row .entry)) from to base (now (words .entry)) (now (words .exit)) at r ⌝ }
-{
-    let mut k = at;
-    let mut x = from;
-    while 4 <= to - x {
-        k = scan_four(row, x, base, words, k);
-        x += 4;
-    }
-    scan(row, x, to, base, words, k)
-}
-
 // The same for a block of 32 dots, which has no turns where its dots are all as the one before.
 fn scan_block(row: &[u8], from: usize, base: usize, words: &mut [u32], at: usize) -> usize
     requires { ⌜ ScanRoom (now row) from (from + 32) base (now words) at ⌝ }
@@ -119,18 +70,11 @@ fn scan_block(row: &[u8], from: usize, base: usize, words: &mut [u32], at: usize
     if ink_count(&row[from..to]) as usize == BLOCK * (at % 2) {
         return at;
     }
-    scan_fours(row, from, to, base, words, at)
+    scan(row, from, to, base, words, at)
 }
 
 // The same for the dots `from` up to `to`, block by block.
-fn scan_blocks(
-    row: &[u8],
-    from: usize,
-    to: usize,
-    base: usize,
-    words: &mut [u32],
-    at: usize,
-) -> usize
+fn scan_blocks(row: &[u8], from: usize, to: usize, base: usize, words: &mut [u32], at: usize) -> usize
     requires { ⌜ ScanRoom (now row) from to base (now words) at ⌝ }
     ensures { λ r. ⌜ Scanned (now (row .entry)) from to base (now (words .entry)) (now (words .exit)) at r ⌝ }
 {

@@ -33,14 +33,14 @@ mul-if1 c = search needs
 returns : tie.Need-returns
 returns c = block-still 32 ((c .before .before .before .before .before) .args .row .now) ((c .before .before .before .before .before) .args .from) ((c .before .before .before .before .before) .args .base) ((c .before .before .before .before .before) .args .words .now) ((c .before .before .before .before .before) .args .at) ((c .before .ink-count) .result) ((c .before .before .before .before .before) .pre) ((c .before .ink-count) .ensures ∙ ap (countIf (isInk (take ((c .before .before .before .before .before) .args .from + 32 - (c .before .before .before .before .before) .args .from) (drop ((c .before .before .before .before .before) .args .from) ((c .before .before .before .before .before) .args .row .now))))) (block-long 32 ((c .before .before .before .before .before) .args .row .now) ((c .before .before .before .before .before) .args .from) ((c .before .before .before .before .before) .pre .high))) ((c .if1) .taken)
 
-scan-fours-requires : tie.Need-scan-fours-requires
-scan-fours-requires c κs = search needs
+scan-requires : tie.Need-scan-requires
+scan-requires c κs = search needs
 
 same-length : tie.Need-same-length
 same-length c = search needs
 
 returns-2 : tie.Need-returns-2
-returns-2 c = (c .before .before .scan-fours) .ensures
+returns-2 c = (c .before .before .scan) .ensures
 
 pub scan-block-spec : {M : Type 1} → statement M
 scan-block-spec =
@@ -54,6 +54,6 @@ scan-block-spec =
     cast-if1
     mul-if1
     returns
-    scan-fours-requires
+    scan-requires
     same-length
     returns-2)
