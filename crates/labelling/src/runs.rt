@@ -74,7 +74,14 @@ fn scan_block(row: &[u8], from: usize, base: usize, words: &mut [u32], at: usize
 }
 
 // The same for the dots `from` up to `to`, block by block.
-fn scan_blocks(row: &[u8], from: usize, to: usize, base: usize, words: &mut [u32], at: usize) -> usize
+fn scan_blocks(
+    row: &[u8],
+    from: usize,
+    to: usize,
+    base: usize,
+    words: &mut [u32],
+    at: usize,
+) -> usize
     requires { ⌜ ScanRoom (now row) from to base (now words) at ⌝ }
     ensures { λ r. ⌜ Scanned (now (row .entry)) from to base (now (words .entry)) (now (words .exit)) at r ⌝ }
 {

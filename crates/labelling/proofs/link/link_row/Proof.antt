@@ -4,10 +4,6 @@ use Prim.Native.Nat.{_-_, _*_}
 use Rattle.labelling.proofs.RunLinkLaws.{RowWalk, walk-none, walk-room, walk-start, walk-linkable, walk-more, walk-done}
 use Rattle.labelling.proofs.link.link_row.Statement.{statement}
 use Rattle.labelling.proofs.link.link_row.Tie as tie
-use Rattle.labelling.proofs.link.link_row.Reads as reads
-use Rattle.labelling.proofs.link.link_row.Lts as lts
-use Rattle.labelling.proofs.link.link_one.Reads as link-one-reads
-use Rattle.labelling.proofs.words.wide.Reads as wide-reads
 
 abbrev Inv-loop : tie.InvT-loop
 Inv-loop words₀ c w above here limit i₀ j₀ words i j = RowWalk w c limit words₀ words above here i j

@@ -5,9 +5,6 @@ use Prim.Native.Nat.{_+_, _*_}
 use Rattle.labelling.proofs.RunLinkLaws.{kin-parent, kin-self}
 use Rattle.labelling.proofs.link.near_parent.Statement.{statement}
 use Rattle.labelling.proofs.link.near_parent.Tie as tie
-use Rattle.labelling.proofs.link.near_parent.Reads as reads
-use Rattle.labelling.proofs.link.near_parent.Lts as lts
-use Rattle.labelling.proofs.words.wide.Reads as wide-reads
 
 mul-wide : tie.Need-mul-wide
 mul-wide c = search needs

@@ -5,11 +5,6 @@ use lib.Seq.{getD-take}
 use Rattle.labelling.proofs.RunLinkLaws.{none-above, none-left, first-down, sweep-kin, sweep-stop, sweep-end}
 use Rattle.labelling.proofs.link.parent_of.Statement.{statement}
 use Rattle.labelling.proofs.link.parent_of.Tie as tie
-use Rattle.labelling.proofs.link.parent_of.Reads as reads
-use Rattle.labelling.proofs.link.parent_of.Lts as lts
-use Rattle.labelling.proofs.link.join_touching.Reads as join-touching-reads
-use Rattle.labelling.proofs.link.near_parent.Reads as near-parent-reads
-use Rattle.labelling.proofs.words.wide.Reads as wide-reads
 
 returns : tie.Need-returns
 returns c = none-above ((c .before .before) .pre) ((c .if1) .taken)

@@ -4,9 +4,6 @@ use lib.ListN.{length-set}
 use Rattle.labelling.proofs.PaintLaws.{fill-first}
 use Rattle.labelling.proofs.paint.paint_run.Statement.{statement}
 use Rattle.labelling.proofs.paint.paint_run.Tie as tie
-use Rattle.labelling.proofs.paint.paint_run.Reads as reads
-use Rattle.labelling.proofs.paint.paint_run.Lts as lts
-use Rattle.labelling.proofs.paint.fill.Reads as fill-reads
 
 mul-labels : tie.Need-mul-labels
 mul-labels c = search needs

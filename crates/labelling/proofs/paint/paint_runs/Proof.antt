@@ -10,15 +10,6 @@ use Rattle.labelling.proofs.PaintLaws.{PaintSweep, paint-none, paint-cl
 use Rattle.labelling.proofs.RecordSweepLaws.{TallySweep, tally-none, tally-words, tally-asks, tally-more, tally-long, tally-done, row-base, row-columns, rows-next}
 use Rattle.labelling.proofs.paint.paint_runs.Statement.{statement}
 use Rattle.labelling.proofs.paint.paint_runs.Tie as tie
-use Rattle.labelling.proofs.paint.paint_runs.Reads as reads
-use Rattle.labelling.proofs.paint.paint_runs.Lts as lts
-use Rattle.labelling.proofs.paint.clear_ahead.Reads as clear-ahead-reads
-use Rattle.labelling.proofs.paint.fill.Reads as fill-reads
-use Rattle.labelling.proofs.paint.paint_run.Reads as paint-run-reads
-use Rattle.labelling.proofs.paint.rows_through.Reads as rows-through-reads
-use Rattle.labelling.proofs.tally.larger.Reads as larger-reads
-use Rattle.labelling.proofs.tally.tally_run.Reads as tally-run-reads
-use Rattle.labelling.proofs.words.wide.Reads as wide-reads
 
 abbrev Inv-loop : tie.InvT-loop
 Inv-loop runs c w labels₀ n components₀ clear₀ rows₀ count₀ k₀ labels components clear rows count k = PaintSweep runs c labels₀ labels n k clear × TallySweep w c runs components₀ components k count × (k < c → rows * w ≤ startOf (take (2 * c) runs) k + w)

@@ -5,15 +5,8 @@ use Prim.Native.Nat.{_+_, _-_, _*_, _/_, _^_}
 use lib.ListN.{getD, length, length-set}
 use Rattle.labelling.proofs.AbsorbLaws.{between-small}
 use Rattle.labelling.proofs.NineLaws.{box-long, sum-first, sum-long, sum-second, nine-absorbed, nine-run}
-
 use Rattle.labelling.proofs.record.absorb_words.Statement.{statement}
 use Rattle.labelling.proofs.record.absorb_words.Tie as tie
-use Rattle.labelling.proofs.record.absorb_words.Reads as reads
-use Rattle.labelling.proofs.record.absorb_words.Lts as lts
-use Rattle.labelling.proofs.record.add_long.Reads as add-long-reads
-use Rattle.labelling.proofs.record.lower.Reads as lower-reads
-use Rattle.labelling.proofs.record.raise.Reads as raise-reads
-use Rattle.labelling.proofs.record.wider.Reads as wider-reads
 
 sub-dots : tie.Need-sub-dots
 sub-dots c = search needs

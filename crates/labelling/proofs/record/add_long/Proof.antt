@@ -6,9 +6,6 @@ use lib.ListN.{set, length-set}
 use Rattle.labelling.specs.RecordWords.{longAt}
 use Rattle.labelling.proofs.record.add_long.Statement.{statement}
 use Rattle.labelling.proofs.record.add_long.Tie as tie
-use Rattle.labelling.proofs.record.add_long.Reads as reads
-use Rattle.labelling.proofs.record.add_long.Lts as lts
-use Rattle.labelling.proofs.record.wider.Reads as wider-reads
 
 add-high : tie.Need-add-high
 add-high c = search needs

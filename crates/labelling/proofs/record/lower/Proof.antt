@@ -6,8 +6,6 @@ use lib.ListN.{getD, set}
 use lib.Seq.{set-getD}
 use Rattle.labelling.proofs.record.lower.Statement.{statement}
 use Rattle.labelling.proofs.record.lower.Tie as tie
-use Rattle.labelling.proofs.record.lower.Reads as reads
-use Rattle.labelling.proofs.record.lower.Lts as lts
 
 mul-if1 : tie.Need-mul-if1
 mul-if1 c = search needs

@@ -6,8 +6,6 @@ use lib.ListN.{getD, set}
 use lib.Seq.{set-getD}
 use Rattle.labelling.proofs.record.raise.Statement.{statement}
 use Rattle.labelling.proofs.record.raise.Tie as tie
-use Rattle.labelling.proofs.record.raise.Reads as reads
-use Rattle.labelling.proofs.record.raise.Lts as lts
 
 mul-if1 : tie.Need-mul-if1
 mul-if1 c = search needs

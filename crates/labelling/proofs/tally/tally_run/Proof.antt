@@ -6,12 +6,6 @@ use Rattle.labelling.specs.Tallying.{Small}
 use Rattle.labelling.proofs.TallyLaws.{nine-long, run-tallied, held-none, held-words}
 use Rattle.labelling.proofs.tally.tally_run.Statement.{statement}
 use Rattle.labelling.proofs.tally.tally_run.Tie as tie
-use Rattle.labelling.proofs.tally.tally_run.Reads as reads
-use Rattle.labelling.proofs.tally.tally_run.Lts as lts
-use Rattle.labelling.proofs.component.Component.absorb_run.Reads as absorb-run-reads
-use Rattle.labelling.proofs.component.Component.none.Reads as none-reads
-use Rattle.labelling.proofs.record.absorb_words.Reads as absorb-words-reads
-use Rattle.labelling.proofs.record.encode.Reads as encode-reads
 
 sub-at : tie.Need-sub-at
 sub-at c = search needs
