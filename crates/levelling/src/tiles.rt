@@ -14,8 +14,10 @@ ghost use Rattle.levelling.specs.Moves.{PartFits, MovesPart, partly, orR
 // The columns of a tile, and the most frame rows that one tile goes to at a time: more are slow to store to, which was measured.
 const TILE: usize = 1024;
 
-// The dots of a block.
+// The dots of a block, and of a piece of one: what is blank is found by its known length, without a loop.
 const BLOCK: usize = 64;
+
+const PIECE: usize = 8;
 
 // A page plane moved into the frame, tile by tile.
 pub fn level_by_tiles(
@@ -93,22 +95,38 @@ fn move_part(
     ensures { λ _. ⌜ MovesPart «page_w» (now (shear .entry)) (now («shear_x» .entry)) w fill (now (page .entry)) y c n (now (out .entry)) (now (out .exit)) ⌝ }
 {
     let mut i = 0;
-    while i < n {
-        let m = block_dots(n - i);
-        move_block(page, fill, page_w, shear, shear_x, w, y, c + i, m, out);
-        i += m;
+    while BLOCK <= n - i {
+        move_block(page, fill, page_w, shear, shear_x, w, y, c + i, out);
+        i += BLOCK;
     }
+    move_dots(page, fill, page_w, shear, shear_x, w, y, c + i, n - i, out);
 }
 
-// The dots of the next block, of those that are left.
-fn block_dots(left: usize) -> usize
-    ensures { λ r. ⌜ (r ≤ left) × (0 < left → 0 < r) ⌝ }
-{
-    if left < BLOCK { left } else { BLOCK }
-}
-
-// A block of n dots of page row y, from column c on. Where all are as added dots are, they lie at their places already.
+// A block of page row y, from column c on. Where all its dots are as added dots are, they lie at their places already.
 fn move_block(
+    page: &[u8],
+    fill: u8,
+    page_w: usize,
+    shear: &[u32],
+    shear_x: &[u32],
+    w: usize,
+    y: usize,
+    c: usize,
+    out: &mut [u8],
+)
+    requires { ⌜ PartFits «page_w» (now shear) (now «shear_x») w (now page) (now out) y c 64 ⌝ }
+    ensures { λ _. ⌜ MovesPart «page_w» (now (shear .entry)) (now («shear_x» .entry)) w fill (now (page .entry)) y c 64 (now (out .entry)) (now (out .exit)) ⌝ }
+{
+    let from = y * page_w + c;
+    let to = from + BLOCK;
+    if all_equal(&page[from..to], fill) {
+        return;
+    }
+    move_pieces(page, fill, page_w, shear, shear_x, w, y, c, BLOCK, out);
+}
+
+// n dots of page row y, from column c on, piece by piece.
+fn move_pieces(
     page: &[u8],
     fill: u8,
     page_w: usize,
@@ -123,12 +141,35 @@ fn move_block(
     requires { ⌜ PartFits «page_w» (now shear) (now «shear_x») w (now page) (now out) y c n ⌝ }
     ensures { λ _. ⌜ MovesPart «page_w» (now (shear .entry)) (now («shear_x» .entry)) w fill (now (page .entry)) y c n (now (out .entry)) (now (out .exit)) ⌝ }
 {
+    let mut i = 0;
+    while PIECE <= n - i {
+        move_piece(page, fill, page_w, shear, shear_x, w, y, c + i, out);
+        i += PIECE;
+    }
+    move_dots(page, fill, page_w, shear, shear_x, w, y, c + i, n - i, out);
+}
+
+// A piece of a block, in the same way.
+fn move_piece(
+    page: &[u8],
+    fill: u8,
+    page_w: usize,
+    shear: &[u32],
+    shear_x: &[u32],
+    w: usize,
+    y: usize,
+    c: usize,
+    out: &mut [u8],
+)
+    requires { ⌜ PartFits «page_w» (now shear) (now «shear_x») w (now page) (now out) y c 8 ⌝ }
+    ensures { λ _. ⌜ MovesPart «page_w» (now (shear .entry)) (now («shear_x» .entry)) w fill (now (page .entry)) y c 8 (now (out .entry)) (now (out .exit)) ⌝ }
+{
     let from = y * page_w + c;
-    let to = from + n;
+    let to = from + PIECE;
     if all_equal(&page[from..to], fill) {
         return;
     }
-    move_dots(page, fill, page_w, shear, shear_x, w, y, c, n, out);
+    move_dots(page, fill, page_w, shear, shear_x, w, y, c, PIECE, out);
 }
 
 // n dots of page row y, from column c on, each to its place where it is not as added dots are.

@@ -51,21 +51,21 @@ add-to c = let e = c in
     let l = stretch-inside (a .page .now) (a .fill) (a .page-w) (a .page-h) (a .r) (a .s) (a .c) (length (a .out .now)) (e .if2 .left) (p .pre .1) (p .pre .0) in
     omega arith
 
-sub-copy-bytes : tie.Need-sub-copy-bytes
-sub-copy-bytes c = search needs
+sub-copy-columns : tie.Need-sub-copy-columns
+sub-copy-columns c = search needs
 
-part-copy-bytes-start : tie.Need-part-copy-bytes-start
-part-copy-bytes-start c = search needs
+part-copy-columns-start : tie.Need-part-copy-columns-start
+part-copy-columns-start c = search needs
 
-part-copy-bytes-end : tie.Need-part-copy-bytes-end
-part-copy-bytes-end c = let e = c .before in
+part-copy-columns-end : tie.Need-part-copy-columns-end
+part-copy-columns-end c = let e = c .before in
     let p = e .before .before .before .before in
     let a = p .args in
     let l = stretch-inside (a .page .now) (a .fill) (a .page-w) (a .page-h) (a .r) (a .s) (a .c) (length (a .out .now)) (e .if2 .left) (p .pre .1) (p .pre .0) in
     omega arith
 
-copy-bytes-requires : tie.Need-copy-bytes-requires
-copy-bytes-requires c κs = search needs
+copy-columns-requires : tie.Need-copy-columns-requires
+copy-columns-requires c κs = search needs
 
 same-length-3 : tie.Need-same-length-3
 same-length-3 c = search needs
@@ -75,7 +75,7 @@ returns-3 c = let f = c .before .before in
     let e = f .before .before .before in
     let p = e .before .before .before .before in
     let a = p .args in
-    f .copy-bytes .ensures ∙ stretch-copied (a .page .now) (a .fill) (a .page-w) (a .page-h) (a .r) (a .s) (a .c) (length (a .out .now)) (a .out .now) (e .before .if1 .left) (e .if2 .left) (p .pre .1) (p .pre .0) refl
+    f .copy-columns .ensures ∙ stretch-copied (a .page .now) (a .fill) (a .page-w) (a .page-h) (a .r) (a .s) (a .c) (length (a .out .now)) (a .out .now) (e .before .if1 .left) (e .if2 .left) (p .pre .1) (p .pre .0) refl
 
 pub level-stretch-spec : {M : Type 1} → statement M
 level-stretch-spec =
@@ -90,9 +90,9 @@ level-stretch-spec =
     mul-from
     add-from
     add-to
-    sub-copy-bytes
-    part-copy-bytes-start
-    part-copy-bytes-end
-    copy-bytes-requires
+    sub-copy-columns
+    part-copy-columns-start
+    part-copy-columns-end
+    copy-columns-requires
     same-length-3
     returns-3)

@@ -34,17 +34,17 @@ returns c = let e = c .before in
     let a = q .args in
     λ page-h done s ly fits b.
     b
-    ∙ part-skipped (a .page-w) page-h (a .shear .now) (a .shear-x .now) (a .w) (length (a .shear-x .now)) (a .fill) (a .page .now) (a .out .now) fits done s (a .y) (a .c) (a .n) ly (omega (arith, q .pre .columns, fits .columns))
-    (part-all (a .page .now) (a .fill) (a .y * a .page-w) (a .c) (a .n) (omega (arith, q .pre .dots)) (e .all-equal .ensures (c .if1 .taken)))
+    ∙ part-skipped (a .page-w) page-h (a .shear .now) (a .shear-x .now) (a .w) (length (a .shear-x .now)) (a .fill) (a .page .now) (a .out .now) fits done s (a .y) (a .c) 64 ly (omega (arith, q .pre .columns, fits .columns))
+    (part-all (a .page .now) (a .fill) (a .y * a .page-w) (a .c) 64 (omega (arith, q .pre .dots)) (e .all-equal .ensures (c .if1 .taken)))
 
-move-dots-requires : tie.Need-move-dots-requires
-move-dots-requires c κs = search needs
+move-pieces-requires : tie.Need-move-pieces-requires
+move-pieces-requires c κs = search needs
 
 same-length : tie.Need-same-length
 same-length c = search needs
 
 returns-2 : tie.Need-returns-2
-returns-2 c = c .before .before .move-dots .ensures
+returns-2 c = c .before .before .move-pieces .ensures
 
 pub move-block-spec : {M : Type 1} → statement M
 move-block-spec =
@@ -58,6 +58,6 @@ move-block-spec =
     part-all-equal-end
     all-equal-requires
     returns
-    move-dots-requires
+    move-pieces-requires
     same-length
     returns-2)

@@ -1,9 +1,9 @@
-use mathlib.Core.Path.{_≡_, refl, _∙_, subst}
+use mathlib.Core.Path.{_≡_, refl, ap, _∙_}
 use Prim.Native.Nat.{_+_, _-_, _*_, _≤_, zero-le}
 use native.Mathlib.Omega.{arith}
-use borrow.Author.Needs.{needs}
 use lib.ListN.{length}
-use Rattle.levelling.specs.Moves.{MovesPart, orRange}
+use Rattle.levelling.specs.Frames.{frameOf}
+use Rattle.levelling.specs.Moves.{MovesPart, partly, orRange}
 use Rattle.levelling.proofs.TileLaws.{part-none, part-joined, fits-again}
 use Rattle.levelling.proofs.tiles.move_part.Statement.{statement}
 use Rattle.levelling.proofs.tiles.move_part.Tie as tie
@@ -18,23 +18,18 @@ loop-holds : tie.Need-loop-holds Inv-loop μ-loop
 loop-holds c = let a = c .before .before .before .before .args in
     (zero-le, (λ page-h done s l fits e. e ∙ part-none (a .page-w) page-h (a .shear .now) (a .shear-x .now) (a .w) (length (a .shear-x .now)) (a .fill) (a .page .now) (a .out .now) fits done s (a .y) (a .c)), refl)
 
-sub-block-dots : tie.Need-sub-block-dots Inv-loop μ-loop
-sub-block-dots c = omega arith
-
-block-dots-requires : tie.Need-block-dots-requires Inv-loop μ-loop
-block-dots-requires c κs = search needs
+sub-loop : tie.Need-sub-loop Inv-loop μ-loop
+sub-loop c = omega arith
 
 add-move-block : tie.Need-add-move-block Inv-loop μ-loop
-add-move-block c = let q = c .before .before .before .before .before .before .before in
+add-move-block c = let q = c .before .before .before .before .before .before in
     omega (arith, q .pre .columns)
 
 move-block-requires : tie.Need-move-block-requires Inv-loop μ-loop
-move-block-requires c κs = let t = c .before in
-    let p = t .before .before in
-    let q = p .before .before .before .before .before in
+move-block-requires c κs = let q = c .before .before .before .before .before .before .before in
     record {
-      columns = omega (arith, q .pre .columns, t .block-dots .ensures .0);
-      dots = omega (arith, q .pre .dots, t .block-dots .ensures .0);
+      columns = omega (arith, q .pre .columns);
+      dots = omega (arith, q .pre .dots);
       room = omega (arith, q .pre .room);
       rows = q .pre .rows;
       inside = q .pre .inside;
@@ -44,33 +39,52 @@ add-i : tie.Need-add-i Inv-loop μ-loop
 add-i c = omega arith
 
 loop-less : tie.Need-loop-less Inv-loop μ-loop
-loop-less c = let t = c .before .before .before .before in
-    let k = t .block-dots .ensures .1 (omega arith) in
-    omega (arith, k, t .block-dots .ensures .0)
+loop-less c = omega arith
 
 loop-again : tie.Need-loop-again Inv-loop μ-loop
 loop-again c = let g = c .before .before in
-    let t = g .before .before in
-    let p = t .before .before in
-    let q = p .before .before .before .before .before in
-    let a = q .args in (
-      omega (arith, t .block-dots .ensures .0),
+    let p = g .before .before .before in
+    let a = p .before .before .before .before .before .args in (
+      omega arith,
       λ page-h done s ly fits e.
           g .move-block .ensures page-h (orRange done (a .y * a .page-w + a .c) (a .y * a .page-w + a .c + p .loop .i)) s ly
           (fits-again (a .page-w) page-h (a .shear .now) (a .shear-x .now) (a .w) (length (a .shear-x .now)) (a .page .now) (a .out .now) (p .loop .out) fits (p .loop .inv .2))
           (p .loop .inv .1 page-h done s ly fits e)
-          ∙ part-joined (a .page-w) page-h (a .shear .now) (a .shear-x .now) (a .w) (length (a .shear-x .now)) (a .fill) (a .page .now) (a .out .now) fits done s (a .y) (a .c) (p .loop .i) (t .block-dots .result),
+          ∙ part-joined (a .page-w) page-h (a .shear .now) (a .shear-x .now) (a .w) (length (a .shear-x .now)) (a .fill) (a .page .now) (a .out .now) fits done s (a .y) (a .c) (p .loop .i) 64,
       omega arith,
     )
+
+add-move-dots : tie.Need-add-move-dots Inv-loop μ-loop
+add-move-dots c = let q = c .before .before .before .before .before .before in
+    omega (arith, q .pre .columns)
+
+sub-move-dots : tie.Need-sub-move-dots Inv-loop μ-loop
+sub-move-dots c = omega arith
+
+move-dots-requires : tie.Need-move-dots-requires Inv-loop μ-loop
+move-dots-requires c κs = let q = c .before .before .before .before .before .before .before in
+    record {
+      columns = omega (arith, q .pre .columns);
+      dots = omega (arith, q .pre .dots);
+      room = omega (arith, q .pre .room);
+      rows = q .pre .rows;
+      inside = q .pre .inside;
+    }
 
 same-length : tie.Need-same-length Inv-loop μ-loop
 same-length c = omega arith
 
 returns : tie.Need-returns Inv-loop μ-loop
-returns c = let p = c .before in
+returns c = let g = c .before .before in
+    let p = g .before .before .before in
     let a = p .before .before .before .before .before .args in
-    let e : p .loop .i ≡ a .n = omega arith in
-    subst (λ m. MovesPart (a .page-w) (a .shear .now) (a .shear-x .now) (a .w) (a .fill) (a .page .now) (a .y) (a .c) m (a .out .now) (p .loop .out)) e (p .loop .inv .1)
+    let whole : p .loop .i + (a .n - p .loop .i) ≡ a .n = omega arith in
+    λ page-h done s ly fits e.
+    g .move-dots .ensures page-h (orRange done (a .y * a .page-w + a .c) (a .y * a .page-w + a .c + p .loop .i)) s ly
+    (fits-again (a .page-w) page-h (a .shear .now) (a .shear-x .now) (a .w) (length (a .shear-x .now)) (a .page .now) (a .out .now) (p .loop .out) fits (p .loop .inv .2))
+    (p .loop .inv .1 page-h done s ly fits e)
+    ∙ (part-joined (a .page-w) page-h (a .shear .now) (a .shear-x .now) (a .w) (length (a .shear-x .now)) (a .fill) (a .page .now) (a .out .now) fits done s (a .y) (a .c) (p .loop .i) (a .n - p .loop .i)
+    ∙ ap (λ m. partly (frameOf (a .page-w) page-h (a .shear .now) (a .shear-x .now) (a .w) (length (a .shear-x .now))) (a .fill) (a .page .now) (orRange done (a .y * a .page-w + a .c) (a .y * a .page-w + a .c + m)) s) whole)
 
 pub move-part-spec : {M : Type 1} → statement M
 move-part-spec =
@@ -79,12 +93,14 @@ move-part-spec =
     Inv-loop
     μ-loop
     loop-holds
-    sub-block-dots
-    block-dots-requires
+    sub-loop
     add-move-block
     move-block-requires
     add-i
     loop-less
     loop-again
+    add-move-dots
+    sub-move-dots
+    move-dots-requires
     same-length
     returns)
