@@ -135,12 +135,11 @@ fn mark_from(
     if x < start {
         return start;
     }
-    let end = run_end(ink, g, o, probe);
-    cut_run(ink, words, marks, g, o, x, end, thick_max, bit);
-    end
+    cut_run(ink, words, marks, g, o, x, probe, thick_max, bit);
+    cut_on(ink, words, marks, g, o, probe, thick_max, bit)
 }
 
-// The thin dots of a long run.
+// The thin dots of a run, from place `from` up to `to`.
 fn cut_run(
     ink: &[u8],
     words: &mut [u32],
@@ -160,6 +159,32 @@ fn cut_run(
         cut_dot(ink, words, marks, g, i, o, thick_max, bit);
         i += 1;
     }
+}
+
+// The thin dots of the run that goes on at `from`, up to its end, which is the answer: each place is looked at once.
+fn cut_on(
+    ink: &[u8],
+    words: &mut [u32],
+    marks: usize,
+    g: Sweep,
+    o: usize,
+    from: usize,
+    thick_max: u32,
+    bit: u32,
+) -> usize
+    requires { ⌜ (Laid g (length (now ink))) × (o < g .outer) × (from ≤ g .inner) × (bit ≤ 2) × (Unmarked g (length (now ink)) (drop marks (now words)) (o * g .inner + from)) × (Cached g (now ink) o (take marks (now words))) × (marks ≤ length (now words)) ⌝ }
+    ensures { λ r. ⌜ (ScannedTo (widenedLine g (now (ink .entry)) o) true from (g .inner) r) × (Marked g (length (now (ink .entry))) (isThin g (now (ink .entry)) «thick_max») bit (drop marks (now (words .entry))) (drop marks (now (words .exit))) (o * g .inner + from) (o * g .inner + r)) × (Cached g (now (ink .entry)) o (take marks (now (words .exit)))) ⌝ }
+{
+    let inner = g.inner;
+    let mut i = from;
+    while i < inner {
+        if !is_widened(ink, g, i, o) {
+            return i;
+        }
+        cut_dot(ink, words, marks, g, i, o, thick_max, bit);
+        i += 1;
+    }
+    i
 }
 
 // One dot, marked where it is ink and thin across.
@@ -247,22 +272,6 @@ fn run_start(ink: &[u8], g: Sweep, o: usize, from: usize, to: usize) -> usize
         s -= 1;
     }
     s
-}
-
-// The first place from `from` on that is not widened ink, or the end of the line.
-fn run_end(ink: &[u8], g: Sweep, o: usize, from: usize) -> usize
-    requires { ⌜ (Laid g (length (now ink))) × (o < g .outer) × (from ≤ g .inner) ⌝ }
-    ensures { λ r. ⌜ ScannedTo (widenedLine g (now (ink .entry)) o) true from (g .inner) r ⌝ }
-{
-    let inner = g.inner;
-    let mut e = from;
-    while e < inner {
-        if !is_widened(ink, g, e, o) {
-            return e;
-        }
-        e += 1;
-    }
-    e
 }
 
 // Ink at place i of line o, of the line before or of the line after.
