@@ -1,6 +1,6 @@
 // Which skew is applied, and the shear of a table of drifts.
 ghost use mathlib.Core.Path.{_≡_};
-ghost use Prim.Native.Nat.{_^_, _-_, _≤_, _<_};
+ghost use Prim.Native.Nat.{_+_, _^_, _-_, _≤_, _<_};
 ghost use mathlib.Core.Bool.{cond, false};
 ghost use lib.ListN.{length};
 ghost use lib.Ieee as Ieee;
@@ -11,6 +11,9 @@ ghost use Rattle.rounding.specs.Rounding.{positiveZero};
 ghost use Rattle.rounding.specs.Drift.{drift, WithinOne};
 ghost use Rattle.levelling.specs.Shears as Shears;
 ghost use Rattle.levelling.specs.Shears.{shearOf};
+
+// The entries that are found together: at gentle slopes most steps are level.
+const STEP: u32 = 16;
 
 // v, the skew or the slope, where the skew is applied: its magnitude is at least `least`, the sheet's `shear_min_deg`.
 pub fn applied(least: f64, skew: f64, v: f64) -> f64
@@ -29,8 +32,54 @@ pub fn fill_shear(out: &mut [u32], n: u32, slope: f64)
     let last = drift_size(n - 1, steep);
     let mut c: u32 = 0;
     while c < n {
-        out[c as usize] = shear_entry(c, steep, falls, last);
-        c += 1;
+        let m = step_entries(n - c);
+        let from = c as usize;
+        let to = (c + m) as usize;
+        fill_entries(&mut out[from..to], c, m, steep, falls, last);
+        c += m;
+    }
+}
+
+// The entries of the next step, of those that are left.
+fn step_entries(left: u32) -> u32
+    ensures { λ r. ⌜ (r ≤ left) × (0 < left → 0 < r) ⌝ }
+{
+    if left < STEP { left } else { STEP }
+}
+
+// n entries of the shear, from c on. Its drifts run one way, so where the first and the last are equal all are.
+fn fill_entries(out: &mut [u32], c: u32, n: u32, steep: f64, falls: bool, last: u32)
+    requires { ⌜ (0 < n) × (c + n ≤ 2 ^ 15) × (length (now out) ≡ n) ⌝ ∗ ⌜ WithinOne steep ⌝ ∗ ⌜ Ieee.lt steep positiveZero ≡ false ⌝ ∗ ⌜ natAbs (drift steep (c + (n - 1))) ≤ last ⌝ }
+    ensures { λ _. ⌜ now (out .exit) ≡ table (λ i. cond falls (last - natAbs (drift steep (c + i))) (natAbs (drift steep (c + i)))) (length (now (out .entry))) ⌝ }
+{
+    let first = shear_entry(c, steep, falls, last);
+    if first == shear_entry(c + (n - 1), steep, falls, last) {
+        fill_words(out, first);
+        return;
+    }
+    each_entry(out, c, n, steep, falls, last);
+}
+
+// The same one by one.
+fn each_entry(out: &mut [u32], c: u32, n: u32, steep: f64, falls: bool, last: u32)
+    requires { ⌜ (0 < n) × (c + n ≤ 2 ^ 15) × (length (now out) ≡ n) ⌝ ∗ ⌜ WithinOne steep ⌝ ∗ ⌜ Ieee.lt steep positiveZero ≡ false ⌝ ∗ ⌜ natAbs (drift steep (c + (n - 1))) ≤ last ⌝ }
+    ensures { λ _. ⌜ now (out .exit) ≡ table (λ i. cond falls (last - natAbs (drift steep (c + i))) (natAbs (drift steep (c + i)))) (length (now (out .entry))) ⌝ }
+{
+    let mut i: u32 = 0;
+    while i < n {
+        out[i as usize] = shear_entry(c + i, steep, falls, last);
+        i += 1;
+    }
+}
+
+// v in every place.
+fn fill_words(out: &mut [u32], v: u32)
+    ensures { λ _. ⌜ now (out .exit) ≡ table (λ _. v) (length (now (out .entry))) ⌝ }
+{
+    let mut i = 0;
+    while i < out.len() {
+        out[i] = v;
+        i += 1;
     }
 }
 

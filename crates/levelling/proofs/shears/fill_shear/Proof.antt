@@ -1,12 +1,14 @@
 use mathlib.Core.Path.{_≡_, refl, sym, ap, _∙_, subst}
 use mathlib.Core.List.{_++_}
-use Prim.Native.Nat.{ℕ, _-_, _^_, _≤_, _<_, zero-le}
+use Prim.Native.Nat.{ℕ, _+_, _-_, _^_, _≤_, _<_, zero-le}
 use native.Mathlib.Omega.{arith}
 use borrow.Author.Needs.{needs}
-use lib.ListN.{length, drop, length-set}
+use lib.ListN.{length, take, drop, length-take, length-drop}
+use borrow.Rule.Slice.PartMut.{putMid}
 use lib.Ieee.{Float, lt}
 use Rattle.memory.specs.Lists.{table}
-use Rattle.memory.proofs.TableLaws.{table-more, table-filled}
+use Rattle.memory.proofs.TableLaws.{table-filled}
+use Rattle.memory.proofs.PartLaws.{part-filled}
 use Rattle.rounding.specs.Rounding.{positiveZero}
 use Rattle.rounding.proofs.DriftLaws.{drift-rises}
 use Rattle.rounding.specs.Drift.{WithinOne, drift}
@@ -37,36 +39,69 @@ drift-size-requires c κs = let p = c .before .before in
 loop-holds : tie.Need-loop-holds Inv-loop μ-loop
 loop-holds c = (zero-le, unfold table in refl, refl)
 
-shear-entry-requires : tie.Need-shear-entry-requires Inv-loop μ-loop
-shear-entry-requires c κs = let p = c .before in
+sub-step-entries : tie.Need-sub-step-entries Inv-loop μ-loop
+sub-step-entries c = omega arith
+
+step-entries-requires : tie.Need-step-entries-requires Inv-loop μ-loop
+step-entries-requires c κs = search needs
+
+cast-from : tie.Need-cast-from Inv-loop μ-loop
+cast-from c = omega arith
+
+add-to : tie.Need-add-to Inv-loop μ-loop
+add-to c = omega (arith, c .step-entries .ensures .0)
+
+cast-to : tie.Need-cast-to Inv-loop μ-loop
+cast-to c = omega (arith, c .step-entries .ensures .0)
+
+mul-fill-entries : tie.Need-mul-fill-entries Inv-loop μ-loop
+mul-fill-entries c = omega arith
+
+sub-fill-entries : tie.Need-sub-fill-entries Inv-loop μ-loop
+sub-fill-entries c = omega arith
+
+part-fill-entries-start : tie.Need-part-fill-entries-start Inv-loop μ-loop
+part-fill-entries-start c = omega arith
+
+part-fill-entries-end : tie.Need-part-fill-entries-end Inv-loop μ-loop
+part-fill-entries-end c = omega (arith, c .step-entries .ensures .0)
+
+fill-entries-requires : tie.Need-fill-entries-requires Inv-loop μ-loop
+fill-entries-requires c κs = let t = c .before in
+    let p = t .before .before in
     let u = p .before .before in
     let q = u .before .before in
     let e = u .abs .ensures in
     let steep = u .abs .result in
     let w = steep-within (q .args .slope) steep (q .pre .1) e in
-    let k : p .loop .c ≤ 2 ^ 15 = omega (arith, q .pre .0) in
-    let l : p .loop .c ≤ q .args .n - 1 = omega arith in
-    (k, (w, (steep-not-below (q .args .slope) steep e, subst (λ z. driftSize steep (p .loop .c) ≤ z) (sym (p .before .drift-size .ensures)) (drift-rises steep w (p .loop .c) (q .args .n - 1) l (omega (arith, q .pre .0))))))
-
-cast-out : tie.Need-cast-out Inv-loop μ-loop
-cast-out c = omega arith
-
-mul-out : tie.Need-mul-out Inv-loop μ-loop
-mul-out c = omega arith
-
-slice-write-out : tie.Need-slice-write-out Inv-loop μ-loop
-slice-write-out c = omega arith
+    let m = t .step-entries .result in
+    let some = t .step-entries .ensures .1 (omega arith) in
+    let k : p .loop .c + (m - 1) ≤ q .args .n - 1 = omega (arith, some, t .step-entries .ensures .0) in (
+      (some, omega (arith, q .pre .0, t .step-entries .ensures .0), simp (length-take, length-drop) (omega (arith, q .pre .0, t .step-entries .ensures .0))),
+      (w, (steep-not-below (q .args .slope) steep e, subst (λ z. driftSize steep (p .loop .c + (m - 1)) ≤ z) (sym (p .before .drift-size .ensures)) (drift-rises steep w (p .loop .c + (m - 1)) (q .args .n - 1) k (omega (arith, q .pre .0))))),
+    )
 
 add-c : tie.Need-add-c Inv-loop μ-loop
-add-c c = omega arith
+add-c c = omega (arith, c .before .before .before .before .step-entries .ensures .0)
 
 loop-less : tie.Need-loop-less Inv-loop μ-loop
-loop-less c = omega arith
+loop-less c = let t = c .before .before .before .before in
+    let k = t .step-entries .ensures .1 (omega arith) in
+    omega (arith, k, t .step-entries .ensures .0)
 
 loop-again : tie.Need-loop-again Inv-loop μ-loop
-loop-again c = let p = c .before .before in
+loop-again c = let g = c .before .before in
+    let t = g .before .before in
+    let p = t .before .before in
     let q = p .before .before .before .before in
-    (omega arith, table-more _ (q .args .out .now) (p .loop .out) (p .loop .c) (c .shear-entry .result) (omega arith) (p .loop .inv .1) (c .shear-entry .ensures), simp length-set (p .loop .inv .2))
+    let m = t .step-entries .result in
+    let v = g .fill-entries .last .0 in
+    let k : p .loop .c + m - p .loop .c ≡ m = omega arith in
+    let l : length (take (p .loop .c + m - p .loop .c) (drop (p .loop .c) (p .loop .out))) ≡ m = simp (length-take, length-drop) (omega (arith, q .pre .0, t .step-entries .ensures .0)) in (
+      omega (arith, t .step-entries .ensures .0),
+      (λ z. putMid (p .loop .c) (k z) (p .loop .out) v) ∙ part-filled _ (q .args .out .now) (p .loop .out) v (p .loop .c) m (p .loop .inv .1) (g .fill-entries .ensures ∙ ap (table _) l),
+      omega arith,
+    )
 
 same-length : tie.Need-same-length Inv-loop μ-loop
 same-length c = omega arith
@@ -93,10 +128,16 @@ fill-shear-spec =
     sub-drift-size
     drift-size-requires
     loop-holds
-    shear-entry-requires
-    cast-out
-    mul-out
-    slice-write-out
+    sub-step-entries
+    step-entries-requires
+    cast-from
+    add-to
+    cast-to
+    mul-fill-entries
+    sub-fill-entries
+    part-fill-entries-start
+    part-fill-entries-end
+    fill-entries-requires
     add-c
     loop-less
     loop-again
