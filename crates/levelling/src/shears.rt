@@ -32,7 +32,7 @@ pub fn fill_shear(out: &mut [u32], n: u32, slope: f64)
     let last = drift_size(n - 1, steep);
     let mut c: u32 = 0;
     while c < n {
-        let m = step_entries(n - c);
+        let m = step_entries(n - c, last);
         let from = c as usize;
         let to = (c + m) as usize;
         fill_entries(&mut out[from..to], c, m, steep, falls, last);
@@ -40,10 +40,13 @@ pub fn fill_shear(out: &mut [u32], n: u32, slope: f64)
     }
 }
 
-// The entries of the next step, of those that are left.
-fn step_entries(left: u32) -> u32
+// The entries of the next step, of those that are left: all, where no column moves.
+fn step_entries(left: u32, last: u32) -> u32
     ensures { λ r. ⌜ (r ≤ left) × (0 < left → 0 < r) ⌝ }
 {
+    if last == 0 {
+        return left;
+    }
     if left < STEP { left } else { STEP }
 }
 
