@@ -17,7 +17,7 @@ const TILE: usize = 1024;
 // The dots of a block, and of a piece of one: what is blank is found by its known length, without a loop.
 const BLOCK: usize = 64;
 
-const PIECE: usize = 8;
+const PIECE: usize = 16;
 
 // A page plane moved into the frame, tile by tile.
 pub fn level_by_tiles(
@@ -161,8 +161,8 @@ fn move_piece(
     c: usize,
     out: &mut [u8],
 )
-    requires { ⌜ PartFits «page_w» (now shear) (now «shear_x») w (now page) (now out) y c 8 ⌝ }
-    ensures { λ _. ⌜ MovesPart «page_w» (now (shear .entry)) (now («shear_x» .entry)) w fill (now (page .entry)) y c 8 (now (out .entry)) (now (out .exit)) ⌝ }
+    requires { ⌜ PartFits «page_w» (now shear) (now «shear_x») w (now page) (now out) y c 16 ⌝ }
+    ensures { λ _. ⌜ MovesPart «page_w» (now (shear .entry)) (now («shear_x» .entry)) w fill (now (page .entry)) y c 16 (now (out .entry)) (now (out .exit)) ⌝ }
 {
     let from = y * page_w + c;
     let to = from + PIECE;

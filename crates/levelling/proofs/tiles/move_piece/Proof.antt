@@ -34,8 +34,8 @@ returns c = let e = c .before in
     let a = q .args in
     λ page-h done s ly fits b.
     b
-    ∙ part-skipped (a .page-w) page-h (a .shear .now) (a .shear-x .now) (a .w) (length (a .shear-x .now)) (a .fill) (a .page .now) (a .out .now) fits done s (a .y) (a .c) 8 ly (omega (arith, q .pre .columns, fits .columns))
-    (part-all (a .page .now) (a .fill) (a .y * a .page-w) (a .c) 8 (omega (arith, q .pre .dots)) (e .all-equal .ensures (c .if1 .taken)))
+    ∙ part-skipped (a .page-w) page-h (a .shear .now) (a .shear-x .now) (a .w) (length (a .shear-x .now)) (a .fill) (a .page .now) (a .out .now) fits done s (a .y) (a .c) 16 ly (omega (arith, q .pre .columns, fits .columns))
+    (part-all (a .page .now) (a .fill) (a .y * a .page-w) (a .c) 16 (omega (arith, q .pre .dots)) (e .all-equal .ensures (c .if1 .taken)))
 
 move-dots-requires : tie.Need-move-dots-requires
 move-dots-requires c κs = search needs

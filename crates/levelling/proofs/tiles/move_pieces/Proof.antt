@@ -50,7 +50,7 @@ loop-again c = let g = c .before .before in
           g .move-piece .ensures page-h (orRange done (a .y * a .page-w + a .c) (a .y * a .page-w + a .c + p .loop .i)) s ly
           (fits-again (a .page-w) page-h (a .shear .now) (a .shear-x .now) (a .w) (length (a .shear-x .now)) (a .page .now) (a .out .now) (p .loop .out) fits (p .loop .inv .2))
           (p .loop .inv .1 page-h done s ly fits e)
-          ∙ part-joined (a .page-w) page-h (a .shear .now) (a .shear-x .now) (a .w) (length (a .shear-x .now)) (a .fill) (a .page .now) (a .out .now) fits done s (a .y) (a .c) (p .loop .i) 8,
+          ∙ part-joined (a .page-w) page-h (a .shear .now) (a .shear-x .now) (a .w) (length (a .shear-x .now)) (a .fill) (a .page .now) (a .out .now) fits done s (a .y) (a .c) (p .loop .i) 16,
       omega arith,
     )
 
