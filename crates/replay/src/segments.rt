@@ -2,6 +2,7 @@
 use crate::kinds::sheet;
 use crate::masks;
 use crate::text;
+use params::LayoutParams;
 
 // The most dots of a page.
 const MOST_DOTS: usize = 1024;
@@ -35,18 +36,19 @@ fn result_words(width: u32, capacity: u32) -> usize {
     2 * (width as usize) + 35 * (capacity as usize)
 }
 
-// Segments the page that the digits spell, of as many dots as there are kinds.
-fn segment_page(body: &[u8], width: u32, height: u32, ink: &mut [u8], kinds: &mut [u8]) -> bool {
-    if body.len() < PAGE_FROM {
-        return false;
-    }
-    masks::read_mask(&body[PAGE_FROM..], ink);
-    let p = sheet(&body[SHEET_FROM..]);
-    let capacity = text::whole(body, 20);
+// Segments an ink plane by a sheet, its fields handed on one by one.
+fn segment_ink(
+    ink: &[u8],
+    width: u32,
+    height: u32,
+    p: LayoutParams,
+    capacity: u32,
+    results: &mut [u32],
+    kinds: &mut [u8],
+    figures: &mut [u32],
+) -> u32 {
     let mut scratch = [0u32; SCRATCH_WORDS];
-    let mut results = [0u32; RESULT_WORDS];
-    let mut figures = [0u32; FIGURES];
-    let number = boundary::novlizeb_segment(
+    boundary::novlizeb_segment(
         ink,
         width,
         height,
@@ -70,6 +72,28 @@ fn segment_page(body: &[u8], width: u32, height: u32, ink: &mut [u8], kinds: &mu
         p.shear_min_deg,
         capacity,
         &mut scratch,
+        results,
+        kinds,
+        figures,
+    )
+}
+
+// Segments the page that the digits spell, of as many dots as there are kinds.
+fn segment_page(body: &[u8], width: u32, height: u32, ink: &mut [u8], kinds: &mut [u8]) -> bool {
+    if body.len() < PAGE_FROM {
+        return false;
+    }
+    masks::read_mask(&body[PAGE_FROM..], ink);
+    let p = sheet(&body[SHEET_FROM..]);
+    let capacity = text::whole(body, 20);
+    let mut results = [0u32; RESULT_WORDS];
+    let mut figures = [0u32; FIGURES];
+    let number = segment_ink(
+        ink,
+        width,
+        height,
+        p,
+        capacity,
         &mut results,
         kinds,
         &mut figures,

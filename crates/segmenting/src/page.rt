@@ -65,16 +65,9 @@ fn segment_sorted(
 {
     let measured = found.unit;
     let unit = measured.value();
-    match group_rows(
-        width,
-        height,
-        sheet,
-        capacity,
-        unit,
-        found.runs,
-        found.components,
-        words,
-    ) {
+    let runs = found.runs;
+    let n = found.components;
+    match group_rows(width, height, sheet, capacity, unit, runs, n, words) {
         RowsAnswer::TooMany => SegmentAnswer::Refused(20),
         RowsAnswer::TooManyLines => SegmentAnswer::Refused(21),
         RowsAnswer::Grouped(rows) => SegmentAnswer::Segmented(write_results(

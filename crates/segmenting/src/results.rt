@@ -129,18 +129,11 @@ pub fn write_results(
     let kinds_at = first + 9 * capacity;
     let n = found.components;
     let total = found.ink;
+    let across = found.horizontal;
+    let down = found.vertical;
     paint_kinds(ink, &words[..], found.runs, kinds_at, kinds);
     let areas = count_kinds(&words[..], first + 4 * capacity, kinds_at, n, total);
-    let boxes = write_box_lists(
-        &words[..],
-        w,
-        dots,
-        capacity,
-        found.horizontal,
-        found.vertical,
-        n,
-        results,
-    );
+    let boxes = write_box_lists(&words[..], w, dots, capacity, across, down, n, results);
     let unit = found.unit;
     let x = unit.value();
     let glyphs = write_glyph_lines(sheet, x, w, h, dots, capacity, n, rows.rows, words, results);

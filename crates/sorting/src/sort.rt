@@ -85,15 +85,8 @@ fn sort_cuts(
     if capacity < horizontal {
         return SortAnswer::TooMany;
     }
-    let vertical = label_cut(
-        ink,
-        w,
-        h,
-        Test::Second,
-        capacity,
-        first + 2 * capacity,
-        words,
-    );
+    let second = first + 2 * capacity;
+    let vertical = label_cut(ink, w, h, Test::Second, capacity, second, words);
     if capacity < vertical {
         return SortAnswer::TooMany;
     }

@@ -23,11 +23,11 @@ same-length c = search needs
 returns : tie.Need-returns
 returns c = let A = (c .before .before .before .label-cut) .ensures in (A .len, cuts-first ((c .before .before .before .before .before .before .before) .pre) A (omega arith))
 
-mul-label-cut : tie.Need-mul-label-cut
-mul-label-cut c = search needs
+mul-second : tie.Need-mul-second
+mul-second c = search needs
 
-add-label-cut : tie.Need-add-label-cut
-add-label-cut c = search needs
+add-second : tie.Need-add-second
+add-second c = search needs
 
 label-cut-requires-2 : tie.Need-label-cut-requires-2
 label-cut-requires-2 c κs = search needs
@@ -58,8 +58,8 @@ sort-cuts-spec =
     label-cut-requires
     same-length
     returns
-    mul-label-cut
-    add-label-cut
+    mul-second
+    add-second
     label-cut-requires-2
     same-length-2
     returns-2
