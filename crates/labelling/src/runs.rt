@@ -4,9 +4,10 @@ ghost use mathlib.Core.Bool.{cond};
 ghost use Prim.Native.Nat.{_+_, _≤_};
 ghost use lib.ListN.{length};
 ghost use lib.Dec.{eqb};
-ghost use Rattle.memory.specs.Lists.{countIf};
+ghost use Rattle.memory.specs.Limits.{maxMaskDots};
+ghost use Rattle.memory.specs.Lists.{countIf, table};
 ghost use Rattle.labelling.specs.Labels.{isInk};
-ghost use Rattle.labelling.specs.Extraction.{ScanRoom, Scanned, RowRoom, RowExtracted, PlaneRoom, Extracted};
+ghost use Rattle.labelling.specs.Extraction.{turnBit, TurnRoom, TurnsWritten, ScanRoom, Scanned, RowRoom, RowExtracted, PlaneRoom, Extracted};
 
 // The dots of a block, which are counted at once.
 const BLOCK: usize = 32;
@@ -22,7 +23,7 @@ fn ink_of(byte: u8) -> u8
 }
 
 // 1 where two dots differ, else 0.
-fn turn_of(before: u8, here: u8) -> usize
+fn turn_of(before: u8, here: u8) -> u8
     ensures { λ r. ⌜ r ≡ cond (eqb before here) 0 1 ⌝ }
 {
     if before == here { 0 } else { 1 }
@@ -54,9 +55,38 @@ fn scan(row: &[u8], from: usize, to: usize, base: usize, words: &mut [u32], at: 
     while x < to {
         let here = ink_of(row[x]);
         words[k] = (base + x) as u32;
-        k += turn_of(before, here);
+        k += turn_of(before, here) as usize;
         before = here;
         x += 1;
+    }
+    k
+}
+
+// Tells of each dot of a block whether it differs from the one before; before the first was `before`. No dot waits for another here, so
+// that many are done at once.
+fn tell_turns(block: &[u8], before: u8, told: &mut [u8])
+    requires { ⌜ (length (now block) ≡ 32) × (length (now told) ≡ 32) ⌝ }
+    ensures { λ _. ⌜ now (told .exit) ≡ table (turnBit before (now (block .entry))) 32 ⌝ }
+{
+    told[0] = turn_of(before, ink_of(block[0]));
+    let mut i = 1;
+    while i < BLOCK {
+        told[i] = turn_of(ink_of(block[i - 1]), ink_of(block[i]));
+        i += 1;
+    }
+}
+
+// Writes the turns of a block that starts at dot `first` to the words from `at` on, and answers where they end.
+fn write_turns(told: &[u8], first: usize, words: &mut [u32], at: usize) -> usize
+    requires { ⌜ TurnRoom (now told) first (now words) at ⌝ }
+    ensures { λ r. ⌜ TurnsWritten (now (told .entry)) first (now (words .entry)) (now (words .exit)) at r ⌝ }
+{
+    let mut k = at;
+    let mut i = 0;
+    while i < BLOCK {
+        words[k] = (first + i) as u32;
+        k += told[i] as usize;
+        i += 1;
     }
     k
 }
@@ -70,7 +100,9 @@ fn scan_block(row: &[u8], from: usize, base: usize, words: &mut [u32], at: usize
     if ink_count(&row[from..to]) as usize == BLOCK * (at % 2) {
         return at;
     }
-    scan(row, from, to, base, words, at)
+    let mut told = [0; 32];
+    tell_turns(&row[from..to], (at % 2) as u8, &mut told[..]);
+    write_turns(&told[..], base + from, words, at)
 }
 
 // The same for the dots `from` up to `to`, block by block.
