@@ -8,6 +8,7 @@ pub mod OverLaws
 pub mod RunLaws
 -- extents, run by run along a row, by counts down and up the columns
 pub mod ExtentLaws
+pub mod CrowdedLaws
 -- run extents called by themselves: refused, or done
 pub mod AnswerLaws
 -- rows or columns walked alike: marks, runs from probes, extents kept

@@ -1,6 +1,6 @@
 -- What the functions hand on to each other: a scan along a row, counts down the columns, sides and lengths that fit.
 use mathlib.Core.Path.{_≡_}
-use mathlib.Core.Bool.{Bool, false, cond, not}
+use mathlib.Core.Bool.{Bool, false, cond, not, _&&_}
 use mathlib.Core.List.{List}
 use lib.ListN.{getD, length}
 use lib.Dec.{ltb}
@@ -36,6 +36,33 @@ pub record RowTo (row : List ℕ) (x : ℕ) (extents : List ℕ) : Type 0 where
   pub inside : x ≤ length row
   pub starts : Starts (isInk row) x
   pub held : extents ≡ table (until x (extent (isInk row) (length row)) (singleDot row)) (length row)
+
+-- the dots before x have their extents; from x up to i they have f, then up to `to` g, the others as if each were a run of its own
+pub record RowParts (row : List ℕ) (x i to : ℕ) (f g : ℕ → ℕ) (extents : List ℕ) : Type 0 where
+  pub size : length extents ≡ length row
+  pub below : (k : ℕ) → k < x → getD extents k 0 ≡ extent (isInk row) (length row) k
+  pub first : (k : ℕ) → x ≤ k → k < i → getD extents k 0 ≡ f k
+  pub second : (k : ℕ) → i ≤ k → k < to → getD extents k 0 ≡ g k
+  pub above : (k : ℕ) → to ≤ k → k < length row → getD extents k 0 ≡ singleDot row k
+
+-- the dots from x up to i have the count of the ink that ends at them, those then up to `to` their extents
+abbrev pub RowCounted : List ℕ → ℕ → ℕ → ℕ → List ℕ → Type 0
+RowCounted row x i to = RowParts row x i to (λ k. behind (isInk row) (suc k)) (extent (isInk row) (length row))
+
+-- a part of a row from a start up to a start, not the row's end
+pub record PartOfRow (row : List ℕ) (x to : ℕ) : Type 0 where
+  pub order : x ≤ to
+  pub inside : to < length row
+  pub from : Starts (isInk row) x
+  pub upto : Starts (isInk row) to
+
+-- the four dots from k on are not all ink
+abbrev pub noFour : List ℕ → ℕ → Type 0
+noFour row k = (isInk row k && isInk row (k + 1) && isInk row (k + 2) && isInk row (k + 3)) ≡ false
+
+-- the extent of the third of five dots, in a run of at most three
+abbrev pub shortExtent : Bool → Bool → Bool → Bool → Bool → ℕ
+shortExtent a b dot d e = cond dot (1 + cond b (cond a 2 1) 0 + cond d (cond e 2 1) 0) 0
 
 -- how many ink dots in a row, down its column, end at dot i
 abbrev pub countDown : ℕ → List ℕ → ℕ → ℕ

@@ -10,7 +10,12 @@ ghost use Rattle.memory.specs.Limits.{maxExtent};
 ghost use Rattle.labelling.specs.Labels.{isInk};
 ghost use Rattle.sorting.specs.Extents.{extent, rowExtents, columnExtents};
 ghost use Rattle.sorting.specs.Answers.{extentsRefusal, isMaskSide, extentsOutcome, runExtents};
-ghost use Rattle.sorting.specs.Scans.{ScannedTo, PlaneFits, RowTo, singleDot, TakesUp, cappedCount, columnExtent, until};
+ghost use Rattle.sorting.specs.Scans.{ScannedTo, PlaneFits, RowTo, noFour, singleDot, TakesUp, cappedCount, columnExtent, until};
+use crate::crowded::all_short;
+use crate::crowded::counted_extents;
+use crate::crowded::is_crowded;
+use crate::crowded::short_extents;
+use crate::crowded::start_before;
 use memory::refuse_if;
 
 // The longest side of a mask, the most dots, and the greatest extent told.
@@ -122,6 +127,9 @@ fn single_dots(row: &[u8], extents: &mut [u32])
     }
 }
 
+// So few dots are not worth a look at how their runs lie: measured, no promise goes by it.
+const FEW: usize = 32;
+
 // From the start x on to the next one: a stretch where no two dots join is as it is to be.
 fn extents_from(row: &[u8], x: usize, extents: &mut [u32]) -> usize
     requires { ⌜ (x + 1 < length (now row)) × (RowTo (now row) x (now extents)) ⌝ }
@@ -131,13 +139,39 @@ fn extents_from(row: &[u8], x: usize, extents: &mut [u32]) -> usize
     if !goes_on(row, 1, x, to) {
         return to;
     }
+    let start = start_before(row, x, to);
+    if start < x + FEW {
+        return extents_of_runs(row, x, to, extents);
+    }
+    if is_short(row, x, start) {
+        short_extents(row, x, start, extents);
+        return start;
+    }
+    if is_crowded(row, x, start) {
+        counted_extents(row, x, start, extents);
+        return start;
+    }
     extents_of_runs(row, x, to, extents)
+}
+
+// Whether the runs from x up to `to` are short, and there are dots enough around to see it.
+fn is_short(row: &[u8], x: usize, to: usize) -> bool
+    requires { ⌜ (x ≤ to) × (to < length (now row)) ⌝ }
+    ensures { λ r. ⌜ (r ≡ true → (2 ≤ x) × (to + 3 ≤ length (now (row .entry))) × ((k : ℕ) → x ≤ k → k < to → noFour (now (row .entry)) k)) ⌝ }
+{
+    if x < 2 {
+        return false;
+    }
+    if row.len() < to + 3 {
+        return false;
+    }
+    all_short(row, x, to)
 }
 
 // Where the stretch from x on ends: at most 64 dots, none from `end` on.
 fn stretch_end(x: usize, end: usize) -> usize
     requires { ⌜ x < end ⌝ }
-    ensures { λ r. ⌜ (x < r) × (r ≤ end) ⌝ }
+    ensures { λ r. ⌜ (x < r) × (r ≤ end) × (r ≤ x + 64) ⌝ }
 {
     if 64 < end - x { x + 64 } else { end }
 }
