@@ -137,10 +137,17 @@ pub between-small : (b z k : ℕ) → b ≤ 131072 → z ≤ k → b * z ≤ 131
 between-small b z k h l = le-trans (mul-le-mul-right z h) (mul-le-mul-left 131072 l)
 
 -- the sum of the columns of a run: half of its dots times its first and last column
-pub column-half : (x d : ℕ) → suc d * (x + (x + d)) / 2 ≡ columnSum x (suc d)
+column-half : (x d : ℕ) → suc d * (x + (x + d)) / 2 ≡ columnSum x (suc d)
 column-half x d =
     let c = columnSum-closed x (suc d) in
     let m₁ : suc d * (x + (x + d)) ≡ suc d * x + suc d * (x + d) = mul-add (suc d) x (x + d) in
     let m₂ : suc d * (x + d) ≡ suc d * x + suc d * d = mul-add (suc d) x d in
     let m₃ : suc d * suc d ≡ suc d * d + suc d = mul-suc (suc d) d in
     omega arith
+
+-- the same by its ends
+pub column-span : (x last : ℕ) → x ≤ last → (last - x + 1) * (x + last) / 2 ≡ columnSum x (suc (last - x))
+column-span x last l =
+    let d : last - x + 1 ≡ suc (last - x) = omega arith in
+    let e : last ≡ x + (last - x) = omega arith in
+    ap (λ z. z * (x + last) / 2) d ∙ (ap (λ z. suc (last - x) * (x + z) / 2) e ∙ column-half x (last - x))

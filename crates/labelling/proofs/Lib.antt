@@ -38,10 +38,14 @@ pub mod MarkedLaws
 pub mod NineLaws
 -- labels painted run by run
 pub mod PaintLaws
--- records written run by run
+-- records written span by span
 pub mod TallyLaws
--- the records of the first k runs, and one run more
+-- the records of the first k runs, and one span more
 pub mod RecordSweepLaws
+-- runs of one component that follow one another in a row
+pub mod SpanLaws
+-- labels and records, span by span and row by row
+pub mod RowPaintLaws
 -- the stages one after the other
 pub mod StageLaws
 -- the sizes of the first k runs' components, and one run more

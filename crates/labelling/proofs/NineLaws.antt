@@ -1,12 +1,10 @@
 -- A list of nine words.
-use mathlib.Core.Path.{_≡_, refl, sym, ap, _∙_}
+use mathlib.Core.Path.{_≡_, refl, ap, _∙_}
 use mathlib.Core.List.{List, [], _∷_}
-use Prim.Native.Nat.{ℕ, suc, _+_, _-_, _*_, _/_, _%_, _≤_, min, max}
+use Prim.Native.Nat.{ℕ, _+_, _/_, _%_, min, max}
 use native.Mathlib.Omega.{arith}
 use lib.ListN.{getD, length, set, length-set}
-use Rattle.labelling.specs.Components.{columnSum, absorbedRun}
-use Rattle.labelling.specs.RecordWords.{recordWords, recordOf, lowered, raised, longAt, longAdded}
-use Rattle.labelling.proofs.AbsorbLaws.{column-half}
+use Rattle.labelling.specs.RecordWords.{lowered, raised, longAt, longAdded}
 
 -- nine stores fill it
 pub nine-stores : (s : List ℕ) → length s ≡ 9 → (a b c d e f g h i : ℕ)
@@ -84,16 +82,3 @@ module _ (s : List ℕ) (nine : length s ≡ 9) (a x y b : ℕ) where
           → s₆ ≡ a ∷ min (getD s 1 0) x ∷ min (getD s 2 0) y ∷ max (getD s 3 0) b ∷ max (getD s 4 0) y
           ∷ (longAt s 5 + mx) % 4294967296 ∷ (longAt s 5 + mx) / 4294967296 ∷ (longAt s 7 + my) % 4294967296 ∷ (longAt s 7 + my) / 4294967296 ∷ []
       nine-absorbed my s₆ e₆ = e₆ ∙ (ap (λ z. longAdded z 7 my) (e₅ ∙ ap (λ z. longAdded z 5 mx) boxed-is) ∙ all-nine mx my)
-
--- these are the words of the record with the run absorbed
-pub nine-run : (s : List ℕ) (x x' y dots mx my : ℕ) → x ≤ x' → dots ≡ x' - x + 1 → mx ≡ dots * (x + x') / 2 → my ≡ dots * y
-    → (getD s 0 0 + dots) ∷ min (getD s 1 0) x ∷ min (getD s 2 0) y ∷ max (getD s 3 0) x' ∷ max (getD s 4 0) y
-    ∷ (longAt s 5 + mx) % 4294967296 ∷ (longAt s 5 + mx) / 4294967296 ∷ (longAt s 7 + my) % 4294967296 ∷ (longAt s 7 + my) / 4294967296 ∷ []
-    ≡ recordWords (absorbedRun (recordOf s) x (x' - x) y)
-nine-run s x x' y dots mx my l ed ex ey =
-    let d : dots ≡ suc (x' - x) = omega arith in
-    let e₁ : x' ≡ x + (x' - x) = omega arith in
-    let e₂ : mx ≡ columnSum x (suc (x' - x)) = ex ∙ (ap (λ z. z * (x + x') / 2) d ∙ (ap (λ z. suc (x' - x) * (x + z) / 2) e₁ ∙ column-half x (x' - x))) in
-    let e₃ : my ≡ suc (x' - x) * y = ey ∙ ap (λ z. z * y) d in
-    λ i. (getD s 0 0 + d i) ∷ min (getD s 1 0) x ∷ min (getD s 2 0) y ∷ max (getD s 3 0) (e₁ i) ∷ max (getD s 4 0) y
-    ∷ (longAt s 5 + e₂ i) % 4294967296 ∷ (longAt s 5 + e₂ i) / 4294967296 ∷ (longAt s 7 + e₃ i) % 4294967296 ∷ (longAt s 7 + e₃ i) / 4294967296 ∷ []

@@ -9,10 +9,9 @@ use native.Mathlib.Omega.{arith}
 use lib.ListN.{getD, length, set, take, drop, length-set, length-append, length-drop, List·getD-append}
 use lib.Seq.{getD-take, getD-drop, getD-set-same, getD-set-other, getD-append-add, ext-getD}
 use Rattle.memory.specs.Lists.{table}
-use Rattle.memory.specs.Limits.{maxMaskDots}
 use Rattle.memory.proofs.TableLaws.{length-table, getD-table}
 use Rattle.labelling.specs.InkRuns.{startOf, endOf}
-use Rattle.labelling.specs.Painting.{Front, Filled, Paintable, OnRuns, OffRuns, Painted}
+use Rattle.labelling.specs.Painting.{Front, Filled, Paintable, OnRuns, OffRuns, Painted, PaintSweep}
 
 -- Filling: the labels from `from` up to i have the value v
 
@@ -67,20 +66,7 @@ front-of f l₀ l n e h a b =
         let y : n + (i - n) ≡ i = omega arith in
         b i (omega arith) ∙ sym (ap (λ x. getD (table f n ++ drop n l₀) x 0) z ∙ (getD-append-add (table f n) (drop n l₀) (i - n) 0 ∙ (getD-drop n l₀ (i - n) 0 ∙ ap (λ x. getD l₀ x 0) y)))
 
--- Painting: the first k runs are painted, up to `done`; from there up to `clear` the labels are 0
-
-pub record PaintSweep (s : List ℕ) (c : ℕ) (l₀ l : List ℕ) (n k clear : ℕ) : Type 0 where
-  pub asks : Paintable s c l₀ n
-  pub len : length l ≡ length l₀
-  pub upto : k ≤ c
-  pub inside : clear ≤ n
-  pub done : ℕ
-  pub reach : done ≤ clear
-  pub next : k < c → done ≤ startOf (take (2 * c) s) k
-  pub last : (j : ℕ) → suc j ≡ k → endOf (take (2 * c) s) 0 j ≡ done
-  pub painted : (f : ℕ → ℕ) → OnRuns s c f → OffRuns s c n f → (i : ℕ) → i < done → getD l i 0 ≡ f i
-  pub blank : (i : ℕ) → done ≤ i → i < clear → getD l i 0 ≡ 0
-  pub past : (i : ℕ) → clear ≤ i → getD l i 0 ≡ getD l₀ i 0
+-- Painting
 
 pub paint-none : {s : List ℕ} {c : ℕ} {l : List ℕ} {n : ℕ} → Paintable s c l n → PaintSweep s c l l n 0 0
 paint-none A =
@@ -128,23 +114,15 @@ module _ {s : List ℕ} {c : ℕ} {l₀ l : List ℕ} {n k clear : ℕ} (S : Pai
     at-end : end ≡ endOf (take (2 * c) s) 0 k
     at-end = ee ∙ sym (getD-take (2 * c) s (2 * k + 1) 0 (omega arith))
 
-    -- what clearing up to the run's end asks
-    pub clear-asks : (clear ≤ n) × (end ≤ n) × (n ≤ length l) × (n ≤ maxMaskDots)
-    clear-asks =
-        let d = at-end in
-        let i = S .asks .within k lk in
-        let e = S .asks .labels in
-        let f = S .len in
-        (S .inside, omega arith, omega arith, S .asks .dots)
-
-    -- and what painting it asks
+    -- what painting it asks
     pub paint-asks : (start < end) × (end ≤ length l)
     paint-asks =
         let b = at-start in
         let d = at-end in
         let o = S .asks .order .some k lk in
-        let i = clear-asks .1 in
-        let e = clear-asks .2 in
+        let i = S .asks .within k lk in
+        let e = S .asks .labels in
+        let f = S .len in
         (omega arith, omega arith)
 
     pub paint-more : end ≤ clear → (l' : List ℕ) → Filled l l' start end (getD s (2 * c + k) 0) → PaintSweep s c l₀ l' n (k + 1) clear
@@ -174,9 +152,6 @@ module _ {s : List ℕ} {c : ℕ} {l₀ l : List ℕ} {n k clear : ℕ} (S : Pai
             let b = at-start in
             let w = S .inside in
             X .low i y ∙ (S .blank i (omega arith) (omega arith) ∙ sym (off k i (S .upto) (omega arith) (λ _. omega arith) (λ j e. let v = S .last j e in omega arith)))
-
-  pub paint-last : (clear ≤ n) × (n ≤ length l)
-  paint-last = (S .inside, (let a = S .asks .labels in let b = S .len in omega arith))
 
   pub paint-done : c ≤ k → clear ≡ n → Painted s c l₀ l n
   paint-done h e =

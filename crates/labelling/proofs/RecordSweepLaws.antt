@@ -1,15 +1,13 @@
--- The records of the first k runs, and one run more.
-use mathlib.Core.Path.{_≡_, refl, sym, ap, _∙_}
+-- The records of the first k runs, and one span more.
+use mathlib.Core.Path.{_≡_, refl, sym, ap, _∙_, subst}
 use mathlib.Core.List.{List, [], _∷_, _++_}
 use mathlib.Core.Bool.{cond}
 use Prim.Native.Nat.{ℕ, zero, suc, _+_, _-_, _*_, _/_, _%_, _≤_, _<_, max}
-use native.Mathlib.Nat.{le-refl, div-le-self, div-add-mod', mod-lt, suc-mul, mul-suc, mul-le-mul-left}
-use native.Mathlib.Numerals.{add-one}
+use native.Mathlib.Nat.{le-refl, div-le-self, mod-lt, mul-suc, mul-le-mul-left}
 use native.Mathlib.Decide.{ℕ-discrete, decLt}
 use native.Mathlib.Omega.{arith}
 use borrow.Author.Tests.{eq-eqb, ne-eqb, lt-ltb, le-ltb}
-use lib.ListN.{getD, length, take, drop, length-append, length-drop}
-use lib.Seq.{getD-take}
+use lib.ListN.{length, take, drop, length-append, length-drop}
 use lib.Dec.{eqb, ltb}
 use Rattle.memory.specs.Lists.{table, countIf}
 use Rattle.memory.specs.Words.{over}
@@ -17,11 +15,12 @@ use Rattle.memory.specs.Records.{encoded}
 use Rattle.memory.specs.Limits.{maxMaskDots}
 use Rattle.memory.proofs.TableLaws.{length-table, getD-table, table-ext}
 use Rattle.memory.proofs.RecordLaws.{length-encoded}
-use Rattle.labelling.specs.Components.{noDots, columnSum, absorbedRun}
+use Rattle.labelling.specs.Components.{noDots, columnSum, absorbedRun, absorbedSpan}
 use Rattle.labelling.specs.RecordWords.{recordWords, recordOf}
 use Rattle.labelling.specs.InkRuns.{startOf, endOf, isRoot, componentNumber, absorbDots, componentRuns}
 use Rattle.labelling.specs.Linking.{touching, firstRun}
-use Rattle.labelling.specs.Tallying.{heldRecord, tallied, Small, RunTallyable, records, Tallyable}
+use Rattle.labelling.specs.Spans.{SpanOf}
+use Rattle.labelling.specs.Tallying.{heldRecord, tallied, Small, SpanTallyable, records, Tallyable, TallySweep}
 use Rattle.labelling.specs.declared.component.Component.{Component}
 use Rattle.labelling.proofs.FirstLaws.{firsts-right, along}
 use Rattle.labelling.proofs.RunLabelLaws.{number-new, names-new, names-old}
@@ -71,7 +70,7 @@ module _ (rep : ℕ → ℕ) (low : (k : ℕ) → rep k ≤ k) (idem : (k : ℕ)
 
 -- Bounds
 
-column-small : (x d B : ℕ) → x + d ≤ suc B → columnSum x d ≤ B * d
+pub column-small : (x d B : ℕ) → x + d ≤ suc B → columnSum x d ≤ B * d
 unfolding columnSum
 column-small x zero B l = omega arith
 column-small x (suc d) B l = let ih = column-small x d B (omega arith) in let e : B * suc d ≡ B * d + B = mul-suc B d in omega arith
@@ -151,40 +150,6 @@ module _ (w c : ℕ) (s comps₀ : List ℕ) (A : Tallyable w c s comps₀) wher
       bounded-small (run-bounded q k (start k) (omega arith) (λ j lj. A .list .order .rising j k lj l))
       (let o = A .list .order .some k l in let i = A .within k l in omega arith)
 
--- the dots from `start` up to `end` lie in row y, from column x to column `last`
-pub record Columns (w start end x last y : ℕ) : Type 0 where
-  pub from : x ≡ start % w
-  pub upto : last ≡ x + (end - start - 1)
-  pub row : y ≡ start / w
-
--- the row that dot `start` lies in starts at `base`
-pub row-base : (w start y : ℕ) → y ≡ start / w → (y * w ≤ start) × (start - y * w ≡ start % w)
-row-base w start y e =
-    let m : y * w ≡ start / w * w = ap (λ z. z * w) e in
-    let d = div-add-mod' start w in
-    (omega arith, omega arith)
-
-pub row-columns : (w start end y : ℕ) → y ≡ start / w → start < end → Columns w start end (start - y * w) (end - y * w - 1) y
-row-columns w start end y e l =
-    let r = row-base w start y e in
-    let r₀ = r .0 in
-    record { from = r .1; upto = omega arith; row = e }
-
--- `rows` end no later than the row of the next run
-pub rows-next : (w start next rows : ℕ) → rows ≡ start / w + 1 → start ≤ next → rows * w ≤ next + w
-rows-next w start next rows e l =
-    let m : rows * w ≡ suc (start / w) * w = ap (λ z. z * w) (let q : rows ≡ suc (start / w) = omega arith in q) in
-    let n : suc (start / w) * w ≡ start / w * w + w = suc-mul (start / w) w in
-    let d = div-add-mod' start w in
-    omega arith
-
--- the first k runs are tallied
-pub record TallySweep (w c : ℕ) (s comps₀ comps : List ℕ) (k count : ℕ) : Type 0 where
-  pub asks : Tallyable w c s comps₀
-  pub upto : k ≤ c
-  pub count-is : count ≡ countIf (isRoot (firstRun w c (take (2 * c) s))) k
-  pub words : comps ≡ over (records w c s k) comps₀
-
 pub tally-none : {w c : ℕ} {s comps : List ℕ} → Tallyable w c s comps → TallySweep w c s comps comps 0 0
 unfolding countIf table encoded
 tally-none A = record { asks = A; upto = omega arith; count-is = refl; words = refl }
@@ -254,9 +219,6 @@ module _ {w c : ℕ} {s comps₀ comps : List ℕ} {k count : ℕ} (S : TallySwe
   abbrev g : ℕ → Component
   g = recordTo w c s comps₀ A k
 
-  abbrev g' : ℕ → Component
-  g' = recordTo w c s comps₀ A (suc k)
-
   some-number : 0 < N
   some-number = number-some f (first-low w c (take (2 * c) s)) (first-same w c (take (2 * c) s)) k
 
@@ -269,6 +231,9 @@ module _ {w c : ℕ} {s comps₀ comps : List ℕ} {k count : ℕ} (S : TallySwe
       let u = count-up (isRoot f) (suc k) c lk in
       let r = S .asks .room in
       omega arith
+
+  few-more : {next last dots sum : ℕ} → SpanOf w c s k next last dots sum → countIf (isRoot f) next ≤ C + 1
+  few-more P = let a = P .counted in let b = next-count in let e = count-step (isRoot f) k in omega arith
 
   -- the record of run k's component so far
   held-is : heldRecord comps N count ≡ g (N - 1)
@@ -289,69 +254,51 @@ module _ {w c : ℕ} {s comps₀ comps : List ℕ} {k count : ℕ} (S : TallySwe
           (ap (λ z. recordOf (take 9 (drop ((N - 1) * 9) z))) (S .words)
           ∙ (record-read (table g C) rest (N - 1) noDots (omega arith) ∙ getD-table g C (N - 1) noDots (omega arith)))
 
-  pub tally-asks : (number start end x last y : ℕ) → number ≡ N → start ≡ startOf (take (2 * c) s) k → end ≡ endOf (take (2 * c) s) 0 k → Columns w start end x last y
-      → RunTallyable comps number count x last y
-  tally-asks number start end x last y en es ee K =
-      let p = number-room in
-      let q = tally-long S in
-      let i = S .asks .within k lk in
-      let o = S .asks .list .order .some k lk in
-      let h = run-width w c s comps₀ A k lk in
-      let m = ap (λ z. z % w) es in
-      let d = div-le-self start w in
-      let k₁ = K .from in
-      let k₂ = K .upto in
-      let k₃ = K .row in
-      let g = S .asks .list .narrow in
-      rw en
-      (record {
-        counted = some-number;
-        room = omega arith;
-        some = omega arith;
-        narrow = omega arith;
-        low = omega arith;
-        small = rw held-is (record-small w c s comps₀ A (N - 1) k lk);
-      })
+  module _ {next last dots sum : ℕ} (P : SpanOf w c s k next last dots sum) (number x y : ℕ) (en : number ≡ N) (ex : x ≡ startOf (take (2 * c) s) k % w) (ey : y ≡ startOf (take (2 * c) s) k / w) where
+    pub tally-asks : SpanTallyable comps number count x last dots sum y
+    tally-asks =
+        let p = number-room in
+        let q = tally-long S in
+        let i = A .within k lk in
+        let o = A .list .order .some k lk in
+        let d = div-le-self (startOf (take (2 * c) s) k) w in
+        let g = A .list .narrow in
+        let a = P .from in
+        let b = P .narrow in
+        let e = P .few in
+        let f = P .light in
+        rw en
+        (record {
+          counted = some-number;
+          room = omega arith;
+          order = omega arith;
+          narrow = omega arith;
+          few = omega arith;
+          light = omega arith;
+          low = omega arith;
+          small = rw held-is (record-small w c s comps₀ A (N - 1) k lk);
+        })
 
-  -- with the run absorbed it is the record of one run more
-  absorbed-is : absorbedRun (heldRecord comps N count) (startOf (take (2 * c) s) k % w) (endOf (take (2 * c) s) 0 k - startOf (take (2 * c) s) k - 1) (startOf (take (2 * c) s) k / w) ≡ g' (N - 1)
-  unfolding componentRuns
-  absorbed-is =
-      let p = some-number in
-      let e : N ≡ suc (N - 1) = omega arith in
-      ap (λ z. absorbedRun z (startOf (take (2 * c) s) k % w) (endOf (take (2 * c) s) 0 k - startOf (take (2 * c) s) k - 1) (startOf (take (2 * c) s) k / w)) held-is
-      ∙ (sym (run-absorbed w c s comps₀ A k (g (N - 1)) lk) ∙ rw (eq-eqb N (suc (N - 1)) e) refl)
+    -- with the span absorbed it is the record of the runs up to the next
+    absorbed-is : absorbedSpan (heldRecord comps N count) x last dots sum y ≡ recordTo w c s comps₀ A next (N - 1)
+    absorbed-is =
+        let p = some-number in
+        let e : N ≡ suc (N - 1) = omega arith in
+        (λ i. absorbedSpan (held-is i) (ex i) last dots sum (ey i)) ∙ subst (λ z. absorbedSpan (componentRuns w (startOf (take (2 * c) s)) (endOf (take (2 * c) s) 0) f z k) (startOf (take (2 * c) s) k % w) last dots sum (startOf (take (2 * c) s) k / w) ≡ componentRuns w (startOf (take (2 * c) s)) (endOf (take (2 * c) s) 0) f z next) e (sym (P .own))
 
-  other-is : (q : ℕ) → (N ≡ suc q → ⊥) → g' q ≡ g q
-  unfolding componentRuns
-  other-is q ne = rw (ne-eqb N (suc q) ne) refl
-
-  pub tally-more : (number start end x last y : ℕ) → number ≡ N → start ≡ startOf (take (2 * c) s) k → end ≡ endOf (take (2 * c) s) 0 k → Columns w start end x last y
-      → (comps' : List ℕ) (count' : ℕ) → comps' ≡ tallied comps number count x (last - x) y → count' ≡ max count number → TallySweep w c s comps₀ comps' (k + 1) count'
-  tally-more number start end x last y en es ee K comps' count' ew ec =
-      let k₂ = K .upto in
-      let d : last - x ≡ endOf (take (2 * c) s) 0 k - startOf (take (2 * c) s) k - 1 = omega arith in
-      record {
-        asks = S .asks;
-        upto = omega arith;
-        count-is = ec ∙ (ap (λ z. max z number) (S .count-is) ∙ (ap (max C) en ∙ (next-count ∙ ap (countIf (isRoot f)) (sym (add-one k)))));
-        words =
-            ew
-            ∙ (ap (λ z. tallied comps z count x (last - x) y) en
-            ∙ (ap (λ z. tallied comps N count z (last - x) y) (K .from ∙ ap (λ z. z % w) es)
-            ∙ (ap (λ z. tallied comps N count (startOf (take (2 * c) s) k % w) z y) d
-            ∙ (ap (λ z. tallied comps N count (startOf (take (2 * c) s) k % w) (endOf (take (2 * c) s) 0 k - startOf (take (2 * c) s) k - 1) z) (K .row ∙ ap (λ z. z / w) es)
-            ∙ (ap (λ z. take ((N - 1) * 9) comps ++ (recordWords z ++ drop ((N - 1) * 9 + 9) comps)) absorbed-is
-            ∙ (ap (λ z. take ((N - 1) * 9) z ++ (recordWords (g' (N - 1)) ++ drop ((N - 1) * 9 + 9) z)) (S .words)
-            ∙ (records-more g g' C N (countIf (isRoot f) (suc k)) comps₀ (sym next-count) (count-step (isRoot f) k) some-number number-room other-is
-            ∙ ap (λ z. over (records w c s z) comps₀) (sym (add-one k)))))))));
-      }
+    pub tally-more : (comps' : List ℕ) (count' : ℕ) → comps' ≡ tallied comps number count x last dots sum y → count' ≡ max count number → TallySweep w c s comps₀ comps' next count'
+    tally-more comps' count' ew ec =
+        record {
+          asks = A;
+          upto = P .upto;
+          count-is = ec ∙ ((λ i. max (S .count-is i) (en i)) ∙ P .counted);
+          words =
+              ew
+              ∙ (ap (λ z. tallied comps z count x last dots sum y) en
+              ∙ (ap (λ z. take ((N - 1) * 9) comps ++ (recordWords z ++ drop ((N - 1) * 9 + 9) comps)) absorbed-is
+              ∙ (ap (λ z. take ((N - 1) * 9) z ++ (recordWords (recordTo w c s comps₀ A next (N - 1)) ++ drop ((N - 1) * 9 + 9) z)) (S .words)
+              ∙ records-more g (recordTo w c s comps₀ A next) C N (countIf (isRoot f) next) comps₀ (sym (P .counted)) (few-more P) some-number number-room (λ q ne. P .other (suc q) ne))));
+        }
 
 pub tally-done : {w c : ℕ} {s comps₀ comps : List ℕ} {k count : ℕ} → TallySweep w c s comps₀ comps k count → c ≤ k → comps ≡ over (records w c s c) comps₀
 tally-done {w} {c} {s} {comps₀} S l = S .words ∙ ap (λ z. over (records w c s z) comps₀) (let u = S .upto in let e : _ ≡ c = omega arith in e)
-
--- the words of run k, as they are read
-pub tally-words : {w c : ℕ} {s comps : List ℕ} → Tallyable w c s comps → (k : ℕ) → k < c → (number start end : ℕ) → number ≡ getD s (2 * c + k) 0 → start ≡ getD s (2 * k) 0 → end ≡ getD s (2 * k + 1) 0
-    → (number ≡ componentNumber (firstRun w c (take (2 * c) s)) k) × (start ≡ startOf (take (2 * c) s) k) × (end ≡ endOf (take (2 * c) s) 0 k)
-tally-words {w} {c} {s} A k l number start end en es ee =
-    (en ∙ A .numbers k l, es ∙ sym (getD-take (2 * c) s (2 * k) 0 (omega arith)), ee ∙ sym (getD-take (2 * c) s (2 * k + 1) 0 (omega arith)))

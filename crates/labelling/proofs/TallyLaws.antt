@@ -1,4 +1,4 @@
--- Records written run by run.
+-- Records written span by span.
 use mathlib.Core.Path.{_≡_, refl, sym, ap, _∙_}
 use mathlib.Core.List.{List, [], _∷_, _++_, append-assoc}
 use Prim.Native.Nat.{ℕ, zero, suc, _+_, _-_, _*_, _/_, _%_, _≤_, _<_}
@@ -14,7 +14,7 @@ use Rattle.memory.specs.Words.{over}
 use Rattle.memory.specs.Records.{encoded}
 use Rattle.memory.proofs.TableLaws.{length-table, getD-table}
 use Rattle.memory.proofs.RecordLaws.{length-encoded, record-more, record-at}
-use Rattle.labelling.specs.Components.{noDots, absorbedRun}
+use Rattle.labelling.specs.Components.{noDots, absorbedSpan}
 use Rattle.labelling.specs.RecordWords.{recordWords, recordOf}
 use Rattle.labelling.specs.Tallying.{heldRecord, tallied}
 use Rattle.labelling.specs.declared.component.Component.{Component}
@@ -28,11 +28,12 @@ nine-part at s = ap (λ z. take z (drop at s)) (let e : at + 9 - at ≡ 9 = omeg
 nine-put : (at : ℕ) (s v : List ℕ) → putMid at (at + 9 - at) s v ≡ take at s ++ (v ++ drop (at + 9) s)
 nine-put at s v = ap (λ z. take at s ++ (v ++ z)) (drop-drop (at + 9 - at) at s ∙ ap (λ z. drop z s) (let e : at + (at + 9 - at) ≡ at + 9 = omega arith in e))
 
-pub run-tallied : (s : List ℕ) (number count x d y : ℕ) (before after : Component) (v : List ℕ) → before ≡ heldRecord s number count → after ≡ absorbedRun before x d y → v ≡ recordWords after
-    → putMid ((number - 1) * 9) ((number - 1) * 9 + 9 - (number - 1) * 9) s v ≡ tallied s number count x d y
-run-tallied s number count x d y before after v eb ea ev =
+pub span-tallied : (s : List ℕ) (number count x last dots sum y : ℕ) (before after : Component) (v : List ℕ)
+    → before ≡ heldRecord s number count → after ≡ absorbedSpan before x last dots sum y → v ≡ recordWords after
+    → putMid ((number - 1) * 9) ((number - 1) * 9 + 9 - (number - 1) * 9) s v ≡ tallied s number count x last dots sum y
+span-tallied s number count x last dots sum y before after v eb ea ev =
     nine-put ((number - 1) * 9) s v
-    ∙ ap (λ z. take ((number - 1) * 9) s ++ (z ++ drop ((number - 1) * 9 + 9) s)) (ev ∙ ap recordWords (ea ∙ ap (λ z. absorbedRun z x d y) eb))
+    ∙ ap (λ z. take ((number - 1) * 9) s ++ (z ++ drop ((number - 1) * 9 + 9) s)) (ev ∙ ap recordWords (ea ∙ ap (λ z. absorbedSpan z x last dots sum y) eb))
 
 -- a new record
 pub held-none : (s : List ℕ) (number count : ℕ) → count < number → noDots ≡ heldRecord s number count

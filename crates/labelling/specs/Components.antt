@@ -38,6 +38,19 @@ absorbedRun c x d y =
       «sum_y» = c .«sum_y» + suc d * y;
     }
 
+-- dots of row y more: so many, from column x to column `last`, whose columns add up to `sum`
+abbrev pub absorbedSpan : Component → ℕ → ℕ → ℕ → ℕ → ℕ → Component
+absorbedSpan c x last dots sum y =
+    record {
+      area = c .area + dots;
+      x0 = min (c .x0) x;
+      y0 = min (c .y0) y;
+      x1 = max (c .x1) last;
+      y1 = max (c .y1) y;
+      «sum_x» = c .«sum_x» + sum;
+      «sum_y» = c .«sum_y» + dots * y;
+    }
+
 -- its box
 abbrev pub boxOf : Component → Rect
 boxOf c = record { x0 = c .x0; y0 = c .y0; x1 = c .x1; y1 = c .y1 }

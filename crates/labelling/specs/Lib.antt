@@ -22,9 +22,11 @@ pub mod Numbering
 pub mod Extraction
 -- a component's record as nine words
 pub mod RecordWords
+-- runs of one component that follow one another in a row
+pub mod Spans
 -- what painting asks and gives
 pub mod Painting
--- the components' records, run by run
+-- the components' records, span by span
 pub mod Tallying
 -- the components of any mask in scratch: runs, numbers, sizes
 pub mod Sizes

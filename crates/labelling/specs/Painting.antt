@@ -1,12 +1,14 @@
 -- What painting asks and gives.
 use mathlib.Core.Path.{_≡_}
 use mathlib.Core.List.{List, _++_}
-use Prim.Native.Nat.{ℕ, suc, _+_, _*_, _≤_, _<_}
+use Prim.Native.Nat.{ℕ, suc, _+_, _*_, _/_, _≤_, _<_}
 use lib.ListN.{getD, length, take, drop}
 use Rattle.memory.specs.Lists.{table}
 use Rattle.memory.specs.Limits.{maxMaskDots}
 use Rattle.labelling.specs.InkRuns.{startOf, endOf}
 use Rattle.labelling.specs.Linking.{Order}
+use Rattle.labelling.specs.Spans.{SpanOf}
+use Rattle.labelling.specs.Tallying.{Tallyable, TallySweep}
 
 -- the front of l is the table of f up to i, and what lies past is as in l₀
 abbrev pub Front : (ℕ → ℕ) → List ℕ → List ℕ → ℕ → Type 0
@@ -39,3 +41,51 @@ OffRuns s c n f = (k i : ℕ) → k ≤ c → i < n → (k < c → i < startOf (
 pub record Painted (s : List ℕ) (c : ℕ) (l l' : List ℕ) (n : ℕ) : Type 0 where
   pub len : length l' ≡ length l
   pub painted : (f : ℕ → ℕ) → OnRuns s c f → OffRuns s c n f → Front f l l' n
+
+-- the first k runs are painted, up to `done`; from there up to `clear` the labels are 0
+pub record PaintSweep (s : List ℕ) (c : ℕ) (l₀ l : List ℕ) (n k clear : ℕ) : Type 0 where
+  pub asks : Paintable s c l₀ n
+  pub len : length l ≡ length l₀
+  pub upto : k ≤ c
+  pub inside : clear ≤ n
+  pub done : ℕ
+  pub reach : done ≤ clear
+  pub next : k < c → done ≤ startOf (take (2 * c) s) k
+  pub last : (j : ℕ) → suc j ≡ k → endOf (take (2 * c) s) 0 j ≡ done
+  pub painted : (f : ℕ → ℕ) → OnRuns s c f → OffRuns s c n f → (i : ℕ) → i < done → getD l i 0 ≡ f i
+  pub blank : (i : ℕ) → done ≤ i → i < clear → getD l i 0 ≡ 0
+  pub past : (i : ℕ) → clear ≤ i → getD l i 0 ≡ getD l₀ i 0
+
+-- the runs from k up to k' are painted, whatever was before
+abbrev pub PaintsOn : List ℕ → ℕ → List ℕ → List ℕ → ℕ → ℕ → ℕ → Type 0
+PaintsOn s c l l' clear k k' = (n : ℕ) (l₀ : List ℕ) → PaintSweep s c l₀ l n k clear → PaintSweep s c l₀ l' n k' clear
+
+-- the runs before `first` are painted, and its row, which starts at dot `base`, is clear
+pub record SpanPaintable (w c : ℕ) (s l : List ℕ) (base first : ℕ) : Type 0 where
+  pub n : ℕ
+  pub l₀ : List ℕ
+  pub sweep : PaintSweep s c l₀ l n first (base + w)
+  pub comps : List ℕ
+  pub asks : Tallyable w c s comps
+  pub here : first < c
+  pub row : base ≡ startOf (take (2 * c) s) first / w * w
+
+-- the runs from `first` up to `next` are painted, and are one span
+pub record SpanPainted (w c : ℕ) (s l l' : List ℕ) (limit first next last dots sum : ℕ) : Type 0 where
+  pub painted : PaintsOn s c l l' limit first next
+  pub span : SpanOf w c s first next last dots sum
+
+-- the runs before k are painted and tallied, and row y, which the next run lies in or past, is clear
+pub record RowPaintable (w c : ℕ) (s l comps : List ℕ) (y k count : ℕ) : Type 0 where
+  pub n : ℕ
+  pub l₀ : List ℕ
+  pub sweep : PaintSweep s c l₀ l n k (y * w + w)
+  pub comps₀ : List ℕ
+  pub tally : TallySweep w c s comps₀ comps k count
+  pub from : k < c → y * w ≤ startOf (take (2 * c) s) k
+
+-- the runs from k up to `next` are painted and tallied, and the next one lies in a row further down
+pub record RowPainted (w c : ℕ) (s l l' comps comps' : List ℕ) (y k count next count' : ℕ) : Type 0 where
+  pub painted : PaintsOn s c l l' (y * w + w) k next
+  pub tallied : (comps₀ : List ℕ) → TallySweep w c s comps₀ comps k count → TallySweep w c s comps₀ comps' next count'
+  pub past : next < c → y * w + w ≤ startOf (take (2 * c) s) next

@@ -1,4 +1,4 @@
--- What the records of the components are made of, run by run.
+-- What the records of the components are made of, span by span.
 use mathlib.Core.Path.{_≡_}
 use mathlib.Core.Bool.{cond}
 use mathlib.Core.List.{List, _++_}
@@ -6,9 +6,10 @@ use Prim.Native.Nat.{ℕ, suc, _+_, _-_, _*_, _/_, _^_, _≤_, _<_}
 use lib.ListN.{getD, length, take, drop}
 use lib.Dec.{ltb}
 use Rattle.memory.specs.Lists.{table, countIf}
+use Rattle.memory.specs.Words.{over}
 use Rattle.memory.specs.Records.{encoded}
 use Rattle.memory.specs.Limits.{maxMaskSide, maxMaskDots}
-use Rattle.labelling.specs.Components.{noDots, absorbedRun}
+use Rattle.labelling.specs.Components.{noDots, absorbedSpan}
 use Rattle.labelling.specs.RecordWords.{recordWords, recordOf}
 use Rattle.labelling.specs.InkRuns.{startOf, endOf, isRoot, componentNumber, componentRuns}
 use Rattle.labelling.specs.Linking.{RunList, firstRun}
@@ -18,23 +19,25 @@ use Rattle.labelling.specs.declared.component.Component.{Component}
 unfoldable pub heldRecord : List ℕ → ℕ → ℕ → Component
 heldRecord s number count = cond (ltb count number) noDots (recordOf (take 9 (drop ((number - 1) * 9) s)))
 
--- the words with the run from column x to column x + d of row y absorbed
-abbrev pub tallied : List ℕ → ℕ → ℕ → ℕ → ℕ → ℕ → List ℕ
-tallied s number count x d y =
-    take ((number - 1) * 9) s ++ (recordWords (absorbedRun (heldRecord s number count) x d y) ++ drop ((number - 1) * 9 + 9) s)
+-- the words with a span of row y absorbed: so many dots, from column x to column `last`, whose columns add up to `sum`
+abbrev pub tallied : List ℕ → ℕ → ℕ → ℕ → ℕ → ℕ → ℕ → ℕ → List ℕ
+tallied s number count x last dots sum y =
+    take ((number - 1) * 9) s ++ (recordWords (absorbedSpan (heldRecord s number count) x last dots sum y) ++ drop ((number - 1) * 9 + 9) s)
 
--- a record whose numbers have room for a run more
+-- a record whose numbers have room for a span more
 pub record Small (c : Component) : Type 0 where
   pub area : c .area ≤ 2 ^ 30
   pub sum-x : c .«sum_x» ≤ 2 ^ 60
   pub sum-y : c .«sum_y» ≤ 2 ^ 60
 
--- a run within a row, a number that has room, and a record that has
-pub record RunTallyable (s : List ℕ) (number count x last y : ℕ) : Type 0 where
+-- a span within a row, a number that has room, and a record that has
+pub record SpanTallyable (s : List ℕ) (number count x last dots sum y : ℕ) : Type 0 where
   pub counted : 0 < number
   pub room : number * 9 ≤ length s
-  pub some : x ≤ last
+  pub order : x ≤ last
   pub narrow : last < maxMaskSide
+  pub few : dots ≤ maxMaskSide
+  pub light : sum ≤ 2 ^ 60
   pub low : y ≤ maxMaskDots
   pub small : Small (heldRecord s number count)
 
@@ -52,3 +55,10 @@ pub record Tallyable (w c : ℕ) (s components : List ℕ) : Type 0 where
   pub row : (k i : ℕ) → k < c → startOf (take (2 * c) s) k ≤ i → i < endOf (take (2 * c) s) 0 k → i / w ≡ startOf (take (2 * c) s) k / w
   pub numbers : (k : ℕ) → k < c → getD s (2 * c + k) 0 ≡ componentNumber (firstRun w c (take (2 * c) s)) k
   pub room : countIf (isRoot (firstRun w c (take (2 * c) s))) c * 9 ≤ length components
+
+-- the first k runs are tallied
+pub record TallySweep (w c : ℕ) (s comps₀ comps : List ℕ) (k count : ℕ) : Type 0 where
+  pub asks : Tallyable w c s comps₀
+  pub upto : k ≤ c
+  pub count-is : count ≡ countIf (isRoot (firstRun w c (take (2 * c) s))) k
+  pub words : comps ≡ over (records w c s k) comps₀

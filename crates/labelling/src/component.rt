@@ -2,7 +2,7 @@
 ghost use mathlib.Core.Path.{_≡_};
 ghost use Prim.Native.Nat.{_+_, _-_, _≤_, _<_, _^_};
 ghost use Rattle.memory.specs.Limits.{maxMaskSide, maxMaskDots};
-ghost use Rattle.labelling.specs.Components.{noDots, absorbed, absorbedRun, boxOf};
+ghost use Rattle.labelling.specs.Components.{noDots, absorbed, absorbedRun, absorbedSpan, boxOf};
 use crate::rect::Rect;
 use crate::rect::greater;
 use crate::rect::lesser;
@@ -68,6 +68,22 @@ impl Component {
             y1: both.y1,
             sum_x: both.sum_x + (between as u64) * ((x0 + x1) as u64) / 2,
             sum_y: both.sum_y + (between as u64) * (y as u64),
+        }
+    }
+
+    // The component with the dots of a span of row y more: so many, from column x to column `last`, whose columns add up to `sum`.
+    pub fn absorb_span(self, x: u32, last: u32, dots: u32, sum: u64, y: u32) -> Component
+        requires { ⌜ (self .area ≤ maxMaskDots) × (self .«sum_x» ≤ 2 ^ 60) × (self .«sum_y» ≤ 2 ^ 60) × (dots ≤ maxMaskSide) × (sum ≤ 2 ^ 60) × (y ≤ maxMaskDots) ⌝ }
+        ensures { λ r. ⌜ r ≡ absorbedSpan self x last dots sum y ⌝ }
+    {
+        Component {
+            area: self.area + dots,
+            x0: lesser(self.x0, x),
+            y0: lesser(self.y0, y),
+            x1: greater(self.x1, last),
+            y1: greater(self.y1, y),
+            sum_x: self.sum_x + sum,
+            sum_y: self.sum_y + (dots as u64) * (y as u64),
         }
     }
 

@@ -122,6 +122,6 @@ fn label_runs(
     if capacity < count {
         return LabelAnswer::Refused(20);
     }
-    paint_runs(&words[..], runs, w, labels, w * h, components);
+    paint_runs(&words[..], runs, w, h, labels, components);
     LabelAnswer::Labelled(count as u32)
 }

@@ -10,6 +10,7 @@ mod record;
 mod rect;
 mod runs;
 mod sizes;
+mod span;
 mod tally;
 mod words;
 
@@ -22,7 +23,6 @@ pub use link::unite;
 pub use marked::Test;
 pub use marked::extract_marked;
 pub use number::number_runs;
-pub use paint::paint_runs;
 pub use rect::Rect;
 pub use runs::extract_runs;
 pub use sizes::label_sizes;

@@ -1,17 +1,18 @@
-// Painting: the label of each dot and the record of each component, run by run, from a run list whose runs have their numbers.
+// Painting: the label of each dot and the record of each component, row by row, from a run list whose runs have their numbers. A row is
+// cleared, then painted while it is still in fast memory.
 ghost use mathlib.Core.Path.{_≡_};
-ghost use Prim.Native.Nat.{_+_, _*_, _/_, _≤_, _<_};
+ghost use Prim.Native.Nat.{_+_, _*_, _≤_, _<_};
 ghost use lib.ListN.{length};
-ghost use Rattle.memory.specs.Limits.{maxMaskSide, maxMaskDots};
 ghost use Rattle.memory.specs.Words.{over};
-ghost use Rattle.labelling.specs.Painting.{Filled, Paintable, Painted};
+ghost use Rattle.labelling.specs.Painting.{Filled, Paintable, Painted, SpanPaintable, SpanPainted, RowPaintable, RowPainted};
 ghost use Rattle.labelling.specs.Tallying.{Tallyable, records};
+use crate::span::Reached;
+use crate::span::Span;
+use crate::span::column_sum;
+use crate::span::goes_on;
 use crate::tally::larger;
-use crate::tally::tally_run;
+use crate::tally::tally_span;
 use crate::words::wide;
-
-// How many labels are cleared past a run: so few that they are still in fast memory when the next runs are painted.
-const AHEAD: usize = 1024;
 
 // Writes a value to the labels from `from` up to `to`.
 fn fill(labels: &mut [u32], from: usize, to: usize, value: u32)
@@ -34,67 +35,114 @@ fn paint_run(labels: &mut [u32], start: usize, end: usize, label: u32)
     fill(labels, start + 1, end, label);
 }
 
-// Some way past dot `end`, but no further than n.
-fn ahead(end: usize, n: usize) -> usize
-    requires { ⌜ (end ≤ n) × (n ≤ maxMaskDots) ⌝ }
-    ensures { λ r. ⌜ (end ≤ r) × (r ≤ n) ⌝ }
+// Paints the runs from `first` on that have its label and lie in its row, which starts at dot `base`.
+fn paint_span(
+    runs: &[u32],
+    c: usize,
+    w: usize,
+    base: usize,
+    first: usize,
+    labels: &mut [u32],
+) -> Span
+    requires { ⌜ SpanPaintable w c (now runs) (now labels) base first ⌝ }
+    ensures { λ r. ⌜ SpanPainted w c (now (runs .entry)) (now (labels .entry)) (now (labels .exit)) (base + w) first (r .next) (r .last) (r .dots) (r .sum) ⌝ }
 {
-    if n - end < AHEAD { n } else { end + AHEAD }
-}
-
-// Clears the labels from `clear` on, unless they are cleared up to dot `end` already; answers how far they are then.
-fn clear_ahead(labels: &mut [u32], clear: usize, end: usize, n: usize) -> usize
-    requires { ⌜ (clear ≤ n) × (end ≤ n) × (n ≤ length (now labels)) × (n ≤ maxMaskDots) ⌝ }
-    ensures { λ r. ⌜ (end ≤ r) × (clear ≤ r) × (r ≤ n) × Filled (now (labels .entry)) (now (labels .exit)) clear r 0 ⌝ }
-{
-    if end <= clear {
-        return clear;
+    let limit = base + w;
+    let label = runs[2 * c + first];
+    let start = wide(runs[2 * first]);
+    let end = wide(runs[2 * first + 1]);
+    paint_run(labels, start, end, label);
+    let mut last = end - base - 1;
+    let mut dots = end - start;
+    let mut sum = column_sum(start - base, last);
+    let mut k = first + 1;
+    while goes_on(runs, c, k, label, limit) {
+        let from = wide(runs[2 * k]);
+        let to = wide(runs[2 * k + 1]);
+        paint_run(labels, from, to, label);
+        last = to - base - 1;
+        dots += to - from;
+        sum += column_sum(from - base, last);
+        k += 1;
     }
-    let to = ahead(end, n);
-    fill(labels, clear, to, 0);
-    to
-}
-
-// How many rows of w dots there are up to that of dot `start`; `rows` are no more than that, and mostly those.
-fn rows_through(start: usize, w: usize, rows: usize) -> usize
-    requires { ⌜ (0 < w) × (w ≤ maxMaskSide) × (start ≤ maxMaskDots) × (rows * w ≤ start + w) ⌝ }
-    ensures { λ r. ⌜ r ≡ start / w + 1 ⌝ }
-{
-    if start < rows * w {
-        return rows;
+    Span {
+        next: k,
+        last: last,
+        dots: dots,
+        sum: sum,
     }
-    start / w + 1
 }
 
-// Writes the labels of n dots, on each of the c runs its number and elsewhere 0, and the components' records.
+// Paints the runs of row y, from `first` on, and writes the records of their components; `before` components have one already.
+fn paint_row(
+    runs: &[u32],
+    c: usize,
+    w: usize,
+    y: usize,
+    first: usize,
+    before: usize,
+    labels: &mut [u32],
+    components: &mut [u32],
+) -> Reached
+    requires { ⌜ RowPaintable w c (now runs) (now labels) (now components) y first before ⌝ }
+    ensures { λ r. ⌜ RowPainted w c (now (runs .entry)) (now (labels .entry)) (now (labels .exit)) (now (components .entry)) (now (components .exit)) y first before (r .next) (r .count) ⌝ }
+{
+    let base = y * w;
+    let limit = base + w;
+    let mut count = before;
+    let mut k = first;
+    while k < c {
+        let start = wide(runs[2 * k]);
+        if limit <= start {
+            return Reached {
+                next: k,
+                count: count,
+            };
+        }
+        let number = wide(runs[2 * c + k]);
+        let span = paint_span(runs, c, w, base, k, labels);
+        tally_span(
+            components,
+            number,
+            count,
+            start - base,
+            span.last,
+            span.dots,
+            span.sum,
+            y,
+        );
+        count = larger(count, number);
+        k = span.next;
+    }
+    Reached {
+        next: k,
+        count: count,
+    }
+}
+
+// Writes the labels of a plane, w wide and h high, on each of the c runs its number and elsewhere 0, and the components' records.
 pub fn paint_runs(
     runs: &[u32],
     c: usize,
     w: usize,
+    h: usize,
     labels: &mut [u32],
-    n: usize,
     components: &mut [u32],
 )
-    requires { ⌜ Paintable (now runs) c (now labels) n × Tallyable w c (now runs) (now components) ⌝ }
-    ensures { λ _. ⌜ Painted (now (runs .entry)) c (now (labels .entry)) (now (labels .exit)) n × (now (components .exit) ≡ over (records w c (now (runs .entry)) c) (now (components .entry))) ⌝ }
+    requires { ⌜ Paintable (now runs) c (now labels) (w * h) × Tallyable w c (now runs) (now components) ⌝ }
+    ensures { λ _. ⌜ Painted (now (runs .entry)) c (now (labels .entry)) (now (labels .exit)) (w * h) × (now (components .exit) ≡ over (records w c (now (runs .entry)) c) (now (components .entry))) ⌝ }
 {
-    let mut clear = 0;
-    let mut rows = 0;
     let mut count = 0;
     let mut k = 0;
-    while k < c {
-        let start = wide(runs[2 * k]);
-        let end = wide(runs[2 * k + 1]);
-        let label = runs[2 * c + k];
-        let number = wide(label);
-        clear = clear_ahead(labels, clear, end, n);
-        paint_run(labels, start, end, label);
-        rows = rows_through(start, w, rows);
-        let y = rows - 1;
-        let base = y * w;
-        tally_run(components, number, count, start - base, end - base - 1, y);
-        count = larger(count, number);
-        k += 1;
+    let mut base = 0;
+    let mut y = 0;
+    while y < h {
+        let limit = base + w;
+        fill(labels, base, limit, 0);
+        let reached = paint_row(runs, c, w, y, k, count, labels, components);
+        count = reached.count;
+        k = reached.next;
+        base = limit;
+        y += 1;
     }
-    fill(labels, clear, n, 0);
 }

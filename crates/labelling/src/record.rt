@@ -1,9 +1,9 @@
 // The nine words of a component's record: area, box, the sum of x and the sum of y, the low word of each first.
 ghost use mathlib.Core.Path.{_≡_};
-ghost use Prim.Native.Nat.{_+_, _-_, _≤_, _<_};
+ghost use Prim.Native.Nat.{_+_, _≤_, _<_, _^_};
 ghost use lib.ListN.{length};
 ghost use Rattle.memory.specs.Limits.{maxMaskSide, maxMaskDots};
-ghost use Rattle.labelling.specs.Components.{absorbedRun};
+ghost use Rattle.labelling.specs.Components.{absorbedSpan};
 ghost use Rattle.labelling.specs.RecordWords.{recordWords, recordOf, lowered, raised, longAt, longAdded};
 ghost use Rattle.labelling.specs.Tallying.{Small};
 use crate::component::Component;
@@ -31,7 +31,7 @@ pub fn encode(words: &mut [u32], c: Component)
     words[8] = (c.sum_y / 4294967296) as u32;
 }
 
-// Word i becomes v where that is less. It is stored only then, since most runs lie within the box of their component.
+// Word i becomes v where that is less. It is stored only then, since most spans lie within the box of their component.
 fn lower(words: &mut [u32], i: usize, v: u32)
     requires { ⌜ i < length (now words) ⌝ }
     ensures { λ _. ⌜ now (words .exit) ≡ lowered (now (words .entry)) i v ⌝ }
@@ -64,19 +64,18 @@ fn add_long(words: &mut [u32], i: usize, more: u64)
     words[high] = (sum / 4294967296) as u32;
 }
 
-// The record in nine words with the dots from column x0 to column x1 of row y more, in its place: what absorb_run gives, with fewer words
-// read and written.
-pub fn absorb_words(words: &mut [u32], x0: u32, x1: u32, y: u32)
-    requires { ⌜ (length (now words) ≡ 9) × (x0 ≤ x1) × (x1 < maxMaskSide) × (y ≤ maxMaskDots) × Small (recordOf (now words)) ⌝ }
-    ensures { λ _. ⌜ now (words .exit) ≡ recordWords (absorbedRun (recordOf (now (words .entry))) x0 (x1 - x0) y) ⌝ }
+// The record in nine words with the dots of a span of row y more, in its place: what absorb_span gives, with fewer words read and
+// written.
+pub fn absorb_words(words: &mut [u32], x: u32, last: u32, dots: u32, sum: u64, y: u32)
+    requires { ⌜ (length (now words) ≡ 9) × (dots ≤ maxMaskSide) × (sum ≤ 2 ^ 60) × (y ≤ maxMaskDots) × Small (recordOf (now words)) ⌝ }
+    ensures { λ _. ⌜ now (words .exit) ≡ recordWords (absorbedSpan (recordOf (now (words .entry))) x last dots sum y) ⌝ }
 {
-    let dots = x1 - x0 + 1;
     let area = words[0];
     words[0] = area + dots;
-    lower(words, 1, x0);
+    lower(words, 1, x);
     lower(words, 2, y);
-    raise(words, 3, x1);
+    raise(words, 3, last);
     raise(words, 4, y);
-    add_long(words, 5, wider(dots) * wider(x0 + x1) / 2);
+    add_long(words, 5, sum);
     add_long(words, 7, wider(dots) * wider(y));
 }

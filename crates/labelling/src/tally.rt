@@ -1,7 +1,7 @@
-// The record of a component, and a run absorbed by it.
+// The record of a component, and a span absorbed by it.
 ghost use mathlib.Core.Path.{_≡_};
-ghost use Prim.Native.Nat.{_-_, max};
-ghost use Rattle.labelling.specs.Tallying.{RunTallyable, tallied};
+ghost use Prim.Native.Nat.{max};
+ghost use Rattle.labelling.specs.Tallying.{SpanTallyable, tallied};
 use crate::component::Component;
 use crate::record::absorb_words;
 use crate::record::encode;
@@ -13,24 +13,39 @@ pub fn larger(a: usize, b: usize) -> usize
     if a < b { b } else { a }
 }
 
-// The dots from column x to column `last` of row y, a run of the component with this number, absorbed by its record: a new
-// one where `count` have one and this is past them.
-pub fn tally_run(
+// The dots of a span absorbed by the record of the component with this number: a new one where `count` have one and this is past
+// them. The span lies in row y, from column x to column `last`.
+pub fn tally_span(
     components: &mut [u32],
     number: usize,
     count: usize,
     x: usize,
     last: usize,
+    dots: usize,
+    sum: usize,
     y: usize,
 )
-    requires { ⌜ RunTallyable (now components) number count x last y ⌝ }
-    ensures { λ _. ⌜ now (components .exit) ≡ tallied (now (components .entry)) number count x (last - x) y ⌝ }
+    requires { ⌜ SpanTallyable (now components) number count x last dots sum y ⌝ }
+    ensures { λ _. ⌜ now (components .exit) ≡ tallied (now (components .entry)) number count x last dots sum y ⌝ }
 {
     let at = (number - 1) * 9;
     if count < number {
-        let after = Component::none().absorb_run(x as u32, last as u32, y as u32);
+        let after = Component::none().absorb_span(
+            x as u32,
+            last as u32,
+            dots as u32,
+            sum as u64,
+            y as u32,
+        );
         encode(&mut components[at..at + 9], after);
         return;
     }
-    absorb_words(&mut components[at..at + 9], x as u32, last as u32, y as u32);
+    absorb_words(
+        &mut components[at..at + 9],
+        x as u32,
+        last as u32,
+        dots as u32,
+        sum as u64,
+        y as u32,
+    );
 }

@@ -34,9 +34,6 @@ same-length c = stage-length ((c .before .before .before .before .before .before
 returns : tie.Need-returns
 returns c = stage-many ((c .before .before .before .before .before .before .before .before .before .before .before .before .before .before .before .before .before) .pre) ((c .before .before .before .before .before .before .before .before .before .before .before .extract-runs) .ensures) ((c .before .before .before .before .before .before .before .link-runs) .ensures) ((c .before .before .before .number-runs) .ensures) ((c .if1) .taken)
 
-mul-paint-runs : tie.Need-mul-paint-runs
-mul-paint-runs c = search needs
-
 paint-runs-requires : tie.Need-paint-runs-requires
 paint-runs-requires c κs = (stage-paint ((c .before .before .before .before .before .before .before .before .before .before .before .before .before .before .before .before .before .before .before .before) .pre) ((c .before .before .before .before .before .before .before .before .before .before .before .before .before .before .extract-runs) .ensures) ((c .before .before .before .before .before .before .before .before .before .before .link-runs) .ensures) ((c .before .before .before .before .before .before .number-runs) .ensures) ((c .before .before .before .if1) .left), stage-tally ((c .before .before .before .before .before .before .before .before .before .before .before .before .before .before .before .before .before .before .before .before) .pre) ((c .before .before .before .before .before .before .before .before .before .before .before .before .before .before .extract-runs) .ensures) ((c .before .before .before .before .before .before .before .before .before .before .link-runs) .ensures) ((c .before .before .before .before .before .before .number-runs) .ensures) ((c .before .before .before .if1) .left))
 
@@ -69,7 +66,6 @@ label-runs-spec =
     number-runs-requires
     same-length
     returns
-    mul-paint-runs
     paint-runs-requires
     cast-t28
     same-length-2

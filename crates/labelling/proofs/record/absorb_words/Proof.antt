@@ -1,18 +1,13 @@
 use borrow.Author.Needs.{needs}
 use native.Mathlib.Omega.{arith}
-use mathlib.Core.Path.{_≡_, refl, sym, ap, _∙_}
-use Prim.Native.Nat.{_+_, _-_, _*_, _/_, _^_}
+use mathlib.Core.Path.{_≡_, sym, ap, _∙_}
+use Prim.Native.Nat.{_+_, _*_, _^_}
 use lib.ListN.{getD, length, length-set}
+use Rattle.labelling.specs.RecordWords.{longAdded}
 use Rattle.labelling.proofs.AbsorbLaws.{between-small}
-use Rattle.labelling.proofs.NineLaws.{box-long, sum-first, sum-long, sum-second, nine-absorbed, nine-run}
+use Rattle.labelling.proofs.NineLaws.{box-long, sum-first, sum-long, sum-second, nine-absorbed}
 use Rattle.labelling.proofs.record.absorb_words.Statement.{statement}
 use Rattle.labelling.proofs.record.absorb_words.Tie as tie
-
-sub-dots : tie.Need-sub-dots
-sub-dots c = search needs
-
-add-dots : tie.Need-add-dots
-add-dots c = search needs
 
 slice-read-area : tie.Need-slice-read-area
 slice-read-area c = search needs
@@ -35,45 +30,31 @@ raise-requires c κs = let l₁ : length ((c .before .before .before .before .be
 raise-requires-2 : tie.Need-raise-requires-2
 raise-requires-2 c κs = let l₁ : length ((c .before .before .before .before .before .before .before .before .before .before .before .lower) .last .0) ≡ 9 = ap length ((c .before .before .before .before .before .before .before .before .before .before .before .lower) .ensures) ∙ simp length-set ((c .before .before .before .before .before .before .before .before .before .before .before .before .before .before .before) .pre .0) in let l₂ : length ((c .before .before .before .before .before .before .before .lower2) .last .0) ≡ 9 = ap length ((c .before .before .before .before .before .before .before .lower2) .ensures) ∙ simp length-set l₁ in let l₃ : length ((c .before .before .before .raise) .last .0) ≡ 9 = ap length ((c .before .before .before .raise) .ensures) ∙ simp length-set l₂ in omega arith
 
+add-long-requires : tie.Need-add-long-requires
+add-long-requires c κs = let p = (c .before .before .before .before .before .before .before .before .before .before .before .before .before .before .before .before .before .before .before) .pre in let q = (c .before .before .before .before .before .before .before .before .before .before .before .before .before .before .before .before .before .before .before) .pre .4 in let e = sum-first ((c .before .before .before .before .before .before .before .before .before .before .before .before .before .before .before .before .before .before .before) .args .words .now) ((c .before .before .before .before .before .before .before .before .before .before .before .before .before .before .before .before .before .before .before) .pre .0) (getD ((c .before .before .before .before .before .before .before .before .before .before .before .before .before .before .before .before .before .before .before) .args .words .now) 0 0 + (c .before .before .before .before .before .before .before .before .before .before .before .before .before .before .before .before .before .before .before) .args .dots) ((c .before .before .before .before .before .before .before .before .before .before .before .before .before .before .before .before .before .before .before) .args .x) ((c .before .before .before .before .before .before .before .before .before .before .before .before .before .before .before .before .before .before .before) .args .y) ((c .before .before .before .before .before .before .before .before .before .before .before .before .before .before .before .before .before .before .before) .args .last) ((c .before .before .before .before .before .before .before .before .before .before .before .before .before .before .before .lower) .last .0) ((c .before .before .before .before .before .before .before .before .before .before .before .lower2) .last .0) ((c .before .before .before .before .before .before .before .raise) .last .0) ((c .before .before .before .raise2) .last .0) ((c .before .before .before .before .before .before .before .before .before .before .before .before .before .before .before .lower) .ensures) ((c .before .before .before .before .before .before .before .before .before .before .before .lower2) .ensures) ((c .before .before .before .before .before .before .before .raise) .ensures) ((c .before .before .before .raise2) .ensures) in let r = q .sum-x in (omega arith, box-long ((c .before .before .before .before .before .before .before .before .before .before .before .before .before .before .before .before .before .before .before) .args .words .now) ((c .before .before .before .before .before .before .before .before .before .before .before .before .before .before .before .before .before .before .before) .pre .0) (getD ((c .before .before .before .before .before .before .before .before .before .before .before .before .before .before .before .before .before .before .before) .args .words .now) 0 0 + (c .before .before .before .before .before .before .before .before .before .before .before .before .before .before .before .before .before .before .before) .args .dots) ((c .before .before .before .before .before .before .before .before .before .before .before .before .before .before .before .before .before .before .before) .args .x) ((c .before .before .before .before .before .before .before .before .before .before .before .before .before .before .before .before .before .before .before) .args .y) ((c .before .before .before .before .before .before .before .before .before .before .before .before .before .before .before .before .before .before .before) .args .last) ((c .before .before .before .before .before .before .before .before .before .before .before .before .before .before .before .lower) .last .0) ((c .before .before .before .before .before .before .before .before .before .before .before .lower2) .last .0) ((c .before .before .before .before .before .before .before .raise) .last .0) ((c .before .before .before .raise2) .last .0) ((c .before .before .before .before .before .before .before .before .before .before .before .before .before .before .before .lower) .ensures) ((c .before .before .before .before .before .before .before .before .before .before .before .lower2) .ensures) ((c .before .before .before .before .before .before .before .raise) .ensures) ((c .before .before .before .raise2) .ensures) .3, omega arith)
+
 wider-requires : tie.Need-wider-requires
 wider-requires c κs = search needs
-
-add-wider : tie.Need-add-wider
-add-wider c = search needs
 
 wider-requires-2 : tie.Need-wider-requires-2
 wider-requires-2 c κs = search needs
 
 mul-add-long : tie.Need-mul-add-long
-mul-add-long c = let p = (c .before .before .before .before .before .before .before .before .before .before .before .before .before .before .before .before .before .before .before .before .before) .pre in let q = (c .before .before .before .before .before .before .before .before .before .before .before .before .before .before .before .before .before .before .before .before .before) .pre .4 in let h = between-small ((c .before .wider) .result) ((c .wider2) .result) 262144 (omega (arith, (c .before .wider) .ensures)) (omega (arith, (c .wider2) .ensures)) in omega arith
-
-add-long-requires : tie.Need-add-long-requires
-add-long-requires c κs = let p = (c .before .before .before .before .before .before .before .before .before .before .before .before .before .before .before .before .before .before .before .before .before) .pre in let q = (c .before .before .before .before .before .before .before .before .before .before .before .before .before .before .before .before .before .before .before .before .before) .pre .4 in let h = between-small ((c .before .wider) .result) ((c .wider2) .result) 262144 (omega (arith, (c .before .wider) .ensures)) (omega (arith, (c .wider2) .ensures)) in let e = sum-first ((c .before .before .before .before .before .before .before .before .before .before .before .before .before .before .before .before .before .before .before .before .before) .args .words .now) ((c .before .before .before .before .before .before .before .before .before .before .before .before .before .before .before .before .before .before .before .before .before) .pre .0) (getD ((c .before .before .before .before .before .before .before .before .before .before .before .before .before .before .before .before .before .before .before .before .before) .args .words .now) 0 0 + ((c .before .before .before .before .before .before .before .before .before .before .before .before .before .before .before .before .before .before .before .before .before) .args .x1 - (c .before .before .before .before .before .before .before .before .before .before .before .before .before .before .before .before .before .before .before .before .before) .args .x0 + 1)) ((c .before .before .before .before .before .before .before .before .before .before .before .before .before .before .before .before .before .before .before .before .before) .args .x0) ((c .before .before .before .before .before .before .before .before .before .before .before .before .before .before .before .before .before .before .before .before .before) .args .y) ((c .before .before .before .before .before .before .before .before .before .before .before .before .before .before .before .before .before .before .before .before .before) .args .x1) ((c .before .before .before .before .before .before .before .before .before .before .before .before .before .before .before .before .before .lower) .last .0) ((c .before .before .before .before .before .before .before .before .before .before .before .before .before .lower2) .last .0) ((c .before .before .before .before .before .before .before .before .before .raise) .last .0) ((c .before .before .before .before .before .raise2) .last .0) ((c .before .before .before .before .before .before .before .before .before .before .before .before .before .before .before .before .before .lower) .ensures) ((c .before .before .before .before .before .before .before .before .before .before .before .before .before .lower2) .ensures) ((c .before .before .before .before .before .before .before .before .before .raise) .ensures) ((c .before .before .before .before .before .raise2) .ensures) in let r = q .sum-x in (omega arith, box-long ((c .before .before .before .before .before .before .before .before .before .before .before .before .before .before .before .before .before .before .before .before .before) .args .words .now) ((c .before .before .before .before .before .before .before .before .before .before .before .before .before .before .before .before .before .before .before .before .before) .pre .0) (getD ((c .before .before .before .before .before .before .before .before .before .before .before .before .before .before .before .before .before .before .before .before .before) .args .words .now) 0 0 + ((c .before .before .before .before .before .before .before .before .before .before .before .before .before .before .before .before .before .before .before .before .before) .args .x1 - (c .before .before .before .before .before .before .before .before .before .before .before .before .before .before .before .before .before .before .before .before .before) .args .x0 + 1)) ((c .before .before .before .before .before .before .before .before .before .before .before .before .before .before .before .before .before .before .before .before .before) .args .x0) ((c .before .before .before .before .before .before .before .before .before .before .before .before .before .before .before .before .before .before .before .before .before) .args .y) ((c .before .before .before .before .before .before .before .before .before .before .before .before .before .before .before .before .before .before .before .before .before) .args .x1) ((c .before .before .before .before .before .before .before .before .before .before .before .before .before .before .before .before .before .lower) .last .0) ((c .before .before .before .before .before .before .before .before .before .before .before .before .before .lower2) .last .0) ((c .before .before .before .before .before .before .before .before .before .raise) .last .0) ((c .before .before .before .before .before .raise2) .last .0) ((c .before .before .before .before .before .before .before .before .before .before .before .before .before .before .before .before .before .lower) .ensures) ((c .before .before .before .before .before .before .before .before .before .before .before .before .before .lower2) .ensures) ((c .before .before .before .before .before .before .before .before .before .raise) .ensures) ((c .before .before .before .before .before .raise2) .ensures) .3, omega arith)
-
-wider-requires-3 : tie.Need-wider-requires-3
-wider-requires-3 c κs = search needs
-
-wider-requires-4 : tie.Need-wider-requires-4
-wider-requires-4 c κs = search needs
-
-mul-add-long-2 : tie.Need-mul-add-long-2
-mul-add-long-2 c = let p = (c .before .before .before .before .before .before .before .before .before .before .before .before .before .before .before .before .before .before .before .before .before .before .before .before .before .before .before) .pre in let q = (c .before .before .before .before .before .before .before .before .before .before .before .before .before .before .before .before .before .before .before .before .before .before .before .before .before .before .before) .pre .4 in let h = between-small ((c .before .wider3) .result) ((c .wider4) .result) (2 ^ 30) (omega (arith, (c .before .wider3) .ensures)) (omega (arith, (c .wider4) .ensures)) in omega arith
+mul-add-long c = let p = (c .before .before .before .before .before .before .before .before .before .before .before .before .before .before .before .before .before .before .before .before .before .before .before .before .before) .pre in let q = (c .before .before .before .before .before .before .before .before .before .before .before .before .before .before .before .before .before .before .before .before .before .before .before .before .before) .pre .4 in let h = between-small ((c .before .wider) .result) ((c .wider2) .result) (2 ^ 30) (omega (arith, (c .before .wider) .ensures)) (omega (arith, (c .wider2) .ensures)) in omega arith
 
 add-long-requires-2 : tie.Need-add-long-requires-2
-add-long-requires-2 c κs = let p = (c .before .before .before .before .before .before .before .before .before .before .before .before .before .before .before .before .before .before .before .before .before .before .before .before .before .before .before) .pre in let q = (c .before .before .before .before .before .before .before .before .before .before .before .before .before .before .before .before .before .before .before .before .before .before .before .before .before .before .before) .pre .4 in let h = between-small ((c .before .wider3) .result) ((c .wider4) .result) (2 ^ 30) (omega (arith, (c .before .wider3) .ensures)) (omega (arith, (c .wider4) .ensures)) in let e = sum-second ((c .before .before .before .before .before .before .before .before .before .before .before .before .before .before .before .before .before .before .before .before .before .before .before .before .before .before .before) .args .words .now) ((c .before .before .before .before .before .before .before .before .before .before .before .before .before .before .before .before .before .before .before .before .before .before .before .before .before .before .before) .pre .0) (getD ((c .before .before .before .before .before .before .before .before .before .before .before .before .before .before .before .before .before .before .before .before .before .before .before .before .before .before .before) .args .words .now) 0 0 + ((c .before .before .before .before .before .before .before .before .before .before .before .before .before .before .before .before .before .before .before .before .before .before .before .before .before .before .before) .args .x1 - (c .before .before .before .before .before .before .before .before .before .before .before .before .before .before .before .before .before .before .before .before .before .before .before .before .before .before .before) .args .x0 + 1)) ((c .before .before .before .before .before .before .before .before .before .before .before .before .before .before .before .before .before .before .before .before .before .before .before .before .before .before .before) .args .x0) ((c .before .before .before .before .before .before .before .before .before .before .before .before .before .before .before .before .before .before .before .before .before .before .before .before .before .before .before) .args .y) ((c .before .before .before .before .before .before .before .before .before .before .before .before .before .before .before .before .before .before .before .before .before .before .before .before .before .before .before) .args .x1) ((c .before .before .before .before .before .before .before .before .before .before .before .before .before .before .before .before .before .before .before .before .before .before .before .lower) .last .0) ((c .before .before .before .before .before .before .before .before .before .before .before .before .before .before .before .before .before .before .before .lower2) .last .0) ((c .before .before .before .before .before .before .before .before .before .before .before .before .before .before .before .raise) .last .0) ((c .before .before .before .before .before .before .before .before .before .before .before .raise2) .last .0) ((c .before .before .before .before .before .before .before .before .before .before .before .before .before .before .before .before .before .before .before .before .before .before .before .lower) .ensures) ((c .before .before .before .before .before .before .before .before .before .before .before .before .before .before .before .before .before .before .before .lower2) .ensures) ((c .before .before .before .before .before .before .before .before .before .before .before .before .before .before .before .raise) .ensures) ((c .before .before .before .before .before .before .before .before .before .before .before .raise2) .ensures) ((c .before .before .before .before .before .before .before .wider) .result * (c .before .before .before .before .before .before .wider2) .result / 2) ((c .before .before .before .before .before .add-long) .last .0) ((c .before .before .before .before .before .add-long) .ensures) in let r = q .sum-y in (omega arith, sum-long ((c .before .before .before .before .before .before .before .before .before .before .before .before .before .before .before .before .before .before .before .before .before .before .before .before .before .before .before) .args .words .now) ((c .before .before .before .before .before .before .before .before .before .before .before .before .before .before .before .before .before .before .before .before .before .before .before .before .before .before .before) .pre .0) (getD ((c .before .before .before .before .before .before .before .before .before .before .before .before .before .before .before .before .before .before .before .before .before .before .before .before .before .before .before) .args .words .now) 0 0 + ((c .before .before .before .before .before .before .before .before .before .before .before .before .before .before .before .before .before .before .before .before .before .before .before .before .before .before .before) .args .x1 - (c .before .before .before .before .before .before .before .before .before .before .before .before .before .before .before .before .before .before .before .before .before .before .before .before .before .before .before) .args .x0 + 1)) ((c .before .before .before .before .before .before .before .before .before .before .before .before .before .before .before .before .before .before .before .before .before .before .before .before .before .before .before) .args .x0) ((c .before .before .before .before .before .before .before .before .before .before .before .before .before .before .before .before .before .before .before .before .before .before .before .before .before .before .before) .args .y) ((c .before .before .before .before .before .before .before .before .before .before .before .before .before .before .before .before .before .before .before .before .before .before .before .before .before .before .before) .args .x1) ((c .before .before .before .before .before .before .before .before .before .before .before .before .before .before .before .before .before .before .before .before .before .before .before .lower) .last .0) ((c .before .before .before .before .before .before .before .before .before .before .before .before .before .before .before .before .before .before .before .lower2) .last .0) ((c .before .before .before .before .before .before .before .before .before .before .before .before .before .before .before .raise) .last .0) ((c .before .before .before .before .before .before .before .before .before .before .before .raise2) .last .0) ((c .before .before .before .before .before .before .before .before .before .before .before .before .before .before .before .before .before .before .before .before .before .before .before .lower) .ensures) ((c .before .before .before .before .before .before .before .before .before .before .before .before .before .before .before .before .before .before .before .lower2) .ensures) ((c .before .before .before .before .before .before .before .before .before .before .before .before .before .before .before .raise) .ensures) ((c .before .before .before .before .before .before .before .before .before .before .before .raise2) .ensures) ((c .before .before .before .before .before .before .before .wider) .result * (c .before .before .before .before .before .before .wider2) .result / 2) ((c .before .before .before .before .before .add-long) .last .0) ((c .before .before .before .before .before .add-long) .ensures), omega arith)
+add-long-requires-2 c κs = let p = (c .before .before .before .before .before .before .before .before .before .before .before .before .before .before .before .before .before .before .before .before .before .before .before .before .before) .pre in let q = (c .before .before .before .before .before .before .before .before .before .before .before .before .before .before .before .before .before .before .before .before .before .before .before .before .before) .pre .4 in let h = between-small ((c .before .wider) .result) ((c .wider2) .result) (2 ^ 30) (omega (arith, (c .before .wider) .ensures)) (omega (arith, (c .wider2) .ensures)) in let e = sum-second ((c .before .before .before .before .before .before .before .before .before .before .before .before .before .before .before .before .before .before .before .before .before .before .before .before .before) .args .words .now) ((c .before .before .before .before .before .before .before .before .before .before .before .before .before .before .before .before .before .before .before .before .before .before .before .before .before) .pre .0) (getD ((c .before .before .before .before .before .before .before .before .before .before .before .before .before .before .before .before .before .before .before .before .before .before .before .before .before) .args .words .now) 0 0 + (c .before .before .before .before .before .before .before .before .before .before .before .before .before .before .before .before .before .before .before .before .before .before .before .before .before) .args .dots) ((c .before .before .before .before .before .before .before .before .before .before .before .before .before .before .before .before .before .before .before .before .before .before .before .before .before) .args .x) ((c .before .before .before .before .before .before .before .before .before .before .before .before .before .before .before .before .before .before .before .before .before .before .before .before .before) .args .y) ((c .before .before .before .before .before .before .before .before .before .before .before .before .before .before .before .before .before .before .before .before .before .before .before .before .before) .args .last) ((c .before .before .before .before .before .before .before .before .before .before .before .before .before .before .before .before .before .before .before .before .before .lower) .last .0) ((c .before .before .before .before .before .before .before .before .before .before .before .before .before .before .before .before .before .lower2) .last .0) ((c .before .before .before .before .before .before .before .before .before .before .before .before .before .raise) .last .0) ((c .before .before .before .before .before .before .before .before .before .raise2) .last .0) ((c .before .before .before .before .before .before .before .before .before .before .before .before .before .before .before .before .before .before .before .before .before .lower) .ensures) ((c .before .before .before .before .before .before .before .before .before .before .before .before .before .before .before .before .before .lower2) .ensures) ((c .before .before .before .before .before .before .before .before .before .before .before .before .before .raise) .ensures) ((c .before .before .before .before .before .before .before .before .before .raise2) .ensures) ((c .before .before .before .before .before .before .before .before .before .before .before .before .before .before .before .before .before .before .before .before .before .before .before .before .before) .args .sum) ((c .before .before .before .before .before .add-long) .last .0) ((c .before .before .before .before .before .add-long) .ensures) in let r = q .sum-y in (omega arith, sum-long ((c .before .before .before .before .before .before .before .before .before .before .before .before .before .before .before .before .before .before .before .before .before .before .before .before .before) .args .words .now) ((c .before .before .before .before .before .before .before .before .before .before .before .before .before .before .before .before .before .before .before .before .before .before .before .before .before) .pre .0) (getD ((c .before .before .before .before .before .before .before .before .before .before .before .before .before .before .before .before .before .before .before .before .before .before .before .before .before) .args .words .now) 0 0 + (c .before .before .before .before .before .before .before .before .before .before .before .before .before .before .before .before .before .before .before .before .before .before .before .before .before) .args .dots) ((c .before .before .before .before .before .before .before .before .before .before .before .before .before .before .before .before .before .before .before .before .before .before .before .before .before) .args .x) ((c .before .before .before .before .before .before .before .before .before .before .before .before .before .before .before .before .before .before .before .before .before .before .before .before .before) .args .y) ((c .before .before .before .before .before .before .before .before .before .before .before .before .before .before .before .before .before .before .before .before .before .before .before .before .before) .args .last) ((c .before .before .before .before .before .before .before .before .before .before .before .before .before .before .before .before .before .before .before .before .before .lower) .last .0) ((c .before .before .before .before .before .before .before .before .before .before .before .before .before .before .before .before .before .lower2) .last .0) ((c .before .before .before .before .before .before .before .before .before .before .before .before .before .raise) .last .0) ((c .before .before .before .before .before .before .before .before .before .raise2) .last .0) ((c .before .before .before .before .before .before .before .before .before .before .before .before .before .before .before .before .before .before .before .before .before .lower) .ensures) ((c .before .before .before .before .before .before .before .before .before .before .before .before .before .before .before .before .before .lower2) .ensures) ((c .before .before .before .before .before .before .before .before .before .before .before .before .before .raise) .ensures) ((c .before .before .before .before .before .before .before .before .before .raise2) .ensures) ((c .before .before .before .before .before .before .before .before .before .before .before .before .before .before .before .before .before .before .before .before .before .before .before .before .before) .args .sum) ((c .before .before .before .before .before .add-long) .last .0) ((c .before .before .before .before .before .add-long) .ensures), omega arith)
 
 same-length : tie.Need-same-length
-same-length c = ap length ((c .before .before .add-long2) .ensures) ∙ simp length-set (sum-long ((c .before .before .before .before .before .before .before .before .before .before .before .before .before .before .before .before .before .before .before .before .before .before .before .before .before .before .before .before .before .before) .args .words .now) ((c .before .before .before .before .before .before .before .before .before .before .before .before .before .before .before .before .before .before .before .before .before .before .before .before .before .before .before .before .before .before) .pre .0) (getD ((c .before .before .before .before .before .before .before .before .before .before .before .before .before .before .before .before .before .before .before .before .before .before .before .before .before .before .before .before .before .before) .args .words .now) 0 0 + ((c .before .before .before .before .before .before .before .before .before .before .before .before .before .before .before .before .before .before .before .before .before .before .before .before .before .before .before .before .before .before) .args .x1 - (c .before .before .before .before .before .before .before .before .before .before .before .before .before .before .before .before .before .before .before .before .before .before .before .before .before .before .before .before .before .before) .args .x0 + 1)) ((c .before .before .before .before .before .before .before .before .before .before .before .before .before .before .before .before .before .before .before .before .before .before .before .before .before .before .before .before .before .before) .args .x0) ((c .before .before .before .before .before .before .before .before .before .before .before .before .before .before .before .before .before .before .before .before .before .before .before .before .before .before .before .before .before .before) .args .y) ((c .before .before .before .before .before .before .before .before .before .before .before .before .before .before .before .before .before .before .before .before .before .before .before .before .before .before .before .before .before .before) .args .x1) ((c .before .before .before .before .before .before .before .before .before .before .before .before .before .before .before .before .before .before .before .before .before .before .before .before .before .before .lower) .last .0) ((c .before .before .before .before .before .before .before .before .before .before .before .before .before .before .before .before .before .before .before .before .before .before .lower2) .last .0) ((c .before .before .before .before .before .before .before .before .before .before .before .before .before .before .before .before .before .before .raise) .last .0) ((c .before .before .before .before .before .before .before .before .before .before .before .before .before .before .raise2) .last .0) ((c .before .before .before .before .before .before .before .before .before .before .before .before .before .before .before .before .before .before .before .before .before .before .before .before .before .before .lower) .ensures) ((c .before .before .before .before .before .before .before .before .before .before .before .before .before .before .before .before .before .before .before .before .before .before .lower2) .ensures) ((c .before .before .before .before .before .before .before .before .before .before .before .before .before .before .before .before .before .before .raise) .ensures) ((c .before .before .before .before .before .before .before .before .before .before .before .before .before .before .raise2) .ensures) ((c .before .before .before .before .before .before .before .before .before .before .wider) .result * (c .before .before .before .before .before .before .before .before .before .wider2) .result / 2) ((c .before .before .before .before .before .before .before .before .add-long) .last .0) ((c .before .before .before .before .before .before .before .before .add-long) .ensures) ∙ sym ((c .before .before .before .before .before .before .before .before .before .before .before .before .before .before .before .before .before .before .before .before .before .before .before .before .before .before .before .before .before .before) .pre .0))
+same-length c = ap length ((c .before .before .add-long2) .ensures) ∙ simp length-set (sum-long ((c .before .before .before .before .before .before .before .before .before .before .before .before .before .before .before .before .before .before .before .before .before .before .before .before .before .before .before .before) .args .words .now) ((c .before .before .before .before .before .before .before .before .before .before .before .before .before .before .before .before .before .before .before .before .before .before .before .before .before .before .before .before) .pre .0) (getD ((c .before .before .before .before .before .before .before .before .before .before .before .before .before .before .before .before .before .before .before .before .before .before .before .before .before .before .before .before) .args .words .now) 0 0 + (c .before .before .before .before .before .before .before .before .before .before .before .before .before .before .before .before .before .before .before .before .before .before .before .before .before .before .before .before) .args .dots) ((c .before .before .before .before .before .before .before .before .before .before .before .before .before .before .before .before .before .before .before .before .before .before .before .before .before .before .before .before) .args .x) ((c .before .before .before .before .before .before .before .before .before .before .before .before .before .before .before .before .before .before .before .before .before .before .before .before .before .before .before .before) .args .y) ((c .before .before .before .before .before .before .before .before .before .before .before .before .before .before .before .before .before .before .before .before .before .before .before .before .before .before .before .before) .args .last) ((c .before .before .before .before .before .before .before .before .before .before .before .before .before .before .before .before .before .before .before .before .before .before .before .before .lower) .last .0) ((c .before .before .before .before .before .before .before .before .before .before .before .before .before .before .before .before .before .before .before .before .lower2) .last .0) ((c .before .before .before .before .before .before .before .before .before .before .before .before .before .before .before .before .raise) .last .0) ((c .before .before .before .before .before .before .before .before .before .before .before .before .raise2) .last .0) ((c .before .before .before .before .before .before .before .before .before .before .before .before .before .before .before .before .before .before .before .before .before .before .before .before .lower) .ensures) ((c .before .before .before .before .before .before .before .before .before .before .before .before .before .before .before .before .before .before .before .before .lower2) .ensures) ((c .before .before .before .before .before .before .before .before .before .before .before .before .before .before .before .before .raise) .ensures) ((c .before .before .before .before .before .before .before .before .before .before .before .before .raise2) .ensures) ((c .before .before .before .before .before .before .before .before .before .before .before .before .before .before .before .before .before .before .before .before .before .before .before .before .before .before .before .before) .args .sum) ((c .before .before .before .before .before .before .before .before .add-long) .last .0) ((c .before .before .before .before .before .before .before .before .add-long) .ensures) ∙ sym ((c .before .before .before .before .before .before .before .before .before .before .before .before .before .before .before .before .before .before .before .before .before .before .before .before .before .before .before .before) .pre .0))
 
 returns : tie.Need-returns
-returns c = nine-absorbed ((c .before .before .before .before .before .before .before .before .before .before .before .before .before .before .before .before .before .before .before .before .before .before .before .before .before .before .before .before .before .before) .args .words .now) ((c .before .before .before .before .before .before .before .before .before .before .before .before .before .before .before .before .before .before .before .before .before .before .before .before .before .before .before .before .before .before) .pre .0) (getD ((c .before .before .before .before .before .before .before .before .before .before .before .before .before .before .before .before .before .before .before .before .before .before .before .before .before .before .before .before .before .before) .args .words .now) 0 0 + ((c .before .before .before .before .before .before .before .before .before .before .before .before .before .before .before .before .before .before .before .before .before .before .before .before .before .before .before .before .before .before) .args .x1 - (c .before .before .before .before .before .before .before .before .before .before .before .before .before .before .before .before .before .before .before .before .before .before .before .before .before .before .before .before .before .before) .args .x0 + 1)) ((c .before .before .before .before .before .before .before .before .before .before .before .before .before .before .before .before .before .before .before .before .before .before .before .before .before .before .before .before .before .before) .args .x0) ((c .before .before .before .before .before .before .before .before .before .before .before .before .before .before .before .before .before .before .before .before .before .before .before .before .before .before .before .before .before .before) .args .y) ((c .before .before .before .before .before .before .before .before .before .before .before .before .before .before .before .before .before .before .before .before .before .before .before .before .before .before .before .before .before .before) .args .x1) ((c .before .before .before .before .before .before .before .before .before .before .before .before .before .before .before .before .before .before .before .before .before .before .before .before .before .before .lower) .last .0) ((c .before .before .before .before .before .before .before .before .before .before .before .before .before .before .before .before .before .before .before .before .before .before .lower2) .last .0) ((c .before .before .before .before .before .before .before .before .before .before .before .before .before .before .before .before .before .before .raise) .last .0) ((c .before .before .before .before .before .before .before .before .before .before .before .before .before .before .raise2) .last .0) ((c .before .before .before .before .before .before .before .before .before .before .before .before .before .before .before .before .before .before .before .before .before .before .before .before .before .before .lower) .ensures) ((c .before .before .before .before .before .before .before .before .before .before .before .before .before .before .before .before .before .before .before .before .before .before .lower2) .ensures) ((c .before .before .before .before .before .before .before .before .before .before .before .before .before .before .before .before .before .before .raise) .ensures) ((c .before .before .before .before .before .before .before .before .before .before .before .before .before .before .raise2) .ensures) ((c .before .before .before .before .before .before .before .before .before .before .wider) .result * (c .before .before .before .before .before .before .before .before .before .wider2) .result / 2) ((c .before .before .before .before .before .before .before .before .add-long) .last .0) ((c .before .before .before .before .before .before .before .before .add-long) .ensures) ((c .before .before .before .before .wider3) .result * (c .before .before .before .wider4) .result) ((c .before .before .add-long2) .last .0) ((c .before .before .add-long2) .ensures) ∙ nine-run ((c .before .before .before .before .before .before .before .before .before .before .before .before .before .before .before .before .before .before .before .before .before .before .before .before .before .before .before .before .before .before) .args .words .now) ((c .before .before .before .before .before .before .before .before .before .before .before .before .before .before .before .before .before .before .before .before .before .before .before .before .before .before .before .before .before .before) .args .x0) ((c .before .before .before .before .before .before .before .before .before .before .before .before .before .before .before .before .before .before .before .before .before .before .before .before .before .before .before .before .before .before) .args .x1) ((c .before .before .before .before .before .before .before .before .before .before .before .before .before .before .before .before .before .before .before .before .before .before .before .before .before .before .before .before .before .before) .args .y) ((c .before .before .before .before .before .before .before .before .before .before .before .before .before .before .before .before .before .before .before .before .before .before .before .before .before .before .before .before .before .before) .args .x1 - (c .before .before .before .before .before .before .before .before .before .before .before .before .before .before .before .before .before .before .before .before .before .before .before .before .before .before .before .before .before .before) .args .x0 + 1) ((c .before .before .before .before .before .before .before .before .before .before .wider) .result * (c .before .before .before .before .before .before .before .before .before .wider2) .result / 2) ((c .before .before .before .before .wider3) .result * (c .before .before .before .wider4) .result) ((c .before .before .before .before .before .before .before .before .before .before .before .before .before .before .before .before .before .before .before .before .before .before .before .before .before .before .before .before .before .before) .pre .1) refl (rw ((c .before .before .before .before .before .before .before .before .before .before .wider) .ensures, (c .before .before .before .before .before .before .before .before .before .wider2) .ensures)) (rw ((c .before .before .before .before .wider3) .ensures, (c .before .before .before .wider4) .ensures))
+returns c = nine-absorbed ((c .before .before .before .before .before .before .before .before .before .before .before .before .before .before .before .before .before .before .before .before .before .before .before .before .before .before .before .before) .args .words .now) ((c .before .before .before .before .before .before .before .before .before .before .before .before .before .before .before .before .before .before .before .before .before .before .before .before .before .before .before .before) .pre .0) (getD ((c .before .before .before .before .before .before .before .before .before .before .before .before .before .before .before .before .before .before .before .before .before .before .before .before .before .before .before .before) .args .words .now) 0 0 + (c .before .before .before .before .before .before .before .before .before .before .before .before .before .before .before .before .before .before .before .before .before .before .before .before .before .before .before .before) .args .dots) ((c .before .before .before .before .before .before .before .before .before .before .before .before .before .before .before .before .before .before .before .before .before .before .before .before .before .before .before .before) .args .x) ((c .before .before .before .before .before .before .before .before .before .before .before .before .before .before .before .before .before .before .before .before .before .before .before .before .before .before .before .before) .args .y) ((c .before .before .before .before .before .before .before .before .before .before .before .before .before .before .before .before .before .before .before .before .before .before .before .before .before .before .before .before) .args .last) ((c .before .before .before .before .before .before .before .before .before .before .before .before .before .before .before .before .before .before .before .before .before .before .before .before .lower) .last .0) ((c .before .before .before .before .before .before .before .before .before .before .before .before .before .before .before .before .before .before .before .before .lower2) .last .0) ((c .before .before .before .before .before .before .before .before .before .before .before .before .before .before .before .before .raise) .last .0) ((c .before .before .before .before .before .before .before .before .before .before .before .before .raise2) .last .0) ((c .before .before .before .before .before .before .before .before .before .before .before .before .before .before .before .before .before .before .before .before .before .before .before .before .lower) .ensures) ((c .before .before .before .before .before .before .before .before .before .before .before .before .before .before .before .before .before .before .before .before .lower2) .ensures) ((c .before .before .before .before .before .before .before .before .before .before .before .before .before .before .before .before .raise) .ensures) ((c .before .before .before .before .before .before .before .before .before .before .before .before .raise2) .ensures) ((c .before .before .before .before .before .before .before .before .before .before .before .before .before .before .before .before .before .before .before .before .before .before .before .before .before .before .before .before) .args .sum) ((c .before .before .before .before .before .before .before .before .add-long) .last .0) ((c .before .before .before .before .before .before .before .before .add-long) .ensures) ((c .before .before .before .before .before .before .before .before .before .before .before .before .before .before .before .before .before .before .before .before .before .before .before .before .before .before .before .before) .args .dots * (c .before .before .before .before .before .before .before .before .before .before .before .before .before .before .before .before .before .before .before .before .before .before .before .before .before .before .before .before) .args .y) ((c .before .before .add-long2) .last .0) ((c .before .before .add-long2) .ensures ∙ ap (longAdded ((c .before .before .before .before .before .before .before .before .add-long) .last .0) 7) (rw ((c .before .before .before .before .wider) .ensures, (c .before .before .before .wider2) .ensures)))
 
 pub absorb-words-spec : {M : Type 1} → statement M
 absorb-words-spec =
     tie.close
     (tie.spec
-    sub-dots
-    add-dots
     slice-read-area
     add-words
     slice-write-words
@@ -81,14 +62,10 @@ absorb-words-spec =
     lower-requires-2
     raise-requires
     raise-requires-2
+    add-long-requires
     wider-requires
-    add-wider
     wider-requires-2
     mul-add-long
-    add-long-requires
-    wider-requires-3
-    wider-requires-4
-    mul-add-long-2
     add-long-requires-2
     same-length
     returns)

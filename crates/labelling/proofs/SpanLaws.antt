@@ -1,0 +1,173 @@
+-- Runs of one component that follow one another in a row are absorbed at once.
+use mathlib.Core.Path.{_≡_, refl, sym, ap, _∙_}
+use mathlib.Core.List.{List}
+use Prim.Native.Nat.{ℕ, suc, _+_, _-_, _*_, _/_, _%_, _≤_, _<_, min, max}
+use native.Mathlib.Nat.{le-refl, add-mul, div-add-mod', suc-mul, div-eq-of-lt-le}
+use native.Mathlib.Numerals.{add-one}
+use native.Mathlib.Omega.{arith}
+use borrow.Author.Tests.{eq-eqb, ne-eqb}
+use lib.ListN.{getD, take}
+use lib.Seq.{getD-take}
+use Rattle.labelling.specs.Components.{columnSum, absorbedRun, absorbedSpan}
+use Rattle.labelling.specs.InkRuns.{startOf, endOf, componentRuns}
+use Rattle.labelling.specs.Spans.{numberOf, countTo, recordTo, SpanOf}
+use Rattle.labelling.specs.Tallying.{Tallyable}
+use Rattle.labelling.specs.declared.component.Component.{Component}
+use Rattle.labelling.proofs.RecordSweepLaws.{first-low, first-same, count-max, column-small, run-width, run-absorbed}
+
+-- a run more, to the right of a span
+pub span-absorb : (p : Component) (x last dots sum y x' d : ℕ) → x ≤ x' → last ≤ x' + d
+    → absorbedRun (absorbedSpan p x last dots sum y) x' d y ≡ absorbedSpan p x (x' + d) (dots + suc d) (sum + columnSum x' (suc d)) y
+span-absorb p x last dots sum y x' d l₁ l₂ =
+    let m : (dots + suc d) * y ≡ dots * y + suc d * y = add-mul dots (suc d) y in
+    let e₀ : p .area + dots + suc d ≡ p .area + (dots + suc d) = omega arith in
+    let e₁ : min (min (p .x0) x) x' ≡ min (p .x0) x = omega arith in
+    let e₂ : min (min (p .y0) y) y ≡ min (p .y0) y = omega arith in
+    let e₃ : max (max (p .x1) last) (x' + d) ≡ max (p .x1) (x' + d) = omega arith in
+    let e₄ : max (max (p .y1) y) y ≡ max (p .y1) y = omega arith in
+    let e₅ : p .«sum_x» + sum + columnSum x' (suc d) ≡ p .«sum_x» + (sum + columnSum x' (suc d)) = omega arith in
+    let e₆ : p .«sum_y» + dots * y + suc d * y ≡ p .«sum_y» + (dots + suc d) * y = omega arith in
+    λ i. record { area = e₀ i; x0 = e₁ i; y0 = e₂ i; x1 = e₃ i; y1 = e₄ i; «sum_x» = e₅ i; «sum_y» = e₆ i }
+
+-- the row of a dot
+pub row-found : (dot w row : ℕ) → row * w ≤ dot → dot < row * w + w → row ≡ dot / w
+row-found dot w row l₁ l₂ = let e : (row + 1) * w ≡ row * w + w = ap (λ z. z * w) (add-one row) ∙ suc-mul row w in sym (div-eq-of-lt-le w l₁ (let h : dot < (row + 1) * w = omega arith in h))
+
+-- a run's place in its row, which starts at `base`: d dots after the first
+pub record Place (w c : ℕ) (s : List ℕ) (k base start end : ℕ) : Type 0 where
+  pub d : ℕ
+  pub first-dot : startOf (take (2 * c) s) k ≡ base + startOf (take (2 * c) s) k % w
+  pub last-dot : endOf (take (2 * c) s) 0 k ≡ startOf (take (2 * c) s) k + suc d
+  pub inside : startOf (take (2 * c) s) k % w + d < w
+  pub start-is : start ≡ startOf (take (2 * c) s) k
+  pub end-is : end ≡ endOf (take (2 * c) s) 0 k
+  pub column : start - base ≡ startOf (take (2 * c) s) k % w
+  pub last-is : end - base - 1 ≡ startOf (take (2 * c) s) k % w + d
+  pub dots-is : end - start ≡ suc d
+
+-- its columns
+pub place-columns : {w c : ℕ} {s : List ℕ} {k base start end : ℕ} → Place w c s k base start end → (start - base ≤ end - base - 1) × (end - base - 1 < w)
+place-columns P = let a = P .column in let b = P .last-is in let e = P .inside in (omega arith, omega arith)
+
+-- and its ends
+pub place-ends : {w c : ℕ} {s : List ℕ} {k base start end : ℕ} → Place w c s k base start end → (base ≤ start) × (start < end) × (end ≤ base + w)
+place-ends P = let a = P .first-dot in let b = P .last-dot in let e = P .inside in let f = P .start-is in let g = P .end-is in (omega arith, omega arith, omega arith)
+
+place-sum : {w c : ℕ} {s : List ℕ} {k base start end : ℕ} (P : Place w c s k base start end) → columnSum (start - base) (suc (end - base - 1 - (start - base))) ≡ columnSum (startOf (take (2 * c) s) k % w) (suc (P .d))
+place-sum {w} {c} {s} {k} P = (λ i. columnSum (P .column i) (suc (P .last-is i - P .column i))) ∙ ap (λ z. columnSum (startOf (take (2 * c) s) k % w) (suc z)) (back (startOf (take (2 * c) s) k % w) (P .d))
+  where
+    back : (x d : ℕ) → x + d - x ≡ d
+    back x d = omega arith
+
+module _ {w c : ℕ} {s comps : List ℕ} (A : Tallyable w c s comps) where
+  pub run-place : (k base start end : ℕ) → k < c → start ≡ getD s (2 * k) 0 → end ≡ getD s (2 * k + 1) 0 → base ≡ startOf (take (2 * c) s) k / w * w → Place w c s k base start end
+  run-place k base start end l es ee eb =
+      let a : start ≡ startOf (take (2 * c) s) k = es ∙ sym (getD-take (2 * c) s (2 * k) 0 (omega arith)) in
+      let b : end ≡ endOf (take (2 * c) s) 0 k = ee ∙ sym (getD-take (2 * c) s (2 * k + 1) 0 (omega arith)) in
+      let m = div-add-mod' (startOf (take (2 * c) s) k) w in
+      let o = A .list .order .some k l in
+      let r = run-width w c s comps A k l in
+      let x : startOf (take (2 * c) s) k ≡ base + startOf (take (2 * c) s) k % w = omega arith in
+      let y : endOf (take (2 * c) s) 0 k ≡ startOf (take (2 * c) s) k + suc (endOf (take (2 * c) s) 0 k - startOf (take (2 * c) s) k - 1) = omega arith in
+      at (endOf (take (2 * c) s) 0 k - startOf (take (2 * c) s) k - 1) a b x y r
+    where
+      at : (d : ℕ) → start ≡ startOf (take (2 * c) s) k → end ≡ endOf (take (2 * c) s) 0 k → startOf (take (2 * c) s) k ≡ base + startOf (take (2 * c) s) k % w
+          → endOf (take (2 * c) s) 0 k ≡ startOf (take (2 * c) s) k + suc d → startOf (take (2 * c) s) k % w + d < w → Place w c s k base start end
+      at d a b x y r = record { d = d; first-dot = x; last-dot = y; inside = r; start-is = a; end-is = b; column = omega arith; last-is = omega arith; dots-is = omega arith }
+
+  own-step : (k : ℕ) {base start end : ℕ} (P : Place w c s k base start end) → k < c → recordTo w c s (numberOf w c s k) (suc k)
+      ≡ absorbedRun (recordTo w c s (numberOf w c s k) k) (startOf (take (2 * c) s) k % w) (P .d) (startOf (take (2 * c) s) k / w)
+  unfolding componentRuns
+  own-step k P l =
+      let e = P .last-dot in
+      rw (eq-eqb (numberOf w c s k) (numberOf w c s k) refl) (run-absorbed w c s comps A k (recordTo w c s (numberOf w c s k) k) l)
+      ∙ ap (λ z. absorbedRun (recordTo w c s (numberOf w c s k) k) (startOf (take (2 * c) s) k % w) z (startOf (take (2 * c) s) k / w)) (let h : endOf (take (2 * c) s) 0 k - startOf (take (2 * c) s) k - 1 ≡ P .d = omega arith in h)
+
+  other-step : (k q : ℕ) → (numberOf w c s k ≡ q → ⊥) → recordTo w c s q (suc k) ≡ recordTo w c s q k
+  unfolding componentRuns
+  other-step k q ne = rw (ne-eqb (numberOf w c s k) q ne) refl
+
+  count-next : (k : ℕ) → max (countTo w c s k) (numberOf w c s k) ≡ countTo w c s (suc k)
+  count-next k = count-max _ (first-low w c (take (2 * c) s)) (first-same w c (take (2 * c) s)) k
+
+  -- a first run
+  pub span-one : (first base start end sum : ℕ) → first < c → Place w c s first base start end → base ≡ startOf (take (2 * c) s) first / w * w
+      → sum ≡ columnSum (start - base) (suc (end - base - 1 - (start - base))) → SpanOf w c s first (first + 1) (end - base - 1) (end - start) sum
+  span-one first base start end sum l P eb es =
+      let a = P .first-dot in
+      let b = P .last-dot in
+      let u = P .inside in
+      let n = A .list .narrow in
+      let es₂ : sum ≡ columnSum (startOf (take (2 * c) s) first % w) (suc (P .d)) = es ∙ place-sum P in
+      let q = column-small (startOf (take (2 * c) s) first % w) (suc (P .d)) 131072 (omega arith) in
+      rw (add-one first, P .last-is, P .dots-is)
+      (record {
+        some = le-refl (suc first);
+        upto = l;
+        from = omega arith;
+        narrow = u;
+        few = omega arith;
+        light = omega arith;
+        ends = λ j z. ap (endOf (take (2 * c) s) 0) (let y : j ≡ first = omega arith in y) ∙ (let y : endOf (take (2 * c) s) 0 first ≡ startOf (take (2 * c) s) first / w * w + suc (startOf (take (2 * c) s) first % w + P .d) = omega arith in y);
+        counted = count-next first;
+        own = own-step first P l ∙ ap (λ z. absorbedSpan (recordTo w c s (numberOf w c s first) first) (startOf (take (2 * c) s) first % w) (startOf (take (2 * c) s) first % w + P .d) (suc (P .d)) z (startOf (take (2 * c) s) first / w)) (sym es₂);
+        other = other-step first;
+      })
+
+  -- and one more
+  module _ {first k last dots sum : ℕ} (S : SpanOf w c s first k last dots sum) (lk : k < c) where
+    span-before : startOf (take (2 * c) s) first / w * w + suc last ≤ startOf (take (2 * c) s) k
+    span-before =
+        let h = S .some in
+        let e = S .ends (k - 1) (omega arith) in
+        let o = A .list .order .rising (k - 1) k (omega arith) lk in
+        omega arith
+
+    -- in the same row
+    pub span-row : (base : ℕ) → base ≡ startOf (take (2 * c) s) first / w * w → getD s (2 * k) 0 < base + w → startOf (take (2 * c) s) first / w ≡ startOf (take (2 * c) s) k / w
+    span-row base eb h =
+        let b = span-before in
+        let g = getD-take (2 * c) s (2 * k) 0 (omega arith) in
+        row-found (startOf (take (2 * c) s) k) w (startOf (take (2 * c) s) first / w) (omega arith) (omega arith)
+
+    pub span-number : (label : ℕ) → label ≡ getD s (2 * c + first) 0 → getD s (2 * c + k) 0 ≡ label → numberOf w c s first ≡ numberOf w c s k
+    span-number label e₁ e₂ = let h = S .some in sym (A .numbers first (omega arith)) ∙ (sym e₁ ∙ (sym e₂ ∙ A .numbers k lk))
+
+    pub span-more : (base start end sum' : ℕ) → Place w c s k base start end → base ≡ startOf (take (2 * c) s) first / w * w
+        → numberOf w c s first ≡ numberOf w c s k → startOf (take (2 * c) s) first / w ≡ startOf (take (2 * c) s) k / w
+        → sum' ≡ columnSum (start - base) (suc (end - base - 1 - (start - base)))
+        → SpanOf w c s first (k + 1) (end - base - 1) (dots + (end - start)) (sum + sum')
+    span-more base start end sum' P eb en er es =
+        let a = P .first-dot in
+        let b = P .last-dot in
+        let u = P .inside in
+        let n = A .list .narrow in
+        let h = S .some in
+        let f = S .few in
+        let g = S .light in
+        let m = S .from in
+        let v = span-before in
+        let c₁ = S .counted in
+        let c₂ = count-next k in
+        let nk = ap (λ z. max (countTo w c s k) z) en in
+        let es₂ : sum' ≡ columnSum (startOf (take (2 * c) s) k % w) (suc (P .d)) = es ∙ place-sum P in
+        let q = column-small (startOf (take (2 * c) s) k % w) (suc (P .d)) 131072 (omega arith) in
+        rw (add-one k, P .last-is, P .dots-is)
+        (record {
+          some = omega arith;
+          upto = lk;
+          from = omega arith;
+          narrow = u;
+          few = omega arith;
+          light = omega arith;
+          ends = λ j z. ap (endOf (take (2 * c) s) 0) (let y : j ≡ k = omega arith in y) ∙ (let y : endOf (take (2 * c) s) 0 k ≡ startOf (take (2 * c) s) first / w * w + suc (startOf (take (2 * c) s) k % w + P .d) = omega arith in y);
+          counted = omega arith;
+          own =
+              ap (λ z. recordTo w c s z (suc k)) en
+              ∙ (own-step k P lk
+              ∙ ((λ i. absorbedRun (recordTo w c s (sym en i) k) (startOf (take (2 * c) s) k % w) (P .d) (sym er i))
+              ∙ (ap (λ z. absorbedRun z (startOf (take (2 * c) s) k % w) (P .d) (startOf (take (2 * c) s) first / w)) (S .own)
+              ∙ (span-absorb (recordTo w c s (numberOf w c s first) first) (startOf (take (2 * c) s) first % w) last dots sum (startOf (take (2 * c) s) first / w) (startOf (take (2 * c) s) k % w) (P .d) (omega arith) (omega arith)
+              ∙ ap (λ z. absorbedSpan (recordTo w c s (numberOf w c s first) first) (startOf (take (2 * c) s) first % w) (startOf (take (2 * c) s) k % w + P .d) (dots + suc (P .d)) (sum + z) (startOf (take (2 * c) s) first / w)) (sym es₂)))));
+          other = λ q ne. other-step k q (λ e. ne (en ∙ e)) ∙ S .other q ne;
+        })
