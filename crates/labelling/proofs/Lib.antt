@@ -48,8 +48,10 @@ pub mod SpanLaws
 pub mod RowPaintLaws
 -- the stages one after the other
 pub mod StageLaws
--- the sizes of the first k runs' components, and one run more
+-- the sizes of the first k runs' components, and one span more
 pub mod SizeSweepLaws
+-- these sizes, span by span and row by row
+pub mod RowSizeLaws
 -- which number a call is refused with, and what it leaves
 pub mod EntryLaws
 -- what a reader wants to know of the labelling

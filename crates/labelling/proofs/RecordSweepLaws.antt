@@ -232,7 +232,7 @@ module _ {w c : ℕ} {s comps₀ comps : List ℕ} {k count : ℕ} (S : TallySwe
       let r = S .asks .room in
       omega arith
 
-  few-more : {next last dots sum : ℕ} → SpanOf w c s k next last dots sum → countIf (isRoot f) next ≤ C + 1
+  few-more : {next last dots sum : ℕ} → SpanOf w c (take (2 * c) s) k next last dots sum → countIf (isRoot f) next ≤ C + 1
   few-more P = let a = P .counted in let b = next-count in let e = count-step (isRoot f) k in omega arith
 
   -- the record of run k's component so far
@@ -254,7 +254,7 @@ module _ {w c : ℕ} {s comps₀ comps : List ℕ} {k count : ℕ} (S : TallySwe
           (ap (λ z. recordOf (take 9 (drop ((N - 1) * 9) z))) (S .words)
           ∙ (record-read (table g C) rest (N - 1) noDots (omega arith) ∙ getD-table g C (N - 1) noDots (omega arith)))
 
-  module _ {next last dots sum : ℕ} (P : SpanOf w c s k next last dots sum) (number x y : ℕ) (en : number ≡ N) (ex : x ≡ startOf (take (2 * c) s) k % w) (ey : y ≡ startOf (take (2 * c) s) k / w) where
+  module _ {next last dots sum : ℕ} (P : SpanOf w c (take (2 * c) s) k next last dots sum) (number x y : ℕ) (en : number ≡ N) (ex : x ≡ startOf (take (2 * c) s) k % w) (ey : y ≡ startOf (take (2 * c) s) k / w) where
     pub tally-asks : SpanTallyable comps number count x last dots sum y
     tally-asks =
         let p = number-room in

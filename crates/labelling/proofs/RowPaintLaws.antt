@@ -8,9 +8,8 @@ use native.Mathlib.Decide.{decLt}
 use native.Mathlib.Omega.{arith}
 use lib.ListN.{getD, length, take}
 use lib.Seq.{getD-take}
-use Rattle.memory.specs.Limits.{maxMaskSide, maxMaskDots}
+use Rattle.memory.specs.Limits.{maxMaskDots}
 use Rattle.memory.specs.Words.{over}
-use Rattle.labelling.specs.Components.{columnSum}
 use Rattle.labelling.specs.InkRuns.{startOf, componentNumber}
 use Rattle.labelling.specs.Linking.{firstRun}
 use Rattle.labelling.specs.Spans.{SpanOf}
@@ -18,7 +17,7 @@ use Rattle.labelling.specs.Tallying.{tallied, SpanTallyable, records, Ta
 use Rattle.labelling.specs.Painting.{Filled, Paintable, Painted, PaintSweep, PaintsOn, SpanPaintable, SpanPainted, RowPaintable, RowPainted}
 use Rattle.labelling.proofs.PaintLaws.{paint-none, paint-clear, paint-asks, paint-more, paint-done}
 use Rattle.labelling.proofs.RecordSweepLaws.{tally-none, tally-long, tally-asks, tally-more, tally-done}
-use Rattle.labelling.proofs.SpanLaws.{row-found, Place, place-ends, run-place, span-one, span-row, span-number, span-more}
+use Rattle.labelling.proofs.SpanLaws.{row-found, place-ends, first-place, next-place}
 
 -- A span
 
@@ -26,44 +25,27 @@ pub paints-then : {s : List ℕ} {c : ℕ} {l₁ l₂ l₃ : List ℕ} {clear a 
 paints-then I J n l₀ S = J n l₀ (I n l₀ S)
 
 module _ {w c : ℕ} {s l : List ℕ} {base first : ℕ} (P : SpanPaintable w c s l base first) where
-  pub span-room : (c ≤ maxMaskDots) × (3 * c ≤ length s) × (first < c) × (base + w ≤ maxMaskDots) × (w ≤ maxMaskSide)
-  span-room = let i = P .sweep .inside in let d = P .sweep .asks .dots in (P .asks .list .few, P .asks .list .room, P .here, omega arith, P .asks .list .narrow)
-
   -- the labels keep their length
   pub paints-long : {l' : List ℕ} {k : ℕ} → PaintsOn s c l l' (base + w) first k → length l' ≡ length l
   paints-long I = I (P .n) (P .l₀) (P .sweep) .len ∙ sym (P .sweep .len)
 
   -- its first run
   module _ (start end : ℕ) (es : start ≡ getD s (2 * first) 0) (ee : end ≡ getD s (2 * first + 1) 0) where
-    pub first-place : Place w c s first base start end
-    first-place = run-place (P .asks) first base start end (P .here) es ee (P .row)
-
     pub first-asks : (start < end) × (end ≤ length l)
-    first-asks = paint-asks (P .sweep) (P .here) start end es ee
+    first-asks = paint-asks (P .sweep) (P .ahead .here) start end es ee
 
     pub first-painted : (l' : List ℕ) → Filled l l' start end (getD s (2 * c + first) 0) → PaintsOn s c l l' (base + w) first (first + 1)
-    first-painted l' X n l₀ S = paint-more S (P .here) start end es ee (place-ends first-place .2) l' X
-
-    pub first-span : (sum : ℕ) → sum ≡ columnSum (start - base) (suc (end - base - 1 - (start - base))) → SpanOf w c s first (first + 1) (end - base - 1) (end - start) sum
-    first-span sum e = span-one (P .asks) first base start end sum (P .here) first-place (P .row) e
+    first-painted l' X n l₀ S = paint-more S (P .ahead .here) start end es ee (place-ends (first-place (P .ahead) start end es ee) .2) l' X
 
   -- and the next, run k
-  module _ {k last dots sum : ℕ} (S : SpanOf w c s first k last dots sum) (label : ℕ) (el : label ≡ getD s (2 * c + first) 0)
+  module _ {k last dots sum : ℕ} (S : SpanOf w c (take (2 * c) s) first k last dots sum) (label : ℕ) (el : label ≡ getD s (2 * c + first) 0)
       (G : (k < c) × (getD s (2 * c + k) 0 ≡ label) × (getD s (2 * k) 0 < base + w)) (start end : ℕ) (es : start ≡ getD s (2 * k) 0) (ee : end ≡ getD s (2 * k + 1) 0) where
-    same-row : startOf (take (2 * c) s) first / w ≡ startOf (take (2 * c) s) k / w
-    same-row = span-row (P .asks) S (G .0) base (P .row) (G .2)
-
-    pub next-place : Place w c s k base start end
-    next-place = run-place (P .asks) k base start end (G .0) es ee (P .row ∙ ap (λ z. z * w) same-row)
-
-    pub next-span : (more : ℕ) → more ≡ columnSum (start - base) (suc (end - base - 1 - (start - base))) → SpanOf w c s first (k + 1) (end - base - 1) (dots + (end - start)) (sum + more)
-    next-span more e = span-more (P .asks) S (G .0) base start end more next-place (P .row) (span-number (P .asks) S (G .0) label el (G .1)) same-row e
-
     pub next-asks : {l₁ : List ℕ} → PaintsOn s c l l₁ (base + w) first k → (start < end) × (end ≤ length l₁)
     next-asks I = paint-asks (I (P .n) (P .l₀) (P .sweep)) (G .0) start end es ee
 
     pub next-painted : {l' l₁ : List ℕ} {a : ℕ} → PaintsOn s c l' l₁ (base + w) a k → (l₂ : List ℕ) → Filled l₁ l₂ start end label → PaintsOn s c l' l₂ (base + w) a (k + 1)
-    next-painted {l'} {l₁} I l₂ X n l₀ T = paint-more (I n l₀ T) (G .0) start end es ee (place-ends next-place .2) l₂ (subst (λ z. Filled l₁ l₂ start end z) (sym (G .1)) X)
+    next-painted {l'} {l₁} I l₂ X n l₀ T =
+        paint-more (I n l₀ T) (G .0) start end es ee (place-ends (next-place (P .ahead) S label el G start end es ee) .2) l₂ (subst (λ z. Filled l₁ l₂ start end z) (sym (G .1)) X)
 
 -- A row: the runs from `first` up to k are painted and tallied, and run k lies in row y or past it
 
@@ -104,7 +86,7 @@ module _ {w c : ℕ} {s l comps : List ℕ} {y first before : ℕ} (R : RowPaint
         column-is = let e = row-start .0 in let m = ap (λ z. z * w) row-is in let d = div-add-mod' (startOf (take (2 * c) s) k) w in omega arith
 
         pub row-span : SpanPaintable w c s l₁ (y * w) k
-        row-span = record { n = R .n; l₀ = R .l₀; sweep = row-sweep; comps = R .comps₀; asks = R .tally .asks; here = lk; row = ap (λ z. z * w) row-is }
+        row-span = record { n = R .n; l₀ = R .l₀; sweep = row-sweep; ahead = record { comps = R .comps₀; asks = R .tally .asks; here = lk; row = ap (λ z. z * w) row-is } }
 
         module _ (number : ℕ) (en : number ≡ getD s (2 * c + k) 0) {l₂ : List ℕ} {next last dots sum : ℕ} (X : SpanPainted w c s l₁ l₂ (y * w + w) k next last dots sum) where
           number-is : number ≡ componentNumber (firstRun w c (take (2 * c) s)) k

@@ -269,7 +269,7 @@ module _ {w h : ℕ} {m s : List ℕ} {c P at : ℕ} (R : SizesRoom w h m s c P 
       few : countIf (isRoot rep) c ≤ P
       few = let e = counted in omega arith
 
-      pub sizes-ask : Sizable w c s₂ at
+      pub sizes-ask : Sizable w h c s₂ at
       sizes-ask =
           let d = held-dots (R .wide) (R .held) in
           let u = R .dots in
@@ -279,7 +279,8 @@ module _ {w h : ℕ} {m s : List ℕ} {c P at : ℕ} (R : SizesRoom w h m s c P 
           let q = R .room in
           record {
             list = record { wide = R .wide; narrow = R .narrow; few = omega arith; room = omega arith; order = rw put-runs (held-order (R .wide) (R .held)) };
-            within = rw put-runs (λ k l. le-trans (held-runs (R .wide) (R .held) .within k l) (R .dots));
+            dots = R .dots;
+            within = rw put-runs (held-runs (R .wide) (R .held) .within);
             row = rw put-runs (held-runs (R .wide) (R .held) .row);
             numbers = rw put-runs numbers;
             before = b;

@@ -1,34 +1,36 @@
--- The sizes of the first k runs' components, and one run more.
-use mathlib.Core.Path.{_≡_, refl, sym, ap, _∙_}
+-- The sizes of the first k runs' components, and one span more.
+use mathlib.Core.Path.{_≡_, refl, sym, ap, _∙_, subst}
 use mathlib.Core.List.{List, [], _∷_, _++_, append-assoc}
-use mathlib.Core.Bool.{Bool, true, false, cond}
+use mathlib.Core.Bool.{cond}
 use Prim.Native.Nat.{ℕ, zero, suc, _+_, _-_, _*_, _/_, _%_, _≤_, _<_, max}
-use native.Mathlib.Nat.{le-refl, not-suc-le-zero, le-of-suc-le-suc, suc-mul, div-mul-le-self, div-le-self, mod-eq-sub-div-mul, div-eq-of-lt-le, mul-le-mul-left}
-use native.Mathlib.Numerals.{add-one}
+use native.Mathlib.Nat.{le-refl, le-trans, not-suc-le-zero, le-of-suc-le-suc, suc-mul, div-le-self}
 use native.Mathlib.Decide.{decLt}
 use native.Mathlib.Omega.{arith}
-use borrow.Author.Tests.{eq-eqb, ne-eqb, lt-ltb, le-ltb}
+use borrow.Author.Tests.{lt-ltb, le-ltb}
 use borrow.Rule.Slice.PartMut.{putMid}
 use lib.ListN.{getD, length, set, take, drop, take-append-drop, length-append, length-drop, List·getD-append}
-use lib.Seq.{length-take-le, getD-take, take-at, drop-at, drop-drop, drop-append-add}
+use lib.Seq.{length-take-le, getD-take, take-take, take-at, drop-at, drop-drop, drop-append-add}
 use lib.Dec.{ltb}
 use Rattle.memory.specs.Lists.{table, countIf}
 use Rattle.memory.specs.Words.{over}
 use Rattle.memory.specs.Records.{encoded}
-use Rattle.memory.specs.Limits.{maxMaskSide, maxMaskDots}
+use Rattle.memory.specs.Limits.{maxMaskDots}
 use Rattle.memory.proofs.PartLaws.{tail-part, tail-put}
 use Rattle.memory.proofs.TableLaws.{length-table, getD-table, table-ext}
 use Rattle.memory.proofs.RecordLaws.{length-encoded}
-use Rattle.labelling.specs.Components.{noDots, absorbedRun}
+use Rattle.labelling.specs.Components.{noDots, absorbedSpan}
+use Rattle.labelling.specs.RecordWords.{lowered, raised}
 use Rattle.labelling.specs.InkRuns.{startOf, endOf, isRoot, componentNumber, componentRuns}
 use Rattle.labelling.specs.Linking.{firstRun}
 use Rattle.labelling.specs.Tallying.{Tallyable}
 use Rattle.labelling.specs.Sizes.{sizeWords}
-use Rattle.labelling.specs.Sizing.{sizeOf, heldSize, resized, RunSizable, sizes, Sizable}
+use Rattle.labelling.specs.Sizing.{sizeOf, heldSize, resized, SpanSizable, sizes, Sizable, SizeSweep}
+use Rattle.labelling.specs.Spans.{SpanOf}
 use Rattle.labelling.specs.declared.component.Component.{Component}
 use Rattle.labelling.proofs.CountLaws.{count-up, count-step}
 use Rattle.labelling.proofs.TallyLaws.{record-put, record-append, table-put}
-use Rattle.labelling.proofs.RecordSweepLaws.{first-low, first-same, number-some, count-max, records-none, run-width, run-absorbed, run-bounded}
+use Rattle.labelling.proofs.NineLaws.{boxed}
+use Rattle.labelling.proofs.RecordSweepLaws.{first-low, first-same, number-some, count-max, records-none, run-bounded}
 
 -- Records in a list of them, k words each
 
@@ -108,25 +110,43 @@ five-stores (x0 ∷ x1 ∷ x2 ∷ x3 ∷ []) l = absurd (omega arith)
 five-stores (x0 ∷ x1 ∷ x2 ∷ x3 ∷ x4 ∷ []) l = λ a b c d e. refl
 five-stores (x0 ∷ x1 ∷ x2 ∷ x3 ∷ x4 ∷ x5 ∷ xs) l = absurd (omega arith)
 
-pub run-sized : (s : List ℕ) (number count x d y : ℕ) (before after : Component) (v : List ℕ)
-    → before ≡ heldSize s number count → after ≡ absorbedRun before x d y → v ≡ sizeWords after
-    → putMid ((number - 1) * 5) ((number - 1) * 5 + 5 - (number - 1) * 5) s v ≡ resized s number count x d y
-run-sized s number count x d y before after v eb ea ev =
-    five-put ((number - 1) * 5) s v
-    ∙ ap (λ z. take ((number - 1) * 5) s ++ (z ++ drop ((number - 1) * 5 + 5) s)) (ev ∙ ap sizeWords (ea ∙ ap (λ z. absorbedRun z x d y) eb))
+-- and the same words changed one by one
+five-case : (P : List ℕ → Type 0) → ((x0 x1 x2 x3 x4 : ℕ) → P (x0 ∷ x1 ∷ x2 ∷ x3 ∷ x4 ∷ [])) → (s : List ℕ) → length s ≡ 5 → P s
+five-case P p [] l = absurd (omega arith)
+five-case P p (x0 ∷ []) l = absurd (omega arith)
+five-case P p (x0 ∷ x1 ∷ []) l = absurd (omega arith)
+five-case P p (x0 ∷ x1 ∷ x2 ∷ []) l = absurd (omega arith)
+five-case P p (x0 ∷ x1 ∷ x2 ∷ x3 ∷ []) l = absurd (omega arith)
+five-case P p (x0 ∷ x1 ∷ x2 ∷ x3 ∷ x4 ∷ []) l = p x0 x1 x2 x3 x4
+five-case P p (x0 ∷ x1 ∷ x2 ∷ x3 ∷ x4 ∷ x5 ∷ xs) l = absurd (omega arith)
 
--- a size that is read has no sums
-pub held-bare : (s : List ℕ) (number count : ℕ) → (heldSize s number count .«sum_x» ≡ 0) × (heldSize s number count .«sum_y» ≡ 0)
+pub five-widened : (s : List ℕ) → length s ≡ 5 → (x last dots y : ℕ) (s₁ s₂ s₃ s₄ : List ℕ)
+    → s₁ ≡ lowered (set s 0 (getD s 0 0 + dots)) 1 x → s₂ ≡ lowered s₁ 2 y → s₃ ≡ raised s₂ 3 last → s₄ ≡ raised s₃ 4 y
+    → s₄ ≡ sizeWords (absorbedSpan (sizeOf s) x last dots 0 y)
+five-widened s five x last dots y s₁ s₂ s₃ s₄ e₁ e₂ e₃ e₄ =
+    e₄ ∙ (ap (λ z. raised z 4 y) (e₃ ∙ ap (λ z. raised z 3 last) (e₂ ∙ ap (λ z. lowered z 2 y) e₁))
+    ∙ five-case (λ z. boxed (getD z 0 0 + dots) x y last z ≡ sizeWords (absorbedSpan (sizeOf z) x last dots 0 y)) (λ x0 x1 x2 x3 x4. refl) s five)
+
+pub span-sized : (s : List ℕ) (number count x last dots y : ℕ) (before : Component) (v : List ℕ)
+    → before ≡ heldSize s number count → v ≡ sizeWords (absorbedSpan before x last dots 0 y)
+    → putMid ((number - 1) * 5) ((number - 1) * 5 + 5 - (number - 1) * 5) s v ≡ resized s number count x last dots y
+span-sized s number count x last dots y before v eb ev =
+    five-put ((number - 1) * 5) s v
+    ∙ ap (λ z. take ((number - 1) * 5) s ++ (z ++ drop ((number - 1) * 5 + 5) s)) (ev ∙ ap (λ z. sizeWords (absorbedSpan z x last dots 0 y)) eb)
+
+-- a new size
+pub size-new : (s : List ℕ) (number count : ℕ) → count < number → noDots ≡ heldSize s number count
 unfolding heldSize
-held-bare s number count = go (ltb count number)
-  where
-    go : (b : Bool) → (cond b noDots (sizeOf (take 5 (drop ((number - 1) * 5) s))) .«sum_x» ≡ 0) × (cond b noDots (sizeOf (take 5 (drop ((number - 1) * 5) s))) .«sum_y» ≡ 0)
-    go true = (refl, refl)
-    go false = (refl, refl)
+size-new s number count l = rw (lt-ltb count number l) refl
+
+-- and one that is there
+pub size-there : (s : List ℕ) (number count : ℕ) → number ≤ count → sizeOf (take ((number - 1) * 5 + 5 - (number - 1) * 5) (drop ((number - 1) * 5) s)) ≡ heldSize s number count
+unfolding heldSize
+size-there s number count l = rw (le-ltb count number l) (ap sizeOf (five-part ((number - 1) * 5) s))
 
 -- The sweep
 
-module _ {w c : ℕ} {s : List ℕ} {at : ℕ} (A : Sizable w c s at) where
+module _ {w h c : ℕ} {s : List ℕ} {at : ℕ} (A : Sizable w h c s at) where
   abbrev spare : List ℕ
   spare = table (λ _. 0) (countIf (isRoot (firstRun w c (take (2 * c) s))) c * 9)
 
@@ -134,7 +154,7 @@ module _ {w c : ℕ} {s : List ℕ} {at : ℕ} (A : Sizable w c s at) where
   tallyable : Tallyable w c s spare
   tallyable =
       let n = countIf (isRoot (firstRun w c (take (2 * c) s))) c * 9 in
-      record { list = A .list; within = A .within; row = A .row; numbers = A .numbers; room = rw (length-table {A = ℕ} (λ _. 0) n) (le-refl n) }
+      record { list = A .list; within = λ k l. le-trans (A .within k l) (A .dots); row = A .row; numbers = A .numbers; room = rw (length-table {A = ℕ} (λ _. 0) n) (le-refl n) }
 
   sizes-long : (k : ℕ) → length (sizes w c s k) ≡ countIf (isRoot (firstRun w c (take (2 * c) s))) k * 5
   sizes-long k =
@@ -142,19 +162,11 @@ module _ {w c : ℕ} {s : List ℕ} {at : ℕ} (A : Sizable w c s at) where
       let n = countIf (isRoot (firstRun w c (take (2 * c) s))) k in
       length-encoded sizeWords 5 each-five (table g n) ∙ ap (λ z. z * 5) (length-table g n)
 
--- the first k runs' components have their sizes; the next run starts in row y or later
-pub record SizeSweep (w c at : ℕ) (s₀ s : List ℕ) (k count y : ℕ) : Type 0 where
-  pub asks : Sizable w c s₀ at
-  pub upto : k ≤ c
-  pub count-is : count ≡ countIf (isRoot (firstRun w c (take (2 * c) s₀))) k
-  pub above : k < c → y * w ≤ startOf (take (2 * c) s₀) k
-  pub words : s ≡ take at s₀ ++ over (sizes w c s₀ k) (drop at s₀)
-
-pub size-none : {w c at : ℕ} {s : List ℕ} → Sizable w c s at → SizeSweep w c at s s 0 0 0
+pub size-none : {w h c at : ℕ} {s : List ℕ} → Sizable w h c s at → SizeSweep w h c at s s 0 0
 unfolding countIf table encoded
-size-none {w} {c} {at} {s} A = record { asks = A; upto = omega arith; count-is = refl; above = λ l. omega arith; words = sym (take-append-drop at s) }
+size-none {w} {h} {c} {at} {s} A = record { asks = A; upto = omega arith; count-is = refl; words = sym (take-append-drop at s) }
 
-module _ {w c at : ℕ} {s₀ s : List ℕ} {k count y : ℕ} (S : SizeSweep w c at s₀ s k count y) where
+module _ {w h c at : ℕ} {s₀ s : List ℕ} {k count : ℕ} (S : SizeSweep w h c at s₀ s k count) where
   front-long : length (take at s₀) ≡ at
   front-long = length-take-le at s₀ (let r = S .asks .room in omega arith)
 
@@ -187,6 +199,23 @@ module _ {w c at : ℕ} {s₀ s : List ℕ} {k count y : ℕ} (S : SizeSweep w c
   ahead : take at s ≡ take at s₀
   ahead = ap (take at) (S .words) ∙ take-at (take at s₀) (over (sizes w c s₀ k) (drop at s₀)) at front-long
 
+  pub runs-same : take (2 * c) s ≡ take (2 * c) s₀
+  runs-same = let b = S .asks .before in sym (take-take (2 * c) at s (omega arith)) ∙ (ap (take (2 * c)) ahead ∙ take-take (2 * c) at s₀ (omega arith))
+
+  -- what the laws of the records ask, of the words as they are now
+  pub size-list : Tallyable w c s (spare (S .asks))
+  size-list =
+      let T = tallyable (S .asks) in
+      let r = size-room in
+      let b = S .asks .before in
+      record {
+        list = record { wide = T .list .wide; narrow = T .list .narrow; few = T .list .few; room = r .1; order = rw runs-same (T .list .order) };
+        within = rw runs-same (T .within);
+        row = rw runs-same (T .row);
+        numbers = rw runs-same (λ j l. size-read (2 * c + j) (omega arith) ∙ T .numbers j l);
+        room = rw runs-same (T .room);
+      }
+
   module _ (lk : k < c) where
     abbrev t : List ℕ
     t = take (2 * c) s₀
@@ -202,9 +231,6 @@ module _ {w c at : ℕ} {s₀ s : List ℕ} {k count y : ℕ} (S : SizeSweep w c
 
     abbrev g : ℕ → Component
     g q = componentRuns w (startOf t) (endOf t 0) f (suc q) k
-
-    abbrev g' : ℕ → Component
-    g' q = componentRuns w (startOf t) (endOf t 0) f (suc q) (suc k)
 
     some-number : 0 < N
     some-number = number-some f (first-low w c t) (first-same w c t) k
@@ -239,134 +265,63 @@ module _ {w c at : ℕ} {s₀ s : List ℕ} {k count y : ℕ} (S : SizeSweep w c
             (ap (λ z. sizeOf (take 5 (drop ((N - 1) * 5) z))) behind
             ∙ (ap sizeOf (record-part sizeWords 5 each-five (table g C) rest (N - 1) noDots (omega arith)) ∙ ap (λ z. sizeOf (sizeWords z)) (getD-table g C (N - 1) noDots (omega arith))))
 
-    -- with the run absorbed it is the size with one run more: the sums play no part in it
-    absorbed-is : sizeWords (absorbedRun (heldSize (drop at s) N count) (startOf t k % w) (endOf t 0 k - startOf t k - 1) (startOf t k / w)) ≡ sizeWords (g' (N - 1))
-    unfolding componentRuns
-    absorbed-is =
-        let p = some-number in
-        let e : N ≡ suc (N - 1) = omega arith in
-        ap (λ z. sizeWords (absorbedRun z (startOf t k % w) (endOf t 0 k - startOf t k - 1) (startOf t k / w))) held-is
-        ∙ (ap sizeWords (sym (run-absorbed w c s₀ (spare (S .asks)) (tallyable (S .asks)) k (g (N - 1)) lk)) ∙ rw (eq-eqb N (suc (N - 1)) e) refl)
-
-    other-is : (q : ℕ) → (N ≡ suc q → ⊥) → g' q ≡ g q
-    unfolding componentRuns
-    other-is q ne = rw (ne-eqb N (suc q) ne) refl
-
     held-small : heldSize (drop at s) N count .area ≤ maxMaskDots
     held-small =
         let B = run-bounded w c s₀ (spare (S .asks)) (tallyable (S .asks)) (N - 1) k (startOf t k) (S .upto) (λ j lj. S .asks .list .order .rising j k lj lk) in
         let b = B .area in
         let o = S .asks .list .order .some k lk in
         let i = S .asks .within k lk in
+        let u = S .asks .dots in
         let e = ap (λ z. z .area) held-is in
         omega arith
 
-    -- the words of run k, as they are read
-    module _ (number start end : ℕ) (en : number ≡ getD s (2 * c + k) 0) (es : start ≡ getD s (2 * k) 0) (ee : end ≡ getD s (2 * k + 1) 0) where
-      number-is : number ≡ N
-      number-is = en ∙ (size-read (2 * c + k) (let b = S .asks .before in omega arith) ∙ S .asks .numbers k lk)
+    module _ {next last dots sum : ℕ} (P : SpanOf w c (take (2 * c) s₀) k next last dots sum) (number x y : ℕ) (en : number ≡ N) (ex : x ≡ startOf (take (2 * c) s₀) k % w) (ey : y ≡ startOf (take (2 * c) s₀) k / w) where
+      abbrev g' : ℕ → Component
+      g' q = componentRuns w (startOf t) (endOf t 0) f (suc q) next
 
-      start-is : start ≡ startOf t k
-      start-is = es ∙ (size-read (2 * k) (let b = S .asks .before in omega arith) ∙ sym (getD-take (2 * c) s₀ (2 * k) 0 (omega arith)))
+      -- with the span absorbed it is the size by the runs up to the next: the sums play no part in it
+      absorbed-is : sizeWords (absorbedSpan (heldSize (drop at s) N count) x last dots 0 y) ≡ sizeWords (g' (N - 1))
+      absorbed-is =
+          let p = some-number in
+          let e : N ≡ suc (N - 1) = omega arith in
+          (λ i. sizeWords (absorbedSpan (held-is i) (ex i) last dots 0 (ey i)))
+          ∙ ap sizeWords (subst (λ z. absorbedSpan (componentRuns w (startOf t) (endOf t 0) f z k) (startOf t k % w) last dots sum (startOf t k / w) ≡ componentRuns w (startOf t) (endOf t 0) f z next) e (sym (P .own)))
 
-      end-is : end ≡ endOf t 0 k
-      end-is = ee ∙ (size-read (2 * k + 1) (let b = S .asks .before in omega arith) ∙ sym (getD-take (2 * c) s₀ (2 * k + 1) 0 (omega arith)))
+      few-more : countIf (isRoot f) next ≤ C + 1
+      few-more = let a = P .counted in let b = next-count in let e = count-step (isRoot f) k in omega arith
 
-      pub size-row : (0 < w) × (w ≤ maxMaskSide) × (start ≤ maxMaskDots) × (y * w ≤ start)
-      size-row =
-          let o = S .asks .list .order .some k lk in
+      pub size-asks : SpanSizable (take (length s - at) (drop at s)) number count dots y
+      size-asks =
+          let p = number-room in
+          let q = size-long in
+          let d = length-drop at s in
+          let d₀ = length-drop at s₀ in
+          let z = some-number in
           let i = S .asks .within k lk in
-          let e = start-is in
-          let a = S .above lk in
-          (S .asks .list .wide, S .asks .list .narrow, omega arith, omega arith)
+          let u = S .asks .dots in
+          let o = S .asks .list .order .some k lk in
+          let v = div-le-self (startOf t k) w in
+          let n = S .asks .list .narrow in
+          let a = P .few in
+          let b = P .narrow in
+          rw (tail-part at s) (record { counted = omega arith; room = omega arith; few = omega arith; low = omega arith; small = rw en held-small })
 
-      module _ (row : ℕ) (er : row ≡ start / w) where
-        row-start : row * w ≤ start
-        row-start = rw er (div-mul-le-self start w)
+      pub size-more : (part : List ℕ) (count' : ℕ) → part ≡ resized (take (length s - at) (drop at s)) number count x last dots y → count' ≡ max count number
+          → SizeSweep w h c at s₀ (putMid at (length s - at) s part) next count'
+      size-more part count' ep ec =
+          record {
+            asks = S .asks;
+            upto = P .upto;
+            count-is = ec ∙ ((λ i. max (S .count-is i) (en i)) ∙ P .counted);
+            words =
+                tail-put at s part
+                ∙ ((λ i. ahead i ++ ep i)
+                ∙ (ap (λ z. take at s₀ ++ resized z number count x last dots y) (tail-part at s)
+                ∙ (ap (λ z. take at s₀ ++ resized (drop at s) z count x last dots y) en
+                ∙ (ap (λ z. take at s₀ ++ (take ((N - 1) * 5) (drop at s) ++ (z ++ drop ((N - 1) * 5 + 5) (drop at s)))) absorbed-is
+                ∙ (ap (λ z. take at s₀ ++ (take ((N - 1) * 5) z ++ (sizeWords (g' (N - 1)) ++ drop ((N - 1) * 5 + 5) z))) behind
+                ∙ ap (λ z. take at s₀ ++ z) (table-record sizeWords 5 each-five g g' C N (countIf (isRoot f) next) (drop at s₀) (sym (P .counted)) few-more some-number number-room (λ q ne. P .other (suc q) ne)))))));
+          }
 
-        column : start - row * w ≡ startOf t k % w
-        column = ap (λ z. start - z * w) er ∙ (sym (mod-eq-sub-div-mul start w) ∙ ap (λ z. z % w) start-is)
-
-        length-is : end - start - 1 ≡ endOf t 0 k - startOf t k - 1
-        length-is = λ i. end-is i - start-is i - 1
-
-        -- the run lies within the row and the row within the limits
-        pub size-span : (row * w ≤ start) × (start < end) × (end ≤ maxMaskDots) × (start - row * w + (end - start - 1) < maxMaskSide) × (row ≤ maxMaskDots)
-        size-span =
-            let o = S .asks .list .order .some k lk in
-            let i = S .asks .within k lk in
-            let e₁ = start-is in
-            let e₂ = end-is in
-            let e₃ = column in
-            let r = run-width w c s₀ (spare (S .asks)) (tallyable (S .asks)) k lk in
-            let n = S .asks .list .narrow in
-            let d = div-le-self start w in
-            (row-start, omega arith, omega arith, omega arith, omega arith)
-
-        pub size-asks : RunSizable (take (length s - at) (drop at s)) number count (start - row * w) (start - row * w + (end - start - 1)) row
-        size-asks =
-            let n = number-is in
-            let p = number-room in
-            let q = size-long in
-            let d = length-drop at s in
-            let d₀ = length-drop at s₀ in
-            let h = size-span in
-            let z = some-number in
-            rw (tail-part at s)
-            (record {
-              counted = omega arith;
-              room = omega arith;
-              order = omega arith;
-              narrow = h .3;
-              low = h .4;
-              small = rw n held-small;
-            })
-
-        pub size-more : (part : List ℕ) (count' : ℕ)
-            → part ≡ resized (take (length s - at) (drop at s)) number count (start - row * w) (start - row * w + (end - start - 1) - (start - row * w)) row
-            → count' ≡ max count number → SizeSweep w c at s₀ (putMid at (length s - at) s part) (k + 1) count' row
-        size-more part count' ep ec =
-            record {
-              asks = S .asks;
-              upto = omega arith;
-              count-is = ec ∙ (ap (λ z. max z number) (S .count-is) ∙ (ap (max C) number-is ∙ (next-count ∙ ap (countIf (isRoot f)) (sym (add-one k)))));
-              above = λ l.
-                  let r = row-start in
-                  let h = size-span in
-                  let e = end-is in
-                  let u : k < k + 1 = omega arith in
-                  let o = S .asks .list .order .rising k (k + 1) u l in
-                  omega arith;
-              words =
-                  tail-put at s part
-                  ∙ ((λ i. ahead i ++ ep i)
-                  ∙ (ap (λ z. take at s₀ ++ resized z number count (start - row * w) (start - row * w + (end - start - 1) - (start - row * w)) row) (tail-part at s)
-                  ∙ ((λ i. take at s₀ ++ resized (drop at s) (number-is i) count (column i) (distance i) (er' i))
-                  ∙ (ap (λ z. take at s₀ ++ (take ((N - 1) * 5) (drop at s) ++ (z ++ drop ((N - 1) * 5 + 5) (drop at s)))) absorbed-is
-                  ∙ (ap (λ z. take at s₀ ++ (take ((N - 1) * 5) z ++ (sizeWords (g' (N - 1)) ++ drop ((N - 1) * 5 + 5) z))) behind
-                  ∙ (ap (λ z. take at s₀ ++ z) (table-record sizeWords 5 each-five g g' C N (countIf (isRoot f) (suc k)) (drop at s₀) (sym next-count) (count-step (isRoot f) k) some-number number-room other-is)
-                  ∙ ap (λ z. take at s₀ ++ over (sizes w c s₀ z) (drop at s₀)) (sym (add-one k))))))));
-            }
-          where
-            back : (x d : ℕ) → x + d - x ≡ d
-            back x d = omega arith
-
-            distance : start - row * w + (end - start - 1) - (start - row * w) ≡ endOf t 0 k - startOf t k - 1
-            distance = back (start - row * w) (end - start - 1) ∙ length-is
-
-            er' : row ≡ startOf t k / w
-            er' = er ∙ ap (λ z. z / w) start-is
-
-pub size-done : {w c at : ℕ} {s₀ s : List ℕ} {k count y : ℕ} → SizeSweep w c at s₀ s k count y → c ≤ k → s ≡ take at s₀ ++ over (sizes w c s₀ c) (drop at s₀)
-size-done {w} {c} {at} {s₀} S l = S .words ∙ ap (λ z. take at s₀ ++ over (sizes w c s₀ z) (drop at s₀)) (let u = S .upto in let e : _ ≡ c = omega arith in e)
-
--- Rows of w dots
-
-pub row-next : (row w : ℕ) → (row + 1) * w ≡ row * w + w
-row-next row w = ap (λ z. z * w) (add-one row) ∙ suc-mul row w
-
-pub row-low : (row w : ℕ) → 0 < w → row ≤ row * w
-row-low row w hw = let h : row * 1 ≤ row * w = mul-le-mul-left row hw in omega arith
-
-pub row-found : (dot w row : ℕ) → row * w ≤ dot → dot < row * w + w → row ≡ dot / w
-row-found dot w row l₁ l₂ = let e = row-next row w in sym (div-eq-of-lt-le w l₁ (let h : dot < (row + 1) * w = omega arith in h))
+pub size-done : {w h c at : ℕ} {s₀ s : List ℕ} {k count : ℕ} → SizeSweep w h c at s₀ s k count → c ≤ k → s ≡ take at s₀ ++ over (sizes w c s₀ c) (drop at s₀)
+size-done {w} {h} {c} {at} {s₀} S l = S .words ∙ ap (λ z. take at s₀ ++ over (sizes w c s₀ z) (drop at s₀)) (let u = S .upto in let e : _ ≡ c = omega arith in e)

@@ -2,21 +2,22 @@
 use mathlib.Core.Path.{_≡_, refl, sym, ap, _∙_}
 use mathlib.Core.List.{List}
 use Prim.Native.Nat.{ℕ, suc, _+_, _-_, _*_, _/_, _%_, _≤_, _<_, min, max}
-use native.Mathlib.Nat.{le-refl, add-mul, div-add-mod', suc-mul, div-eq-of-lt-le}
+use native.Mathlib.Nat.{le-refl, add-mul, div-add-mod', div-mul-le-self, suc-mul, div-eq-of-lt-le}
 use native.Mathlib.Numerals.{add-one}
 use native.Mathlib.Omega.{arith}
 use borrow.Author.Tests.{eq-eqb, ne-eqb}
-use lib.ListN.{getD, take}
+use lib.ListN.{getD, length, take}
 use lib.Seq.{getD-take}
+use Rattle.memory.specs.Limits.{maxMaskSide, maxMaskDots}
 use Rattle.labelling.specs.Components.{columnSum, absorbedRun, absorbedSpan}
 use Rattle.labelling.specs.InkRuns.{startOf, endOf, componentRuns}
-use Rattle.labelling.specs.Spans.{numberOf, countTo, recordTo, SpanOf}
+use Rattle.labelling.specs.Spans.{numberOf, countTo, recordTo, SpanAhead, SpanOf}
 use Rattle.labelling.specs.Tallying.{Tallyable}
 use Rattle.labelling.specs.declared.component.Component.{Component}
 use Rattle.labelling.proofs.RecordSweepLaws.{first-low, first-same, count-max, column-small, run-width, run-absorbed}
 
 -- a run more, to the right of a span
-pub span-absorb : (p : Component) (x last dots sum y x' d : ℕ) → x ≤ x' → last ≤ x' + d
+span-absorb : (p : Component) (x last dots sum y x' d : ℕ) → x ≤ x' → last ≤ x' + d
     → absorbedRun (absorbedSpan p x last dots sum y) x' d y ≡ absorbedSpan p x (x' + d) (dots + suc d) (sum + columnSum x' (suc d)) y
 span-absorb p x last dots sum y x' d l₁ l₂ =
     let m : (dots + suc d) * y ≡ dots * y + suc d * y = add-mul dots (suc d) y in
@@ -60,7 +61,7 @@ place-sum {w} {c} {s} {k} P = (λ i. columnSum (P .column i) (suc (P .last-is i 
     back x d = omega arith
 
 module _ {w c : ℕ} {s comps : List ℕ} (A : Tallyable w c s comps) where
-  pub run-place : (k base start end : ℕ) → k < c → start ≡ getD s (2 * k) 0 → end ≡ getD s (2 * k + 1) 0 → base ≡ startOf (take (2 * c) s) k / w * w → Place w c s k base start end
+  run-place : (k base start end : ℕ) → k < c → start ≡ getD s (2 * k) 0 → end ≡ getD s (2 * k + 1) 0 → base ≡ startOf (take (2 * c) s) k / w * w → Place w c s k base start end
   run-place k base start end l es ee eb =
       let a : start ≡ startOf (take (2 * c) s) k = es ∙ sym (getD-take (2 * c) s (2 * k) 0 (omega arith)) in
       let b : end ≡ endOf (take (2 * c) s) 0 k = ee ∙ sym (getD-take (2 * c) s (2 * k + 1) 0 (omega arith)) in
@@ -75,24 +76,24 @@ module _ {w c : ℕ} {s comps : List ℕ} (A : Tallyable w c s comps) where
           → endOf (take (2 * c) s) 0 k ≡ startOf (take (2 * c) s) k + suc d → startOf (take (2 * c) s) k % w + d < w → Place w c s k base start end
       at d a b x y r = record { d = d; first-dot = x; last-dot = y; inside = r; start-is = a; end-is = b; column = omega arith; last-is = omega arith; dots-is = omega arith }
 
-  own-step : (k : ℕ) {base start end : ℕ} (P : Place w c s k base start end) → k < c → recordTo w c s (numberOf w c s k) (suc k)
-      ≡ absorbedRun (recordTo w c s (numberOf w c s k) k) (startOf (take (2 * c) s) k % w) (P .d) (startOf (take (2 * c) s) k / w)
+  own-step : (k : ℕ) {base start end : ℕ} (P : Place w c s k base start end) → k < c → recordTo w c (take (2 * c) s) (numberOf w c (take (2 * c) s) k) (suc k)
+      ≡ absorbedRun (recordTo w c (take (2 * c) s) (numberOf w c (take (2 * c) s) k) k) (startOf (take (2 * c) s) k % w) (P .d) (startOf (take (2 * c) s) k / w)
   unfolding componentRuns
   own-step k P l =
       let e = P .last-dot in
-      rw (eq-eqb (numberOf w c s k) (numberOf w c s k) refl) (run-absorbed w c s comps A k (recordTo w c s (numberOf w c s k) k) l)
-      ∙ ap (λ z. absorbedRun (recordTo w c s (numberOf w c s k) k) (startOf (take (2 * c) s) k % w) z (startOf (take (2 * c) s) k / w)) (let h : endOf (take (2 * c) s) 0 k - startOf (take (2 * c) s) k - 1 ≡ P .d = omega arith in h)
+      rw (eq-eqb (numberOf w c (take (2 * c) s) k) (numberOf w c (take (2 * c) s) k) refl) (run-absorbed w c s comps A k (recordTo w c (take (2 * c) s) (numberOf w c (take (2 * c) s) k) k) l)
+      ∙ ap (λ z. absorbedRun (recordTo w c (take (2 * c) s) (numberOf w c (take (2 * c) s) k) k) (startOf (take (2 * c) s) k % w) z (startOf (take (2 * c) s) k / w)) (let h : endOf (take (2 * c) s) 0 k - startOf (take (2 * c) s) k - 1 ≡ P .d = omega arith in h)
 
-  other-step : (k q : ℕ) → (numberOf w c s k ≡ q → ⊥) → recordTo w c s q (suc k) ≡ recordTo w c s q k
+  other-step : (k q : ℕ) → (numberOf w c (take (2 * c) s) k ≡ q → ⊥) → recordTo w c (take (2 * c) s) q (suc k) ≡ recordTo w c (take (2 * c) s) q k
   unfolding componentRuns
-  other-step k q ne = rw (ne-eqb (numberOf w c s k) q ne) refl
+  other-step k q ne = rw (ne-eqb (numberOf w c (take (2 * c) s) k) q ne) refl
 
-  count-next : (k : ℕ) → max (countTo w c s k) (numberOf w c s k) ≡ countTo w c s (suc k)
+  count-next : (k : ℕ) → max (countTo w c (take (2 * c) s) k) (numberOf w c (take (2 * c) s) k) ≡ countTo w c (take (2 * c) s) (suc k)
   count-next k = count-max _ (first-low w c (take (2 * c) s)) (first-same w c (take (2 * c) s)) k
 
   -- a first run
-  pub span-one : (first base start end sum : ℕ) → first < c → Place w c s first base start end → base ≡ startOf (take (2 * c) s) first / w * w
-      → sum ≡ columnSum (start - base) (suc (end - base - 1 - (start - base))) → SpanOf w c s first (first + 1) (end - base - 1) (end - start) sum
+  span-one : (first base start end sum : ℕ) → first < c → Place w c s first base start end → base ≡ startOf (take (2 * c) s) first / w * w
+      → sum ≡ columnSum (start - base) (suc (end - base - 1 - (start - base))) → SpanOf w c (take (2 * c) s) first (first + 1) (end - base - 1) (end - start) sum
   span-one first base start end sum l P eb es =
       let a = P .first-dot in
       let b = P .last-dot in
@@ -110,12 +111,12 @@ module _ {w c : ℕ} {s comps : List ℕ} (A : Tallyable w c s comps) where
         light = omega arith;
         ends = λ j z. ap (endOf (take (2 * c) s) 0) (let y : j ≡ first = omega arith in y) ∙ (let y : endOf (take (2 * c) s) 0 first ≡ startOf (take (2 * c) s) first / w * w + suc (startOf (take (2 * c) s) first % w + P .d) = omega arith in y);
         counted = count-next first;
-        own = own-step first P l ∙ ap (λ z. absorbedSpan (recordTo w c s (numberOf w c s first) first) (startOf (take (2 * c) s) first % w) (startOf (take (2 * c) s) first % w + P .d) (suc (P .d)) z (startOf (take (2 * c) s) first / w)) (sym es₂);
+        own = own-step first P l ∙ ap (λ z. absorbedSpan (recordTo w c (take (2 * c) s) (numberOf w c (take (2 * c) s) first) first) (startOf (take (2 * c) s) first % w) (startOf (take (2 * c) s) first % w + P .d) (suc (P .d)) z (startOf (take (2 * c) s) first / w)) (sym es₂);
         other = other-step first;
       })
 
   -- and one more
-  module _ {first k last dots sum : ℕ} (S : SpanOf w c s first k last dots sum) (lk : k < c) where
+  module _ {first k last dots sum : ℕ} (S : SpanOf w c (take (2 * c) s) first k last dots sum) (lk : k < c) where
     span-before : startOf (take (2 * c) s) first / w * w + suc last ≤ startOf (take (2 * c) s) k
     span-before =
         let h = S .some in
@@ -124,19 +125,19 @@ module _ {w c : ℕ} {s comps : List ℕ} (A : Tallyable w c s comps) where
         omega arith
 
     -- in the same row
-    pub span-row : (base : ℕ) → base ≡ startOf (take (2 * c) s) first / w * w → getD s (2 * k) 0 < base + w → startOf (take (2 * c) s) first / w ≡ startOf (take (2 * c) s) k / w
+    span-row : (base : ℕ) → base ≡ startOf (take (2 * c) s) first / w * w → getD s (2 * k) 0 < base + w → startOf (take (2 * c) s) first / w ≡ startOf (take (2 * c) s) k / w
     span-row base eb h =
         let b = span-before in
         let g = getD-take (2 * c) s (2 * k) 0 (omega arith) in
         row-found (startOf (take (2 * c) s) k) w (startOf (take (2 * c) s) first / w) (omega arith) (omega arith)
 
-    pub span-number : (label : ℕ) → label ≡ getD s (2 * c + first) 0 → getD s (2 * c + k) 0 ≡ label → numberOf w c s first ≡ numberOf w c s k
+    span-number : (label : ℕ) → label ≡ getD s (2 * c + first) 0 → getD s (2 * c + k) 0 ≡ label → numberOf w c (take (2 * c) s) first ≡ numberOf w c (take (2 * c) s) k
     span-number label e₁ e₂ = let h = S .some in sym (A .numbers first (omega arith)) ∙ (sym e₁ ∙ (sym e₂ ∙ A .numbers k lk))
 
-    pub span-more : (base start end sum' : ℕ) → Place w c s k base start end → base ≡ startOf (take (2 * c) s) first / w * w
-        → numberOf w c s first ≡ numberOf w c s k → startOf (take (2 * c) s) first / w ≡ startOf (take (2 * c) s) k / w
+    span-more : (base start end sum' : ℕ) → Place w c s k base start end → base ≡ startOf (take (2 * c) s) first / w * w
+        → numberOf w c (take (2 * c) s) first ≡ numberOf w c (take (2 * c) s) k → startOf (take (2 * c) s) first / w ≡ startOf (take (2 * c) s) k / w
         → sum' ≡ columnSum (start - base) (suc (end - base - 1 - (start - base)))
-        → SpanOf w c s first (k + 1) (end - base - 1) (dots + (end - start)) (sum + sum')
+        → SpanOf w c (take (2 * c) s) first (k + 1) (end - base - 1) (dots + (end - start)) (sum + sum')
     span-more base start end sum' P eb en er es =
         let a = P .first-dot in
         let b = P .last-dot in
@@ -149,7 +150,7 @@ module _ {w c : ℕ} {s comps : List ℕ} (A : Tallyable w c s comps) where
         let v = span-before in
         let c₁ = S .counted in
         let c₂ = count-next k in
-        let nk = ap (λ z. max (countTo w c s k) z) en in
+        let nk = ap (λ z. max (countTo w c (take (2 * c) s) k) z) en in
         let es₂ : sum' ≡ columnSum (startOf (take (2 * c) s) k % w) (suc (P .d)) = es ∙ place-sum P in
         let q = column-small (startOf (take (2 * c) s) k % w) (suc (P .d)) 131072 (omega arith) in
         rw (add-one k, P .last-is, P .dots-is)
@@ -163,11 +164,41 @@ module _ {w c : ℕ} {s comps : List ℕ} (A : Tallyable w c s comps) where
           ends = λ j z. ap (endOf (take (2 * c) s) 0) (let y : j ≡ k = omega arith in y) ∙ (let y : endOf (take (2 * c) s) 0 k ≡ startOf (take (2 * c) s) first / w * w + suc (startOf (take (2 * c) s) k % w + P .d) = omega arith in y);
           counted = omega arith;
           own =
-              ap (λ z. recordTo w c s z (suc k)) en
+              ap (λ z. recordTo w c (take (2 * c) s) z (suc k)) en
               ∙ (own-step k P lk
-              ∙ ((λ i. absorbedRun (recordTo w c s (sym en i) k) (startOf (take (2 * c) s) k % w) (P .d) (sym er i))
+              ∙ ((λ i. absorbedRun (recordTo w c (take (2 * c) s) (sym en i) k) (startOf (take (2 * c) s) k % w) (P .d) (sym er i))
               ∙ (ap (λ z. absorbedRun z (startOf (take (2 * c) s) k % w) (P .d) (startOf (take (2 * c) s) first / w)) (S .own)
-              ∙ (span-absorb (recordTo w c s (numberOf w c s first) first) (startOf (take (2 * c) s) first % w) last dots sum (startOf (take (2 * c) s) first / w) (startOf (take (2 * c) s) k % w) (P .d) (omega arith) (omega arith)
-              ∙ ap (λ z. absorbedSpan (recordTo w c s (numberOf w c s first) first) (startOf (take (2 * c) s) first % w) (startOf (take (2 * c) s) k % w + P .d) (dots + suc (P .d)) (sum + z) (startOf (take (2 * c) s) first / w)) (sym es₂)))));
+              ∙ (span-absorb (recordTo w c (take (2 * c) s) (numberOf w c (take (2 * c) s) first) first) (startOf (take (2 * c) s) first % w) last dots sum (startOf (take (2 * c) s) first / w) (startOf (take (2 * c) s) k % w) (P .d) (omega arith) (omega arith)
+              ∙ ap (λ z. absorbedSpan (recordTo w c (take (2 * c) s) (numberOf w c (take (2 * c) s) first) first) (startOf (take (2 * c) s) first % w) (startOf (take (2 * c) s) k % w + P .d) (dots + suc (P .d)) (sum + z) (startOf (take (2 * c) s) first / w)) (sym es₂)))));
           other = λ q ne. other-step k q (λ e. ne (en ∙ e)) ∙ S .other q ne;
         })
+
+-- The span that starts with run `first`
+
+module _ {w c : ℕ} {s : List ℕ} {base first : ℕ} (P : SpanAhead w c s base first) where
+  pub span-room : (c ≤ maxMaskDots) × (3 * c ≤ length s) × (first < c) × (base ≤ maxMaskDots) × (w ≤ maxMaskSide)
+  span-room =
+      let e = P .row in
+      let d = div-mul-le-self (startOf (take (2 * c) s) first) w in
+      let o = P .asks .list .order .some first (P .here) in
+      let i = P .asks .within first (P .here) in
+      (P .asks .list .few, P .asks .list .room, P .here, omega arith, P .asks .list .narrow)
+
+  module _ (start end : ℕ) (es : start ≡ getD s (2 * first) 0) (ee : end ≡ getD s (2 * first + 1) 0) where
+    pub first-place : Place w c s first base start end
+    first-place = run-place (P .asks) first base start end (P .here) es ee (P .row)
+
+    pub first-span : (sum : ℕ) → sum ≡ columnSum (start - base) (suc (end - base - 1 - (start - base))) → SpanOf w c (take (2 * c) s) first (first + 1) (end - base - 1) (end - start) sum
+    first-span sum e = span-one (P .asks) first base start end sum (P .here) first-place (P .row) e
+
+  -- the next, run k, has its label and lies in its row
+  module _ {k last dots sum : ℕ} (S : SpanOf w c (take (2 * c) s) first k last dots sum) (label : ℕ) (el : label ≡ getD s (2 * c + first) 0)
+      (G : (k < c) × (getD s (2 * c + k) 0 ≡ label) × (getD s (2 * k) 0 < base + w)) (start end : ℕ) (es : start ≡ getD s (2 * k) 0) (ee : end ≡ getD s (2 * k + 1) 0) where
+    same-row : startOf (take (2 * c) s) first / w ≡ startOf (take (2 * c) s) k / w
+    same-row = span-row (P .asks) S (G .0) base (P .row) (G .2)
+
+    pub next-place : Place w c s k base start end
+    next-place = run-place (P .asks) k base start end (G .0) es ee (P .row ∙ ap (λ z. z * w) same-row)
+
+    pub next-span : (more : ℕ) → more ≡ columnSum (start - base) (suc (end - base - 1 - (start - base))) → SpanOf w c (take (2 * c) s) first (k + 1) (end - base - 1) (dots + (end - start)) (sum + more)
+    next-span more e = span-more (P .asks) S (G .0) base start end more next-place (P .row) (span-number (P .asks) S (G .0) label el (G .1)) same-row e

@@ -30,7 +30,7 @@ pub mod Painting
 pub mod Tallying
 -- the components of any mask in scratch: runs, numbers, sizes
 pub mod Sizes
--- these sizes, run by run
+-- these sizes, span by span
 pub mod Sizing
 -- which dots count, by ink and a mark for each
 pub mod Marked

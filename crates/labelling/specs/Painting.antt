@@ -1,14 +1,14 @@
 -- What painting asks and gives.
 use mathlib.Core.Path.{_≡_}
 use mathlib.Core.List.{List, _++_}
-use Prim.Native.Nat.{ℕ, suc, _+_, _*_, _/_, _≤_, _<_}
+use Prim.Native.Nat.{ℕ, suc, _+_, _*_, _≤_, _<_}
 use lib.ListN.{getD, length, take, drop}
 use Rattle.memory.specs.Lists.{table}
 use Rattle.memory.specs.Limits.{maxMaskDots}
 use Rattle.labelling.specs.InkRuns.{startOf, endOf}
 use Rattle.labelling.specs.Linking.{Order}
-use Rattle.labelling.specs.Spans.{SpanOf}
-use Rattle.labelling.specs.Tallying.{Tallyable, TallySweep}
+use Rattle.labelling.specs.Spans.{SpanAhead, SpanOf}
+use Rattle.labelling.specs.Tallying.{TallySweep}
 
 -- the front of l is the table of f up to i, and what lies past is as in l₀
 abbrev pub Front : (ℕ → ℕ) → List ℕ → List ℕ → ℕ → Type 0
@@ -65,15 +65,12 @@ pub record SpanPaintable (w c : ℕ) (s l : List ℕ) (base first : ℕ) : Type 
   pub n : ℕ
   pub l₀ : List ℕ
   pub sweep : PaintSweep s c l₀ l n first (base + w)
-  pub comps : List ℕ
-  pub asks : Tallyable w c s comps
-  pub here : first < c
-  pub row : base ≡ startOf (take (2 * c) s) first / w * w
+  pub ahead : SpanAhead w c s base first
 
 -- the runs from `first` up to `next` are painted, and are one span
 pub record SpanPainted (w c : ℕ) (s l l' : List ℕ) (limit first next last dots sum : ℕ) : Type 0 where
   pub painted : PaintsOn s c l l' limit first next
-  pub span : SpanOf w c s first next last dots sum
+  pub span : SpanOf w c (take (2 * c) s) first next last dots sum
 
 -- the runs before k are painted and tallied, and row y, which the next run lies in or past, is clear
 pub record RowPaintable (w c : ℕ) (s l comps : List ℕ) (y k count : ℕ) : Type 0 where

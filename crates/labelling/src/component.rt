@@ -1,8 +1,8 @@
 // One component: its area, its box and the sums of its dots' coordinates (01's piece).
 ghost use mathlib.Core.Path.{_≡_};
-ghost use Prim.Native.Nat.{_+_, _-_, _≤_, _<_, _^_};
+ghost use Prim.Native.Nat.{_≤_, _^_};
 ghost use Rattle.memory.specs.Limits.{maxMaskSide, maxMaskDots};
-ghost use Rattle.labelling.specs.Components.{noDots, absorbed, absorbedRun, absorbedSpan, boxOf};
+ghost use Rattle.labelling.specs.Components.{noDots, absorbedSpan, boxOf};
 use crate::rect::Rect;
 use crate::rect::greater;
 use crate::rect::lesser;
@@ -30,44 +30,6 @@ impl Component {
             y1: 0,
             sum_x: 0,
             sum_y: 0,
-        }
-    }
-
-    // The component with the dot in column x and row y more.
-    pub fn absorb(self, x: u32, y: u32) -> Component
-        requires { ⌜ self .area < 4294967295 ⌝ ∗ ⌜ self .«sum_x» + x ≤ 18446744073709551615 ⌝ ∗ ⌜ self .«sum_y» + y ≤ 18446744073709551615 ⌝ }
-        ensures { λ r. ⌜ r ≡ absorbed self x y ⌝ }
-    {
-        Component {
-            area: self.area + 1,
-            x0: lesser(self.x0, x),
-            y0: lesser(self.y0, y),
-            x1: greater(self.x1, x),
-            y1: greater(self.y1, y),
-            sum_x: self.sum_x + (x as u64),
-            sum_y: self.sum_y + (y as u64),
-        }
-    }
-
-    // The component with the dots from column x0 to column x1 of row y more: its two end dots, and those between.
-    pub fn absorb_run(self, x0: u32, x1: u32, y: u32) -> Component
-        requires { ⌜ (x0 ≤ x1) × (x1 < maxMaskSide) × (y ≤ maxMaskDots) × (self .area ≤ maxMaskDots) × (self .«sum_x» ≤ 2 ^ 60) × (self .«sum_y» ≤ 2 ^ 60) ⌝ }
-        ensures { λ r. ⌜ r ≡ absorbedRun self x0 (x1 - x0) y ⌝ }
-    {
-        let first = self.absorb(x0, y);
-        if x0 == x1 {
-            return first;
-        }
-        let both = first.absorb(x1, y);
-        let between = x1 - x0 - 1;
-        Component {
-            area: both.area + between,
-            x0: both.x0,
-            y0: both.y0,
-            x1: both.x1,
-            y1: both.y1,
-            sum_x: both.sum_x + (between as u64) * ((x0 + x1) as u64) / 2,
-            sum_y: both.sum_y + (between as u64) * (y as u64),
         }
     }
 

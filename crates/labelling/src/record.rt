@@ -32,7 +32,7 @@ pub fn encode(words: &mut [u32], c: Component)
 }
 
 // Word i becomes v where that is less. It is stored only then, since most spans lie within the box of their component.
-fn lower(words: &mut [u32], i: usize, v: u32)
+pub fn lower(words: &mut [u32], i: usize, v: u32)
     requires { ⌜ i < length (now words) ⌝ }
     ensures { λ _. ⌜ now (words .exit) ≡ lowered (now (words .entry)) i v ⌝ }
 {
@@ -43,7 +43,7 @@ fn lower(words: &mut [u32], i: usize, v: u32)
 }
 
 // Word i becomes v where that is greater.
-fn raise(words: &mut [u32], i: usize, v: u32)
+pub fn raise(words: &mut [u32], i: usize, v: u32)
     requires { ⌜ i < length (now words) ⌝ }
     ensures { λ _. ⌜ now (words .exit) ≡ raised (now (words .entry)) i v ⌝ }
 {

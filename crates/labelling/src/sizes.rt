@@ -1,15 +1,20 @@
 // Labelling a run list in scratch: the number of each run's component, and each component's area and box, five words.
 ghost use mathlib.Core.Path.{_≡_};
 ghost use mathlib.Core.List.{List, _++_};
-ghost use Prim.Native.Nat.{ℕ, _-_, _*_, _/_, _≤_, _<_};
+ghost use Prim.Native.Nat.{ℕ, _≤_};
 ghost use lib.ListN.{length, take, drop};
 ghost use Rattle.memory.specs.Limits.{maxMaskSide, maxMaskDots};
 ghost use Rattle.memory.specs.Words.{over};
+ghost use Rattle.labelling.specs.Components.{absorbedSpan};
 ghost use Rattle.labelling.specs.Sizes.{sizeWords, SizesRoom, SizesLeft};
-ghost use Rattle.labelling.specs.Sizing.{sizeOf, heldSize, resized, RunSizable, sizes, Sizable, RunsNumberable, RunsNumbered};
+ghost use Rattle.labelling.specs.Sizing.{sizeOf, resized, SpanSizable, sizes, Sizable, RowSizable, RowSized, RunsNumberable, RunsNumbered};
 use crate::component::Component;
 use crate::link::link_runs;
 use crate::number::number_runs;
+use crate::record::lower;
+use crate::record::raise;
+use crate::span::Reached;
+use crate::span::measure_span;
 use crate::tally::larger;
 use crate::words::wide;
 
@@ -25,84 +30,92 @@ fn write_size(words: &mut [u32], c: Component)
     words[4] = c.y1;
 }
 
-// Reads them from five words: a component whose sums are not kept.
-fn read_size(words: &[u32]) -> Component
-    requires { ⌜ length (now words) ≡ 5 ⌝ }
-    ensures { λ r. ⌜ r ≡ sizeOf (now (words .entry)) ⌝ }
+// The size in five words with the dots of a span of row y more, in its place.
+fn widen_size(words: &mut [u32], x: u32, last: u32, dots: u32, y: u32)
+    requires { ⌜ (length (now words) ≡ 5) × (dots ≤ maxMaskSide) × (sizeOf (now words) .area ≤ maxMaskDots) ⌝ }
+    ensures { λ _. ⌜ now (words .exit) ≡ sizeWords (absorbedSpan (sizeOf (now (words .entry))) x last dots 0 y) ⌝ }
 {
-    Component {
-        area: words[0],
-        x0: words[1],
-        y0: words[2],
-        x1: words[3],
-        y1: words[4],
-        sum_x: 0,
-        sum_y: 0,
-    }
+    let area = words[0];
+    words[0] = area + dots;
+    lower(words, 1, x);
+    lower(words, 2, y);
+    raise(words, 3, last);
+    raise(words, 4, y);
 }
 
-// The size of a component so far: none where its number is past those that have one.
-fn held_size(words: &[u32], number: usize, count: usize) -> Component
-    requires { ⌜ (0 < number) × (number * 5 ≤ length (now words)) ⌝ }
-    ensures { λ r. ⌜ r ≡ heldSize (now (words .entry)) number count ⌝ }
+// The dots of a span absorbed by the size of the component with this number: a new one where `count` have one and this is past them.
+// The span lies in row y, from column x to column `last`.
+fn size_span(words: &mut [u32], number: usize, count: usize, x: u32, last: u32, dots: u32, y: u32)
+    requires { ⌜ SpanSizable (now words) number count dots y ⌝ }
+    ensures { λ _. ⌜ now (words .exit) ≡ resized (now (words .entry)) number count x last dots y ⌝ }
 {
+    let at = (number - 1) * 5;
     if count < number {
-        return Component::none();
+        let after = Component::none().absorb_span(x, last, dots, 0, y);
+        write_size(&mut words[at..at + 5], after);
+        return;
     }
-    let at = (number - 1) * 5;
-    read_size(&words[at..at + 5])
+    widen_size(&mut words[at..at + 5], x, last, dots, y);
 }
 
-// The dots of row y from column x to column `last`, a run of the component with this number, absorbed by its size.
-fn size_run(words: &mut [u32], number: usize, count: usize, x: u32, last: u32, y: u32)
-    requires { ⌜ RunSizable (now words) number count x last y ⌝ }
-    ensures { λ _. ⌜ now (words .exit) ≡ resized (now (words .entry)) number count x (last - x) y ⌝ }
+// Writes the sizes of the components of row y's runs, from `first` on, to the words from `at` on; `before` components have one already.
+fn size_row(
+    words: &mut [u32],
+    c: usize,
+    w: usize,
+    y: usize,
+    first: usize,
+    before: usize,
+    at: usize,
+) -> Reached
+    requires { ⌜ ((h : ℕ) × RowSizable w h c (now words) at y first before) ⌝ }
+    ensures { λ r. ⌜ RowSized w c (now (words .entry)) (now (words .exit)) at y first before (r .next) (r .count) ⌝ }
 {
-    let before = held_size(&words[..], number, count);
-    let after = before.absorb_run(x, last, y);
-    let at = (number - 1) * 5;
-    write_size(&mut words[at..at + 5], after);
-}
-
-// The row of a dot, counted on from row y, which starts at the dot or before it: runs come row by row, so no division is needed.
-fn row_of(dot: usize, w: usize, y: usize) -> usize
-    requires { ⌜ (0 < w) × (w ≤ maxMaskSide) × (dot ≤ maxMaskDots) × (y * w ≤ dot) ⌝ }
-    ensures { λ r. ⌜ r ≡ dot / w ⌝ }
-{
-    let mut row = y;
-    let mut end = y * w + w;
-    while end <= dot {
-        end += w;
-        row += 1;
-    }
-    row
-}
-
-// Writes the sizes of the components of c runs, which have their numbers, to the words from `at` on.
-fn size_runs(words: &mut [u32], c: usize, w: usize, at: usize)
-    requires { ⌜ Sizable w c (now words) at ⌝ }
-    ensures { λ _. ⌜ now (words .exit) ≡ take at (now (words .entry)) ++ over (sizes w c (now (words .entry)) c) (drop at (now (words .entry))) ⌝ }
-{
-    let mut count = 0;
-    let mut y = 0;
-    let mut k = 0;
+    let base = y * w;
+    let limit = base + w;
+    let mut count = before;
+    let mut k = first;
     while k < c {
         let start = wide(words[2 * k]);
-        let end = wide(words[2 * k + 1]);
+        if limit <= start {
+            return Reached {
+                next: k,
+                count: count,
+            };
+        }
         let number = wide(words[2 * c + k]);
-        y = row_of(start, w, y);
-        let x = start - y * w;
-        let last = x + (end - start - 1);
-        size_run(
+        let span = measure_span(&words[..], c, w, base, k);
+        size_span(
             &mut words[at..],
             number,
             count,
-            x as u32,
-            last as u32,
+            (start - base) as u32,
+            span.last as u32,
+            span.dots as u32,
             y as u32,
         );
         count = larger(count, number);
-        k += 1;
+        k = span.next;
+    }
+    Reached {
+        next: k,
+        count: count,
+    }
+}
+
+// Writes the sizes of the components of c runs, which have their numbers, to the words from `at` on; the plane is w wide and h high.
+fn size_runs(words: &mut [u32], c: usize, w: usize, h: usize, at: usize)
+    requires { ⌜ Sizable w h c (now words) at ⌝ }
+    ensures { λ _. ⌜ now (words .exit) ≡ take at (now (words .entry)) ++ over (sizes w c (now (words .entry)) c) (drop at (now (words .entry))) ⌝ }
+{
+    let mut count = 0;
+    let mut k = 0;
+    let mut y = 0;
+    while y < h {
+        let reached = size_row(words, c, w, y, k, count, at);
+        count = reached.count;
+        k = reached.next;
+        y += 1;
     }
 }
 
@@ -135,6 +148,6 @@ pub fn label_sizes(
     if capacity < count {
         return count;
     }
-    size_runs(words, c, w, at);
+    size_runs(words, c, w, h, at);
     count
 }

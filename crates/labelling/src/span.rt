@@ -2,10 +2,11 @@
 // and written again for each of them.
 ghost use mathlib.Core.Path.{_≡_};
 ghost use mathlib.Core.Bool.{true};
-ghost use Prim.Native.Nat.{suc, _+_, _-_, _*_, _≤_, _<_};
-ghost use lib.ListN.{getD, length};
+ghost use Prim.Native.Nat.{ℕ, suc, _+_, _-_, _*_, _≤_, _<_};
+ghost use lib.ListN.{getD, length, take};
 ghost use Rattle.memory.specs.Limits.{maxMaskSide};
 ghost use Rattle.labelling.specs.Components.{columnSum};
+ghost use Rattle.labelling.specs.Spans.{SpanAhead, SpanOf};
 use crate::words::wide;
 
 // The run after it, the column of its last dot, its dots and the sum of their columns.
@@ -14,6 +15,13 @@ pub struct Span {
     pub last: usize,
     pub dots: usize,
     pub sum: usize,
+}
+
+// The same with no sum.
+pub struct Extent {
+    pub next: usize,
+    pub last: usize,
+    pub dots: usize,
 }
 
 // How far a sweep over the runs has come: the next run, and how many components it has met.
@@ -42,4 +50,30 @@ pub fn column_sum(x: usize, last: usize) -> usize
     ensures { λ r. ⌜ r ≡ columnSum x (suc (last - x)) ⌝ }
 {
     (last - x + 1) * (x + last) / 2
+}
+
+// The span that starts with run `first`, in the row that starts at dot `base`.
+pub fn measure_span(runs: &[u32], c: usize, w: usize, base: usize, first: usize) -> Extent
+    requires { ⌜ SpanAhead w c (now runs) base first ⌝ }
+    ensures { λ r. ⌜ ((sum : ℕ) × SpanOf w c (take (2 * c) (now (runs .entry))) first (r .next) (r .last) (r .dots) sum) ⌝ }
+{
+    let limit = base + w;
+    let label = runs[2 * c + first];
+    let start = wide(runs[2 * first]);
+    let end = wide(runs[2 * first + 1]);
+    let mut last = end - base - 1;
+    let mut dots = end - start;
+    let mut k = first + 1;
+    while goes_on(runs, c, k, label, limit) {
+        let from = wide(runs[2 * k]);
+        let to = wide(runs[2 * k + 1]);
+        last = to - base - 1;
+        dots += to - from;
+        k += 1;
+    }
+    Extent {
+        next: k,
+        last: last,
+        dots: dots,
+    }
 }

@@ -2,58 +2,58 @@ use borrow.Author.Needs.{needs}
 use native.Mathlib.Omega.{arith}
 use mathlib.Core.Path.{refl}
 use Prim.Native.Nat.{_+_, _-_, _*_}
-use lib.ListN.{getD}
+use lib.ListN.{getD, take}
 use Rattle.labelling.specs.Painting.{PaintsOn}
 use Rattle.labelling.specs.Spans.{SpanOf}
-use Rattle.labelling.proofs.SpanLaws.{place-columns, place-ends}
-use Rattle.labelling.proofs.RowPaintLaws.{paints-then, span-room, paints-long, first-place, first-asks, first-painted, first-span, next-place, next-asks, next-painted, next-span}
+use Rattle.labelling.proofs.SpanLaws.{place-columns, place-ends, span-room, first-place, first-span, next-place, next-span}
+use Rattle.labelling.proofs.RowPaintLaws.{paints-then, paints-long, first-asks, first-painted, next-asks, next-painted}
 use Rattle.labelling.proofs.paint.paint_span.Statement.{statement}
 use Rattle.labelling.proofs.paint.paint_span.Tie as tie
 
 abbrev Inv-loop : tie.InvT-loop
-Inv-loop runs c w base first labels₀ limit label start end last₀ dots₀ sum₀ k₀ labels last dots sum k = PaintsOn runs c labels₀ labels (base + w) (first + 1) k × SpanOf w c runs first k last dots sum
+Inv-loop runs c w base first labels₀ limit label start end last₀ dots₀ sum₀ k₀ labels last dots sum k = PaintsOn runs c labels₀ labels (base + w) (first + 1) k × SpanOf w c (take (2 * c) runs) first k last dots sum
 
 abbrev μ-loop : tie.MeasureT-loop
 μ-loop runs c w base first labels₀ limit label start end last₀ dots₀ sum₀ k₀ labels last dots sum k = c - k
 
 add-limit : tie.Need-add-limit Inv-loop μ-loop
-add-limit c = let r = span-room ((c .before .before) .pre) in omega arith
+add-limit c = let r = span-room ((c .before .before) .pre .ahead) in omega arith
 
 mul-label : tie.Need-mul-label Inv-loop μ-loop
-mul-label c = let r = span-room ((c .before .before) .pre) in omega arith
+mul-label c = let r = span-room ((c .before .before) .pre .ahead) in omega arith
 
 add-label : tie.Need-add-label Inv-loop μ-loop
-add-label c = let r = span-room ((c .before .before) .pre) in omega arith
+add-label c = let r = span-room ((c .before .before) .pre .ahead) in omega arith
 
 mul-label-2 : tie.Need-mul-label-2 Inv-loop μ-loop
-mul-label-2 c = let r = span-room ((c .before .before) .pre) in omega arith
+mul-label-2 c = let r = span-room ((c .before .before) .pre .ahead) in omega arith
 
 shared-slice-read-label : tie.Need-shared-slice-read-label Inv-loop μ-loop
-shared-slice-read-label c = let r = span-room ((c .before .before .before) .pre) in omega arith
+shared-slice-read-label c = let r = span-room ((c .before .before .before) .pre .ahead) in omega arith
 
 mul-wide : tie.Need-mul-wide Inv-loop μ-loop
-mul-wide c = let r = span-room ((c .before .before .before) .pre) in omega arith
+mul-wide c = let r = span-room ((c .before .before .before) .pre .ahead) in omega arith
 
 mul-wide-2 : tie.Need-mul-wide-2 Inv-loop μ-loop
-mul-wide-2 c = let r = span-room ((c .before .before .before) .pre) in omega arith
+mul-wide-2 c = let r = span-room ((c .before .before .before) .pre .ahead) in omega arith
 
 shared-slice-read-wide : tie.Need-shared-slice-read-wide Inv-loop μ-loop
-shared-slice-read-wide c = let r = span-room ((c .before .before .before .before) .pre) in omega arith
+shared-slice-read-wide c = let r = span-room ((c .before .before .before .before) .pre .ahead) in omega arith
 
 wide-requires : tie.Need-wide-requires Inv-loop μ-loop
 wide-requires c κs = search needs
 
 mul-wide-3 : tie.Need-mul-wide-3 Inv-loop μ-loop
-mul-wide-3 c = let r = span-room ((c .before .before .before .before .before) .pre) in omega arith
+mul-wide-3 c = let r = span-room ((c .before .before .before .before .before) .pre .ahead) in omega arith
 
 add-wide : tie.Need-add-wide Inv-loop μ-loop
-add-wide c = let r = span-room ((c .before .before .before .before .before) .pre) in omega arith
+add-wide c = let r = span-room ((c .before .before .before .before .before) .pre .ahead) in omega arith
 
 mul-wide-4 : tie.Need-mul-wide-4 Inv-loop μ-loop
-mul-wide-4 c = let r = span-room ((c .before .before .before .before .before) .pre) in omega arith
+mul-wide-4 c = let r = span-room ((c .before .before .before .before .before) .pre .ahead) in omega arith
 
 shared-slice-read-wide-2 : tie.Need-shared-slice-read-wide-2 Inv-loop μ-loop
-shared-slice-read-wide-2 c = let r = span-room ((c .before .before .before .before .before .before) .pre) in omega arith
+shared-slice-read-wide-2 c = let r = span-room ((c .before .before .before .before .before .before) .pre .ahead) in omega arith
 
 wide-requires-2 : tie.Need-wide-requires-2 Inv-loop μ-loop
 wide-requires-2 c κs = search needs
@@ -62,52 +62,52 @@ paint-run-requires : tie.Need-paint-run-requires Inv-loop μ-loop
 paint-run-requires c κs = first-asks ((c .before .before .before .before .before .before .before .before) .pre) ((c .before .before .before .wide) .result) ((c .before .wide2) .result) ((c .before .before .before .wide) .ensures) ((c .before .wide2) .ensures)
 
 sub-last : tie.Need-sub-last Inv-loop μ-loop
-sub-last c = let p = place-ends (first-place ((c .before .before .before .before .before .before .before .before .before .before .before) .pre) ((c .before .before .before .before .before .before .wide) .result) ((c .before .before .before .before .wide2) .result) ((c .before .before .before .before .before .before .wide) .ensures) ((c .before .before .before .before .wide2) .ensures)) in omega arith
+sub-last c = let p = place-ends (first-place ((c .before .before .before .before .before .before .before .before .before .before .before) .pre .ahead) ((c .before .before .before .before .before .before .wide) .result) ((c .before .before .before .before .wide2) .result) ((c .before .before .before .before .before .before .wide) .ensures) ((c .before .before .before .before .wide2) .ensures)) in omega arith
 
 sub-last-2 : tie.Need-sub-last-2 Inv-loop μ-loop
-sub-last-2 c = let p = place-ends (first-place ((c .before .before .before .before .before .before .before .before .before .before .before) .pre) ((c .before .before .before .before .before .before .wide) .result) ((c .before .before .before .before .wide2) .result) ((c .before .before .before .before .before .before .wide) .ensures) ((c .before .before .before .before .wide2) .ensures)) in omega arith
+sub-last-2 c = let p = place-ends (first-place ((c .before .before .before .before .before .before .before .before .before .before .before) .pre .ahead) ((c .before .before .before .before .before .before .wide) .result) ((c .before .before .before .before .wide2) .result) ((c .before .before .before .before .before .before .wide) .ensures) ((c .before .before .before .before .wide2) .ensures)) in omega arith
 
 sub-dots : tie.Need-sub-dots Inv-loop μ-loop
-sub-dots c = let p = place-ends (first-place ((c .before .before .before .before .before .before .before .before .before .before .before) .pre) ((c .before .before .before .before .before .before .wide) .result) ((c .before .before .before .before .wide2) .result) ((c .before .before .before .before .before .before .wide) .ensures) ((c .before .before .before .before .wide2) .ensures)) in omega arith
+sub-dots c = let p = place-ends (first-place ((c .before .before .before .before .before .before .before .before .before .before .before) .pre .ahead) ((c .before .before .before .before .before .before .wide) .result) ((c .before .before .before .before .wide2) .result) ((c .before .before .before .before .before .before .wide) .ensures) ((c .before .before .before .before .wide2) .ensures)) in omega arith
 
 sub-column-sum : tie.Need-sub-column-sum Inv-loop μ-loop
-sub-column-sum c = let p = place-ends (first-place ((c .before .before .before .before .before .before .before .before .before .before .before) .pre) ((c .before .before .before .before .before .before .wide) .result) ((c .before .before .before .before .wide2) .result) ((c .before .before .before .before .before .before .wide) .ensures) ((c .before .before .before .before .wide2) .ensures)) in omega arith
+sub-column-sum c = let p = place-ends (first-place ((c .before .before .before .before .before .before .before .before .before .before .before) .pre .ahead) ((c .before .before .before .before .before .before .wide) .result) ((c .before .before .before .before .wide2) .result) ((c .before .before .before .before .before .before .wide) .ensures) ((c .before .before .before .before .wide2) .ensures)) in omega arith
 
 column-sum-requires : tie.Need-column-sum-requires Inv-loop μ-loop
-column-sum-requires c κs = let p = place-columns (first-place ((c .before .before .before .before .before .before .before .before .before .before .before) .pre) ((c .before .before .before .before .before .before .wide) .result) ((c .before .before .before .before .wide2) .result) ((c .before .before .before .before .before .before .wide) .ensures) ((c .before .before .before .before .wide2) .ensures)) in let r = span-room ((c .before .before .before .before .before .before .before .before .before .before .before) .pre) in (p .0, omega arith)
+column-sum-requires c κs = let p = place-columns (first-place ((c .before .before .before .before .before .before .before .before .before .before .before) .pre .ahead) ((c .before .before .before .before .before .before .wide) .result) ((c .before .before .before .before .wide2) .result) ((c .before .before .before .before .before .before .wide) .ensures) ((c .before .before .before .before .wide2) .ensures)) in let r = span-room ((c .before .before .before .before .before .before .before .before .before .before .before) .pre .ahead) in (p .0, omega arith)
 
 add-k : tie.Need-add-k Inv-loop μ-loop
-add-k c = let r = span-room ((c .before .before .before .before .before .before .before .before .before .before .before .before) .pre) in omega arith
+add-k c = let r = span-room ((c .before .before .before .before .before .before .before .before .before .before .before .before) .pre .ahead) in omega arith
 
 loop-holds : tie.Need-loop-holds Inv-loop μ-loop
-loop-holds c = ((λ n l₀ T. T), first-span ((c .before .before .before .before .before .before .before .before .before .before .before .before) .pre) ((c .before .before .before .before .before .before .before .wide) .result) ((c .before .before .before .before .before .wide2) .result) ((c .before .before .before .before .before .before .before .wide) .ensures) ((c .before .before .before .before .before .wide2) .ensures) ((c .column-sum) .result) ((c .column-sum) .ensures))
+loop-holds c = ((λ n l₀ T. T), first-span ((c .before .before .before .before .before .before .before .before .before .before .before .before) .pre .ahead) ((c .before .before .before .before .before .before .before .wide) .result) ((c .before .before .before .before .before .wide2) .result) ((c .before .before .before .before .before .before .before .wide) .ensures) ((c .before .before .before .before .before .wide2) .ensures) ((c .column-sum) .result) ((c .column-sum) .ensures))
 
 goes-on-requires : tie.Need-goes-on-requires Inv-loop μ-loop
-goes-on-requires c κs = span-room ((c .before .before .before .before .before .before .before .before .before .before .before .before .before) .pre) .1
+goes-on-requires c κs = span-room ((c .before .before .before .before .before .before .before .before .before .before .before .before .before) .pre .ahead) .1
 
 mul-wide-5 : tie.Need-mul-wide-5 Inv-loop μ-loop
-mul-wide-5 c = let g = (c .before .goes-on) .ensures ((c .if1) .taken) .0 in let r = span-room ((c .before .before .before .before .before .before .before .before .before .before .before .before .before .before .before) .pre) in omega arith
+mul-wide-5 c = let g = (c .before .goes-on) .ensures ((c .if1) .taken) .0 in let r = span-room ((c .before .before .before .before .before .before .before .before .before .before .before .before .before .before .before) .pre .ahead) in omega arith
 
 mul-wide-6 : tie.Need-mul-wide-6 Inv-loop μ-loop
-mul-wide-6 c = let g = (c .before .goes-on) .ensures ((c .if1) .taken) .0 in let r = span-room ((c .before .before .before .before .before .before .before .before .before .before .before .before .before .before .before) .pre) in omega arith
+mul-wide-6 c = let g = (c .before .goes-on) .ensures ((c .if1) .taken) .0 in let r = span-room ((c .before .before .before .before .before .before .before .before .before .before .before .before .before .before .before) .pre .ahead) in omega arith
 
 shared-slice-read-wide-3 : tie.Need-shared-slice-read-wide-3 Inv-loop μ-loop
-shared-slice-read-wide-3 c = let g = (c .before .before .goes-on) .ensures ((c .before .if1) .taken) .0 in let r = span-room ((c .before .before .before .before .before .before .before .before .before .before .before .before .before .before .before .before) .pre) in omega arith
+shared-slice-read-wide-3 c = let g = (c .before .before .goes-on) .ensures ((c .before .if1) .taken) .0 in let r = span-room ((c .before .before .before .before .before .before .before .before .before .before .before .before .before .before .before .before) .pre .ahead) in omega arith
 
 wide-requires-3 : tie.Need-wide-requires-3 Inv-loop μ-loop
 wide-requires-3 c κs = search needs
 
 mul-wide-7 : tie.Need-mul-wide-7 Inv-loop μ-loop
-mul-wide-7 c = let g = (c .before .before .before .goes-on) .ensures ((c .before .before .if1) .taken) .0 in let r = span-room ((c .before .before .before .before .before .before .before .before .before .before .before .before .before .before .before .before .before) .pre) in omega arith
+mul-wide-7 c = let g = (c .before .before .before .goes-on) .ensures ((c .before .before .if1) .taken) .0 in let r = span-room ((c .before .before .before .before .before .before .before .before .before .before .before .before .before .before .before .before .before) .pre .ahead) in omega arith
 
 add-wide-2 : tie.Need-add-wide-2 Inv-loop μ-loop
-add-wide-2 c = let g = (c .before .before .before .goes-on) .ensures ((c .before .before .if1) .taken) .0 in let r = span-room ((c .before .before .before .before .before .before .before .before .before .before .before .before .before .before .before .before .before) .pre) in omega arith
+add-wide-2 c = let g = (c .before .before .before .goes-on) .ensures ((c .before .before .if1) .taken) .0 in let r = span-room ((c .before .before .before .before .before .before .before .before .before .before .before .before .before .before .before .before .before) .pre .ahead) in omega arith
 
 mul-wide-8 : tie.Need-mul-wide-8 Inv-loop μ-loop
-mul-wide-8 c = let g = (c .before .before .before .goes-on) .ensures ((c .before .before .if1) .taken) .0 in let r = span-room ((c .before .before .before .before .before .before .before .before .before .before .before .before .before .before .before .before .before) .pre) in omega arith
+mul-wide-8 c = let g = (c .before .before .before .goes-on) .ensures ((c .before .before .if1) .taken) .0 in let r = span-room ((c .before .before .before .before .before .before .before .before .before .before .before .before .before .before .before .before .before) .pre .ahead) in omega arith
 
 shared-slice-read-wide-4 : tie.Need-shared-slice-read-wide-4 Inv-loop μ-loop
-shared-slice-read-wide-4 c = let g = (c .before .before .before .before .goes-on) .ensures ((c .before .before .before .if1) .taken) .0 in let r = span-room ((c .before .before .before .before .before .before .before .before .before .before .before .before .before .before .before .before .before .before) .pre) in omega arith
+shared-slice-read-wide-4 c = let g = (c .before .before .before .before .goes-on) .ensures ((c .before .before .before .if1) .taken) .0 in let r = span-room ((c .before .before .before .before .before .before .before .before .before .before .before .before .before .before .before .before .before .before) .pre .ahead) in omega arith
 
 wide-requires-4 : tie.Need-wide-requires-4 Inv-loop μ-loop
 wide-requires-4 c κs = search needs
@@ -116,34 +116,34 @@ paint-run-requires-2 : tie.Need-paint-run-requires-2 Inv-loop μ-loop
 paint-run-requires-2 c κs = next-asks ((c .before .before .before .before .before .before .before .before .before .before .before .before .before .before .before .before .before .before .before .before) .pre) ((c .before .before .before .before .before .before .before .loop) .inv .1) (getD ((c .before .before .before .before .before .before .before .before .before .before .before .before .before .before .before .before .before .before .before .before) .args .runs .now) (2 * (c .before .before .before .before .before .before .before .before .before .before .before .before .before .before .before .before .before .before .before .before) .args .c + (c .before .before .before .before .before .before .before .before .before .before .before .before .before .before .before .before .before .before .before .before) .args .first) 0) refl ((c .before .before .before .before .before .before .goes-on) .ensures ((c .before .before .before .before .before .if1) .taken)) ((c .before .before .before .wide3) .result) ((c .before .wide4) .result) ((c .before .before .before .wide3) .ensures) ((c .before .wide4) .ensures) (paints-then (first-painted ((c .before .before .before .before .before .before .before .before .before .before .before .before .before .before .before .before .before .before .before .before) .pre) ((c .before .before .before .before .before .before .before .before .before .before .before .before .before .before .before .wide) .result) ((c .before .before .before .before .before .before .before .before .before .before .before .before .before .wide2) .result) ((c .before .before .before .before .before .before .before .before .before .before .before .before .before .before .before .wide) .ensures) ((c .before .before .before .before .before .before .before .before .before .before .before .before .before .wide2) .ensures) ((c .before .before .before .before .before .before .before .before .before .before .before .paint-run) .last .0) ((c .before .before .before .before .before .before .before .before .before .before .before .paint-run) .ensures)) ((c .before .before .before .before .before .before .before .loop) .inv .0))
 
 sub-last-3 : tie.Need-sub-last-3 Inv-loop μ-loop
-sub-last-3 c = let p = place-ends (next-place ((c .before .before .before .before .before .before .before .before .before .before .before .before .before .before .before .before .before .before .before .before .before .before .before) .pre) ((c .before .before .before .before .before .before .before .before .before .before .loop) .inv .1) (getD ((c .before .before .before .before .before .before .before .before .before .before .before .before .before .before .before .before .before .before .before .before .before .before .before) .args .runs .now) (2 * (c .before .before .before .before .before .before .before .before .before .before .before .before .before .before .before .before .before .before .before .before .before .before .before) .args .c + (c .before .before .before .before .before .before .before .before .before .before .before .before .before .before .before .before .before .before .before .before .before .before .before) .args .first) 0) refl ((c .before .before .before .before .before .before .before .before .before .goes-on) .ensures ((c .before .before .before .before .before .before .before .before .if1) .taken)) ((c .before .before .before .before .before .before .wide3) .result) ((c .before .before .before .before .wide4) .result) ((c .before .before .before .before .before .before .wide3) .ensures) ((c .before .before .before .before .wide4) .ensures)) in omega arith
+sub-last-3 c = let p = place-ends (next-place ((c .before .before .before .before .before .before .before .before .before .before .before .before .before .before .before .before .before .before .before .before .before .before .before) .pre .ahead) ((c .before .before .before .before .before .before .before .before .before .before .loop) .inv .1) (getD ((c .before .before .before .before .before .before .before .before .before .before .before .before .before .before .before .before .before .before .before .before .before .before .before) .args .runs .now) (2 * (c .before .before .before .before .before .before .before .before .before .before .before .before .before .before .before .before .before .before .before .before .before .before .before) .args .c + (c .before .before .before .before .before .before .before .before .before .before .before .before .before .before .before .before .before .before .before .before .before .before .before) .args .first) 0) refl ((c .before .before .before .before .before .before .before .before .before .goes-on) .ensures ((c .before .before .before .before .before .before .before .before .if1) .taken)) ((c .before .before .before .before .before .before .wide3) .result) ((c .before .before .before .before .wide4) .result) ((c .before .before .before .before .before .before .wide3) .ensures) ((c .before .before .before .before .wide4) .ensures)) in omega arith
 
 sub-last-4 : tie.Need-sub-last-4 Inv-loop μ-loop
-sub-last-4 c = let p = place-ends (next-place ((c .before .before .before .before .before .before .before .before .before .before .before .before .before .before .before .before .before .before .before .before .before .before .before) .pre) ((c .before .before .before .before .before .before .before .before .before .before .loop) .inv .1) (getD ((c .before .before .before .before .before .before .before .before .before .before .before .before .before .before .before .before .before .before .before .before .before .before .before) .args .runs .now) (2 * (c .before .before .before .before .before .before .before .before .before .before .before .before .before .before .before .before .before .before .before .before .before .before .before) .args .c + (c .before .before .before .before .before .before .before .before .before .before .before .before .before .before .before .before .before .before .before .before .before .before .before) .args .first) 0) refl ((c .before .before .before .before .before .before .before .before .before .goes-on) .ensures ((c .before .before .before .before .before .before .before .before .if1) .taken)) ((c .before .before .before .before .before .before .wide3) .result) ((c .before .before .before .before .wide4) .result) ((c .before .before .before .before .before .before .wide3) .ensures) ((c .before .before .before .before .wide4) .ensures)) in omega arith
+sub-last-4 c = let p = place-ends (next-place ((c .before .before .before .before .before .before .before .before .before .before .before .before .before .before .before .before .before .before .before .before .before .before .before) .pre .ahead) ((c .before .before .before .before .before .before .before .before .before .before .loop) .inv .1) (getD ((c .before .before .before .before .before .before .before .before .before .before .before .before .before .before .before .before .before .before .before .before .before .before .before) .args .runs .now) (2 * (c .before .before .before .before .before .before .before .before .before .before .before .before .before .before .before .before .before .before .before .before .before .before .before) .args .c + (c .before .before .before .before .before .before .before .before .before .before .before .before .before .before .before .before .before .before .before .before .before .before .before) .args .first) 0) refl ((c .before .before .before .before .before .before .before .before .before .goes-on) .ensures ((c .before .before .before .before .before .before .before .before .if1) .taken)) ((c .before .before .before .before .before .before .wide3) .result) ((c .before .before .before .before .wide4) .result) ((c .before .before .before .before .before .before .wide3) .ensures) ((c .before .before .before .before .wide4) .ensures)) in omega arith
 
 sub-dots-2 : tie.Need-sub-dots-2 Inv-loop μ-loop
-sub-dots-2 c = let p = place-ends (next-place ((c .before .before .before .before .before .before .before .before .before .before .before .before .before .before .before .before .before .before .before .before .before .before .before) .pre) ((c .before .before .before .before .before .before .before .before .before .before .loop) .inv .1) (getD ((c .before .before .before .before .before .before .before .before .before .before .before .before .before .before .before .before .before .before .before .before .before .before .before) .args .runs .now) (2 * (c .before .before .before .before .before .before .before .before .before .before .before .before .before .before .before .before .before .before .before .before .before .before .before) .args .c + (c .before .before .before .before .before .before .before .before .before .before .before .before .before .before .before .before .before .before .before .before .before .before .before) .args .first) 0) refl ((c .before .before .before .before .before .before .before .before .before .goes-on) .ensures ((c .before .before .before .before .before .before .before .before .if1) .taken)) ((c .before .before .before .before .before .before .wide3) .result) ((c .before .before .before .before .wide4) .result) ((c .before .before .before .before .before .before .wide3) .ensures) ((c .before .before .before .before .wide4) .ensures)) in omega arith
+sub-dots-2 c = let p = place-ends (next-place ((c .before .before .before .before .before .before .before .before .before .before .before .before .before .before .before .before .before .before .before .before .before .before .before) .pre .ahead) ((c .before .before .before .before .before .before .before .before .before .before .loop) .inv .1) (getD ((c .before .before .before .before .before .before .before .before .before .before .before .before .before .before .before .before .before .before .before .before .before .before .before) .args .runs .now) (2 * (c .before .before .before .before .before .before .before .before .before .before .before .before .before .before .before .before .before .before .before .before .before .before .before) .args .c + (c .before .before .before .before .before .before .before .before .before .before .before .before .before .before .before .before .before .before .before .before .before .before .before) .args .first) 0) refl ((c .before .before .before .before .before .before .before .before .before .goes-on) .ensures ((c .before .before .before .before .before .before .before .before .if1) .taken)) ((c .before .before .before .before .before .before .wide3) .result) ((c .before .before .before .before .wide4) .result) ((c .before .before .before .before .before .before .wide3) .ensures) ((c .before .before .before .before .wide4) .ensures)) in omega arith
 
 add-dots : tie.Need-add-dots Inv-loop μ-loop
-add-dots c = let s = next-span ((c .before .before .before .before .before .before .before .before .before .before .before .before .before .before .before .before .before .before .before .before .before .before .before) .pre) ((c .before .before .before .before .before .before .before .before .before .before .loop) .inv .1) (getD ((c .before .before .before .before .before .before .before .before .before .before .before .before .before .before .before .before .before .before .before .before .before .before .before) .args .runs .now) (2 * (c .before .before .before .before .before .before .before .before .before .before .before .before .before .before .before .before .before .before .before .before .before .before .before) .args .c + (c .before .before .before .before .before .before .before .before .before .before .before .before .before .before .before .before .before .before .before .before .before .before .before) .args .first) 0) refl ((c .before .before .before .before .before .before .before .before .before .goes-on) .ensures ((c .before .before .before .before .before .before .before .before .if1) .taken)) ((c .before .before .before .before .before .before .wide3) .result) ((c .before .before .before .before .wide4) .result) ((c .before .before .before .before .before .before .wide3) .ensures) ((c .before .before .before .before .wide4) .ensures) _ refl in let f = s .few in let n = s .narrow in let r = span-room ((c .before .before .before .before .before .before .before .before .before .before .before .before .before .before .before .before .before .before .before .before .before .before .before) .pre) in omega arith
+add-dots c = let s = next-span ((c .before .before .before .before .before .before .before .before .before .before .before .before .before .before .before .before .before .before .before .before .before .before .before) .pre .ahead) ((c .before .before .before .before .before .before .before .before .before .before .loop) .inv .1) (getD ((c .before .before .before .before .before .before .before .before .before .before .before .before .before .before .before .before .before .before .before .before .before .before .before) .args .runs .now) (2 * (c .before .before .before .before .before .before .before .before .before .before .before .before .before .before .before .before .before .before .before .before .before .before .before) .args .c + (c .before .before .before .before .before .before .before .before .before .before .before .before .before .before .before .before .before .before .before .before .before .before .before) .args .first) 0) refl ((c .before .before .before .before .before .before .before .before .before .goes-on) .ensures ((c .before .before .before .before .before .before .before .before .if1) .taken)) ((c .before .before .before .before .before .before .wide3) .result) ((c .before .before .before .before .wide4) .result) ((c .before .before .before .before .before .before .wide3) .ensures) ((c .before .before .before .before .wide4) .ensures) _ refl in let f = s .few in let n = s .narrow in let r = span-room ((c .before .before .before .before .before .before .before .before .before .before .before .before .before .before .before .before .before .before .before .before .before .before .before) .pre .ahead) in omega arith
 
 sub-column-sum-2 : tie.Need-sub-column-sum-2 Inv-loop μ-loop
-sub-column-sum-2 c = let p = place-ends (next-place ((c .before .before .before .before .before .before .before .before .before .before .before .before .before .before .before .before .before .before .before .before .before .before .before) .pre) ((c .before .before .before .before .before .before .before .before .before .before .loop) .inv .1) (getD ((c .before .before .before .before .before .before .before .before .before .before .before .before .before .before .before .before .before .before .before .before .before .before .before) .args .runs .now) (2 * (c .before .before .before .before .before .before .before .before .before .before .before .before .before .before .before .before .before .before .before .before .before .before .before) .args .c + (c .before .before .before .before .before .before .before .before .before .before .before .before .before .before .before .before .before .before .before .before .before .before .before) .args .first) 0) refl ((c .before .before .before .before .before .before .before .before .before .goes-on) .ensures ((c .before .before .before .before .before .before .before .before .if1) .taken)) ((c .before .before .before .before .before .before .wide3) .result) ((c .before .before .before .before .wide4) .result) ((c .before .before .before .before .before .before .wide3) .ensures) ((c .before .before .before .before .wide4) .ensures)) in omega arith
+sub-column-sum-2 c = let p = place-ends (next-place ((c .before .before .before .before .before .before .before .before .before .before .before .before .before .before .before .before .before .before .before .before .before .before .before) .pre .ahead) ((c .before .before .before .before .before .before .before .before .before .before .loop) .inv .1) (getD ((c .before .before .before .before .before .before .before .before .before .before .before .before .before .before .before .before .before .before .before .before .before .before .before) .args .runs .now) (2 * (c .before .before .before .before .before .before .before .before .before .before .before .before .before .before .before .before .before .before .before .before .before .before .before) .args .c + (c .before .before .before .before .before .before .before .before .before .before .before .before .before .before .before .before .before .before .before .before .before .before .before) .args .first) 0) refl ((c .before .before .before .before .before .before .before .before .before .goes-on) .ensures ((c .before .before .before .before .before .before .before .before .if1) .taken)) ((c .before .before .before .before .before .before .wide3) .result) ((c .before .before .before .before .wide4) .result) ((c .before .before .before .before .before .before .wide3) .ensures) ((c .before .before .before .before .wide4) .ensures)) in omega arith
 
 column-sum-requires-2 : tie.Need-column-sum-requires-2 Inv-loop μ-loop
-column-sum-requires-2 c κs = let p = place-columns (next-place ((c .before .before .before .before .before .before .before .before .before .before .before .before .before .before .before .before .before .before .before .before .before .before .before) .pre) ((c .before .before .before .before .before .before .before .before .before .before .loop) .inv .1) (getD ((c .before .before .before .before .before .before .before .before .before .before .before .before .before .before .before .before .before .before .before .before .before .before .before) .args .runs .now) (2 * (c .before .before .before .before .before .before .before .before .before .before .before .before .before .before .before .before .before .before .before .before .before .before .before) .args .c + (c .before .before .before .before .before .before .before .before .before .before .before .before .before .before .before .before .before .before .before .before .before .before .before) .args .first) 0) refl ((c .before .before .before .before .before .before .before .before .before .goes-on) .ensures ((c .before .before .before .before .before .before .before .before .if1) .taken)) ((c .before .before .before .before .before .before .wide3) .result) ((c .before .before .before .before .wide4) .result) ((c .before .before .before .before .before .before .wide3) .ensures) ((c .before .before .before .before .wide4) .ensures)) in let r = span-room ((c .before .before .before .before .before .before .before .before .before .before .before .before .before .before .before .before .before .before .before .before .before .before .before) .pre) in (p .0, omega arith)
+column-sum-requires-2 c κs = let p = place-columns (next-place ((c .before .before .before .before .before .before .before .before .before .before .before .before .before .before .before .before .before .before .before .before .before .before .before) .pre .ahead) ((c .before .before .before .before .before .before .before .before .before .before .loop) .inv .1) (getD ((c .before .before .before .before .before .before .before .before .before .before .before .before .before .before .before .before .before .before .before .before .before .before .before) .args .runs .now) (2 * (c .before .before .before .before .before .before .before .before .before .before .before .before .before .before .before .before .before .before .before .before .before .before .before) .args .c + (c .before .before .before .before .before .before .before .before .before .before .before .before .before .before .before .before .before .before .before .before .before .before .before) .args .first) 0) refl ((c .before .before .before .before .before .before .before .before .before .goes-on) .ensures ((c .before .before .before .before .before .before .before .before .if1) .taken)) ((c .before .before .before .before .before .before .wide3) .result) ((c .before .before .before .before .wide4) .result) ((c .before .before .before .before .before .before .wide3) .ensures) ((c .before .before .before .before .wide4) .ensures)) in let r = span-room ((c .before .before .before .before .before .before .before .before .before .before .before .before .before .before .before .before .before .before .before .before .before .before .before) .pre .ahead) in (p .0, omega arith)
 
 add-sum : tie.Need-add-sum Inv-loop μ-loop
-add-sum c = let s = next-span ((c .before .before .before .before .before .before .before .before .before .before .before .before .before .before .before .before .before .before .before .before .before .before .before .before) .pre) ((c .before .before .before .before .before .before .before .before .before .before .before .loop) .inv .1) (getD ((c .before .before .before .before .before .before .before .before .before .before .before .before .before .before .before .before .before .before .before .before .before .before .before .before) .args .runs .now) (2 * (c .before .before .before .before .before .before .before .before .before .before .before .before .before .before .before .before .before .before .before .before .before .before .before .before) .args .c + (c .before .before .before .before .before .before .before .before .before .before .before .before .before .before .before .before .before .before .before .before .before .before .before .before) .args .first) 0) refl ((c .before .before .before .before .before .before .before .before .before .before .goes-on) .ensures ((c .before .before .before .before .before .before .before .before .before .if1) .taken)) ((c .before .before .before .before .before .before .before .wide3) .result) ((c .before .before .before .before .before .wide4) .result) ((c .before .before .before .before .before .before .before .wide3) .ensures) ((c .before .before .before .before .before .wide4) .ensures) ((c .column-sum2) .result) ((c .column-sum2) .ensures) in let f = s .few in let n = s .narrow in let l = s .light in let r = span-room ((c .before .before .before .before .before .before .before .before .before .before .before .before .before .before .before .before .before .before .before .before .before .before .before .before) .pre) in omega arith
+add-sum c = let s = next-span ((c .before .before .before .before .before .before .before .before .before .before .before .before .before .before .before .before .before .before .before .before .before .before .before .before) .pre .ahead) ((c .before .before .before .before .before .before .before .before .before .before .before .loop) .inv .1) (getD ((c .before .before .before .before .before .before .before .before .before .before .before .before .before .before .before .before .before .before .before .before .before .before .before .before) .args .runs .now) (2 * (c .before .before .before .before .before .before .before .before .before .before .before .before .before .before .before .before .before .before .before .before .before .before .before .before) .args .c + (c .before .before .before .before .before .before .before .before .before .before .before .before .before .before .before .before .before .before .before .before .before .before .before .before) .args .first) 0) refl ((c .before .before .before .before .before .before .before .before .before .before .goes-on) .ensures ((c .before .before .before .before .before .before .before .before .before .if1) .taken)) ((c .before .before .before .before .before .before .before .wide3) .result) ((c .before .before .before .before .before .wide4) .result) ((c .before .before .before .before .before .before .before .wide3) .ensures) ((c .before .before .before .before .before .wide4) .ensures) ((c .column-sum2) .result) ((c .column-sum2) .ensures) in let f = s .few in let n = s .narrow in let l = s .light in let r = span-room ((c .before .before .before .before .before .before .before .before .before .before .before .before .before .before .before .before .before .before .before .before .before .before .before .before) .pre .ahead) in omega arith
 
 add-k-2 : tie.Need-add-k-2 Inv-loop μ-loop
-add-k-2 c = let g = (c .before .before .before .before .before .before .before .before .before .before .goes-on) .ensures ((c .before .before .before .before .before .before .before .before .before .if1) .taken) .0 in let r = span-room ((c .before .before .before .before .before .before .before .before .before .before .before .before .before .before .before .before .before .before .before .before .before .before .before .before) .pre) in omega arith
+add-k-2 c = let g = (c .before .before .before .before .before .before .before .before .before .before .goes-on) .ensures ((c .before .before .before .before .before .before .before .before .before .if1) .taken) .0 in let r = span-room ((c .before .before .before .before .before .before .before .before .before .before .before .before .before .before .before .before .before .before .before .before .before .before .before .before) .pre .ahead) in omega arith
 
 loop-less : tie.Need-loop-less Inv-loop μ-loop
-loop-less c = let g = (c .before .before .before .before .before .before .before .before .before .before .goes-on) .ensures ((c .before .before .before .before .before .before .before .before .before .if1) .taken) .0 in let r = span-room ((c .before .before .before .before .before .before .before .before .before .before .before .before .before .before .before .before .before .before .before .before .before .before .before .before) .pre) in omega arith
+loop-less c = let g = (c .before .before .before .before .before .before .before .before .before .before .goes-on) .ensures ((c .before .before .before .before .before .before .before .before .before .if1) .taken) .0 in let r = span-room ((c .before .before .before .before .before .before .before .before .before .before .before .before .before .before .before .before .before .before .before .before .before .before .before .before) .pre .ahead) in omega arith
 
 loop-again : tie.Need-loop-again Inv-loop μ-loop
-loop-again c = (next-painted ((c .before .before .before .before .before .before .before .before .before .before .before .before .before .before .before .before .before .before .before .before .before .before .before .before) .pre) ((c .before .before .before .before .before .before .before .before .before .before .before .loop) .inv .1) (getD ((c .before .before .before .before .before .before .before .before .before .before .before .before .before .before .before .before .before .before .before .before .before .before .before .before) .args .runs .now) (2 * (c .before .before .before .before .before .before .before .before .before .before .before .before .before .before .before .before .before .before .before .before .before .before .before .before) .args .c + (c .before .before .before .before .before .before .before .before .before .before .before .before .before .before .before .before .before .before .before .before .before .before .before .before) .args .first) 0) refl ((c .before .before .before .before .before .before .before .before .before .before .goes-on) .ensures ((c .before .before .before .before .before .before .before .before .before .if1) .taken)) ((c .before .before .before .before .before .before .before .wide3) .result) ((c .before .before .before .before .before .wide4) .result) ((c .before .before .before .before .before .before .before .wide3) .ensures) ((c .before .before .before .before .before .wide4) .ensures) ((c .before .before .before .before .before .before .before .before .before .before .before .loop) .inv .0) ((c .before .before .before .paint-run2) .last .0) ((c .before .before .before .paint-run2) .ensures), next-span ((c .before .before .before .before .before .before .before .before .before .before .before .before .before .before .before .before .before .before .before .before .before .before .before .before) .pre) ((c .before .before .before .before .before .before .before .before .before .before .before .loop) .inv .1) (getD ((c .before .before .before .before .before .before .before .before .before .before .before .before .before .before .before .before .before .before .before .before .before .before .before .before) .args .runs .now) (2 * (c .before .before .before .before .before .before .before .before .before .before .before .before .before .before .before .before .before .before .before .before .before .before .before .before) .args .c + (c .before .before .before .before .before .before .before .before .before .before .before .before .before .before .before .before .before .before .before .before .before .before .before .before) .args .first) 0) refl ((c .before .before .before .before .before .before .before .before .before .before .goes-on) .ensures ((c .before .before .before .before .before .before .before .before .before .if1) .taken)) ((c .before .before .before .before .before .before .before .wide3) .result) ((c .before .before .before .before .before .wide4) .result) ((c .before .before .before .before .before .before .before .wide3) .ensures) ((c .before .before .before .before .before .wide4) .ensures) ((c .column-sum2) .result) ((c .column-sum2) .ensures))
+loop-again c = (next-painted ((c .before .before .before .before .before .before .before .before .before .before .before .before .before .before .before .before .before .before .before .before .before .before .before .before) .pre) ((c .before .before .before .before .before .before .before .before .before .before .before .loop) .inv .1) (getD ((c .before .before .before .before .before .before .before .before .before .before .before .before .before .before .before .before .before .before .before .before .before .before .before .before) .args .runs .now) (2 * (c .before .before .before .before .before .before .before .before .before .before .before .before .before .before .before .before .before .before .before .before .before .before .before .before) .args .c + (c .before .before .before .before .before .before .before .before .before .before .before .before .before .before .before .before .before .before .before .before .before .before .before .before) .args .first) 0) refl ((c .before .before .before .before .before .before .before .before .before .before .goes-on) .ensures ((c .before .before .before .before .before .before .before .before .before .if1) .taken)) ((c .before .before .before .before .before .before .before .wide3) .result) ((c .before .before .before .before .before .wide4) .result) ((c .before .before .before .before .before .before .before .wide3) .ensures) ((c .before .before .before .before .before .wide4) .ensures) ((c .before .before .before .before .before .before .before .before .before .before .before .loop) .inv .0) ((c .before .before .before .paint-run2) .last .0) ((c .before .before .before .paint-run2) .ensures), next-span ((c .before .before .before .before .before .before .before .before .before .before .before .before .before .before .before .before .before .before .before .before .before .before .before .before) .pre .ahead) ((c .before .before .before .before .before .before .before .before .before .before .before .loop) .inv .1) (getD ((c .before .before .before .before .before .before .before .before .before .before .before .before .before .before .before .before .before .before .before .before .before .before .before .before) .args .runs .now) (2 * (c .before .before .before .before .before .before .before .before .before .before .before .before .before .before .before .before .before .before .before .before .before .before .before .before) .args .c + (c .before .before .before .before .before .before .before .before .before .before .before .before .before .before .before .before .before .before .before .before .before .before .before .before) .args .first) 0) refl ((c .before .before .before .before .before .before .before .before .before .before .goes-on) .ensures ((c .before .before .before .before .before .before .before .before .before .if1) .taken)) ((c .before .before .before .before .before .before .before .wide3) .result) ((c .before .before .before .before .before .wide4) .result) ((c .before .before .before .before .before .before .before .wide3) .ensures) ((c .before .before .before .before .before .wide4) .ensures) ((c .column-sum2) .result) ((c .column-sum2) .ensures))
 
 same-length : tie.Need-same-length Inv-loop μ-loop
 same-length c = paints-long ((c .before .before .before .before .before .before .before .before .before .before .before .before .before .before .before) .pre) (paints-then (first-painted ((c .before .before .before .before .before .before .before .before .before .before .before .before .before .before .before) .pre) ((c .before .before .before .before .before .before .before .before .before .before .wide) .result) ((c .before .before .before .before .before .before .before .before .wide2) .result) ((c .before .before .before .before .before .before .before .before .before .before .wide) .ensures) ((c .before .before .before .before .before .before .before .before .wide2) .ensures) ((c .before .before .before .before .before .before .paint-run) .last .0) ((c .before .before .before .before .before .before .paint-run) .ensures)) ((c .before .before .loop) .inv .0))
