@@ -13,6 +13,8 @@ pub mod CrowdedLaws
 pub mod AnswerLaws
 -- rows or columns walked alike: marks, runs from probes, extents kept
 pub mod SweepLaws
+-- columns walked row by row: counters, and the marks one row more brings
+pub mod ColumnLaws
 -- the median by counts
 pub mod Medians
 -- words stored one after the other from a place on

@@ -3,7 +3,7 @@ use mathlib.Core.Path.{_≡_, refl, sym, ap, _∙_}
 use mathlib.Core.Bool.{Bool, true, false, cond, true≢false}
 use Prim.Native.Nat.{ℕ, zero, suc, _+_, _-_, _≤_, _<_}
 use native.Mathlib.Nat.{le-refl}
-use native.Mathlib.Decide.{decLe}
+use native.Mathlib.Decide.{decLt, decLe}
 use native.Mathlib.Omega.{arith}
 use Rattle.sorting.specs.Extents.{behind, ahead, runThrough}
 use Rattle.sorting.specs.Scans.{Starts, clear, blank}
@@ -162,3 +162,98 @@ runThrough-counted p n x l f = go (p x) refl
         let c = runThrough-on p n x e in
         omega arith
     go false e = runThrough-off p n x e ∙ sym (behind-off p x e)
+
+-- The counter tells where the run that ends before x starts
+
+pub behind-all : (p : ℕ → Bool) (x k : ℕ) → k < x → x ≤ k + behind p x → p k ≡ true
+behind-all p zero k l h = absurd (omega arith)
+behind-all p (suc x) k l h = go (p x) refl (behind-all p x k)
+  where
+    go : (t : Bool) → p x ≡ t → (k < x → x ≤ k + behind p x → p k ≡ true) → p k ≡ true
+    go false e r = let q = behind-off p x e in absurd (omega arith)
+    go true e r = at (decLt k x)
+      where
+        at : Dec (k < x) → p k ≡ true
+        at (yes a) = let q = behind-on p x e in r a (omega arith)
+        at (no a) = ap p (let z : k ≡ x = omega arith in z) ∙ e
+
+pub behind-stop : (p : ℕ → Bool) (x : ℕ) → behind p x < x → p (x - behind p x - 1) ≡ false
+behind-stop p zero l = absurd (omega arith)
+behind-stop p (suc x) l = go (p x) refl (behind-stop p x)
+  where
+    go : (t : Bool) → p x ≡ t → (behind p x < x → p (x - behind p x - 1) ≡ false) → p (suc x - behind p (suc x) - 1) ≡ false
+    go false e r = ap p (let q = behind-off p x e in let z : suc x - behind p (suc x) - 1 ≡ x = omega arith in z) ∙ e
+    go true e r =
+        let q = behind-on p x e in ap p (let z : suc x - behind p (suc x) - 1 ≡ x - behind p x - 1 = omega arith in z) ∙ r (omega arith)
+
+behind-start : (p : ℕ → Bool) (x : ℕ) → behind p (x - behind p x) ≡ 0
+behind-start p x = go (decLt (behind p x) x)
+  where
+    go : Dec (behind p x < x) → behind p (x - behind p x) ≡ 0
+    go (yes l) =
+        let z : suc (x - behind p x - 1) ≡ x - behind p x = omega arith in
+        ap (behind p) (sym z) ∙ behind-off p (x - behind p x - 1) (behind-stop p x l)
+    go (no l) = let z : x - behind p x ≡ 0 = omega arith in ap (behind p) z ∙ (let q = behind-le p 0 in omega arith)
+
+-- how far is looked does not matter past a place that does not pass
+ahead-stop : (p : ℕ → Bool) (j x n k : ℕ) → p (x + j) ≡ false → j ≤ n → j ≤ k → ahead p x n ≡ ahead p x k
+ahead-stop p zero x n k e a b =
+    let z : p x ≡ false = ap p (let y : x ≡ x + 0 = omega arith in y) ∙ e in
+    ahead-off p x n z ∙ sym (ahead-off p x k z)
+ahead-stop p (suc j) x zero k e a b = absurd (omega arith)
+ahead-stop p (suc j) x (suc n) zero e a b = absurd (omega arith)
+ahead-stop p (suc j) x (suc n) (suc k) e a b = go (p x) refl (ahead-stop p j (suc x) n k (ap p (let z : suc x + j ≡ x + suc j = omega arith in z) ∙ e) (omega arith) (omega arith))
+  where
+    go : (t : Bool) → p x ≡ t → ahead p (suc x) n ≡ ahead p (suc x) k → ahead p x (suc n) ≡ ahead p x (suc k)
+    go true f r = ahead-on p x n f ∙ (ap suc r ∙ sym (ahead-on p x k f))
+    go false f r = ahead-off p x (suc n) f ∙ sym (ahead-off p x (suc k) f)
+
+-- One place more
+
+pub count-next : (p : ℕ → Bool) (y : ℕ) → behind p (y + 1) ≡ cond (p y) (behind p y + 1) 0
+unfolding behind
+count-next p y = ap (behind p) (let z : y + 1 ≡ suc y = omega arith in z) ∙ ap (λ k. cond (p y) k 0) (let z : suc (behind p y) ≡ behind p y + 1 = omega arith in z)
+
+module _ (p : ℕ → Bool) (y : ℕ) where
+  -- a run that reaches the last place is as long as the counter says
+  pub run-reached : (i : ℕ) → i < y + 1 → y + 1 ≤ i + behind p (y + 1) → runThrough p (y + 1) i ≡ behind p (y + 1)
+  run-reached i a b =
+      let l = behind-le p (y + 1) in
+      runThrough-ends p (y + 1) (y + 1 - behind p (y + 1)) (y + 1) (le-refl (y + 1)) (behind-start p (y + 1)) none (λ k c d. behind-all p (y + 1) k d (omega arith)) i (omega arith) a
+      ∙ omega arith
+    where
+      none : ahead p (y + 1) (y + 1 - (y + 1)) ≡ 0
+      none = let q = ahead-le p (y + 1) (y + 1 - (y + 1)) in omega arith
+
+  -- and was one shorter before
+  pub run-reached-before : (i : ℕ) → i < y → y + 1 ≤ i + behind p (y + 1) → runThrough p y i + 1 ≡ behind p (y + 1)
+  run-reached-before i a b =
+      let l = behind-le p (y + 1) in
+      let e = runThrough-ends p y (y + 1 - behind p (y + 1)) y (le-refl y) (behind-start p (y + 1)) none (λ k c d. behind-all p (y + 1) k (omega arith) (omega arith)) i (omega arith) a in
+      omega arith
+    where
+      none : ahead p y (y - y) ≡ 0
+      none = let q = ahead-le p y (y - y) in omega arith
+
+  -- any other is as it was
+  pub run-apart : (i : ℕ) → i < y → i + behind p (y + 1) < y + 1 → runThrough p (y + 1) i ≡ runThrough p y i
+  run-apart i a b = go (p i) refl
+    where
+      off : p (i + (y + 1 - behind p (y + 1) - 1 - i)) ≡ false
+      off = ap p (let z : i + (y + 1 - behind p (y + 1) - 1 - i) ≡ y + 1 - behind p (y + 1) - 1 = omega arith in z) ∙ behind-stop p (y + 1) (omega arith)
+
+      go : (t : Bool) → p i ≡ t → runThrough p (y + 1) i ≡ runThrough p y i
+      go true e =
+          runThrough-on p (y + 1) i e
+          ∙ (ap (λ k. behind p i + k) (ahead-stop p (y + 1 - behind p (y + 1) - 1 - i) i (y + 1 - i) (y - i) off (omega arith) (omega arith)) ∙ sym (runThrough-on p y i e))
+      go false e = runThrough-off p (y + 1) i e ∙ sym (runThrough-off p y i e)
+
+  -- at the last place it is the counter itself
+  pub run-last : runThrough p (y + 1) y ≡ behind p (y + 1)
+  run-last = go (decLt 0 (behind p (y + 1)))
+    where
+      go : Dec (0 < behind p (y + 1)) → runThrough p (y + 1) y ≡ behind p (y + 1)
+      go (yes l) = run-reached y (omega arith) (omega arith)
+      go (no l) =
+          let z : behind p (y + 1) ≡ 0 = omega arith in
+          runThrough-off p (y + 1) y (ap p (let x : y ≡ y + 1 - behind p (y + 1) - 1 = omega arith in x) ∙ behind-stop p (y + 1) (omega arith)) ∙ sym z

@@ -32,12 +32,22 @@ count-apart n i o j q a b e =
     (sym (dot-column n i o a) ∙ (ap (λ k. k % n) e ∙ dot-column n j q b), sym (dot-row n i o a) ∙ (ap (λ k. k / n) e ∙ dot-row n j q b))
 
 -- a count within one line
-count-line : (n o x s i q : ℕ) → s ≤ n → i < n → o * n + x ≤ q * n + i → q * n + i < o * n + s → (q ≡ o) × (x ≤ i) × (i < s)
+pub count-line : (n o x s i q : ℕ) → s ≤ n → i < n → o * n + x ≤ q * n + i → q * n + i < o * n + s → (q ≡ o) × (x ≤ i) × (i < s)
 count-line n o x s i q h l a b =
     let z : (o + 1) * n ≡ o * n + n = sym (row-next n o) in
     let e : q ≡ o = sym (dot-row n i q l) ∙ div-eq-of-lt-le {k = o} n {m = q * n + i} (omega arith) (omega arith) in
     let f : q * n ≡ o * n = ap (λ k. k * n) e in
     (e, omega arith, omega arith)
+
+-- a range in two parts
+pub range-split : (c d f : ℕ) → c ≤ d → d ≤ f → (v : ℕ) (t : Bool) (k : ℕ) → cond (leb c k && ltb k d && t) v 0 + cond (leb d k && ltb k f && t) v 0 ≡ cond (leb c k && ltb k f && t) v 0
+range-split c d f x y v t k = go (decLe c k) (decLt k d) (decLt k f)
+  where
+    go : Dec (c ≤ k) → Dec (k < d) → Dec (k < f) → cond (leb c k && ltb k d && t) v 0 + cond (leb d k && ltb k f && t) v 0 ≡ cond (leb c k && ltb k f && t) v 0
+    go (yes r) (yes s) u = rw (le-leb c k r, lt-ltb k d s, lt-leb d k (omega arith), lt-ltb k f (omega arith)) (omega arith)
+    go (yes r) (no s) (yes u) = rw (le-leb c k r, le-ltb k d (omega arith), le-leb d k (omega arith), lt-ltb k f u) (omega arith)
+    go (yes r) (no s) (no u) = rw (le-leb c k r, le-ltb k d (omega arith), le-leb d k (omega arith), le-ltb k f (omega arith)) refl
+    go (no r) s u = rw (lt-leb c k (omega arith), lt-leb d k (omega arith)) refl
 
 -- Marks
 
@@ -58,17 +68,8 @@ module _ (g : Sweep) (n : ℕ) where
   pub marked-trans : (p : Plane) (v : ℕ) (a b e : List ℕ) (c d f : ℕ) → c ≤ d → d ≤ f → Marked g n p v a b c d → Marked g n p v b e d f → Marked g n p v a e c f
   marked-trans p v a b e c d f x y A B = record { size = B .size ∙ A .size; each = each; past = λ k l. B .past k l ∙ A .past k l }
     where
-      both : (t : Bool) (k : ℕ) → cond (leb c k && ltb k d && t) v 0 + cond (leb d k && ltb k f && t) v 0 ≡ cond (leb c k && ltb k f && t) v 0
-      both t k = go (decLe c k) (decLt k d) (decLt k f)
-        where
-          go : Dec (c ≤ k) → Dec (k < d) → Dec (k < f) → cond (leb c k && ltb k d && t) v 0 + cond (leb d k && ltb k f && t) v 0 ≡ cond (leb c k && ltb k f && t) v 0
-          go (yes r) (yes s) u = rw (le-leb c k r, lt-ltb k d s, lt-leb d k (omega arith), lt-ltb k f (omega arith)) (omega arith)
-          go (yes r) (no s) (yes u) = rw (le-leb c k r, le-ltb k d (omega arith), le-leb d k (omega arith), lt-ltb k f u) (omega arith)
-          go (yes r) (no s) (no u) = rw (le-leb c k r, le-ltb k d (omega arith), le-leb d k (omega arith), le-ltb k f (omega arith)) refl
-          go (no r) s u = rw (lt-leb c k (omega arith), lt-leb d k (omega arith)) refl
-
       each : (i o : ℕ) → i < g .inner → o < g .outer → getD e (spotOf g i o) 0 ≡ getD a (spotOf g i o) 0 + cond (leb c (o * g .inner + i) && ltb (o * g .inner + i) f && p i o) v 0
-      each i o l k = let r = A .each i o l k in let s = B .each i o l k in let t = both (p i o) (o * g .inner + i) in omega arith
+      each i o l k = let r = A .each i o l k in let s = B .each i o l k in let t = range-split c d f x y v (p i o) (o * g .inner + i) in omega arith
 
   -- by another test that says the same there
   pub marked-ext : (p q : Plane) (v : ℕ) (a b : List ℕ) (c d : ℕ) → ((i o : ℕ) → i < g .inner → o < g .outer → c ≤ o * g .inner + i → o * g .inner + i < d → q i o ≡ p i o) → Marked g n q v a b c d → Marked g n p v a b c d
@@ -175,6 +176,15 @@ scanned-off p x n e A z = go (decLt e n)
     go (yes l) = A .stop l
     go (no l) = ap p (let h = A .high in let q : e ≡ n = omega arith in q) ∙ z
 
+-- no run of r before s, where the probe from the start x came back to s
+pub back-short : (q : ℕ → Bool) (n x r s : ℕ) → Starts q x → ScannedBack q x (x + r) s → x < s → (i : ℕ) → x ≤ i → i < s → runThrough q n i < r
+back-short q n x r s S B l i y z =
+    let k = B .high in let b = runThrough-between q n x (s - 1) i S (B .stop (s - 1) (omega arith) (omega arith)) y (omega arith) in omega arith
+
+-- and s is a start
+pub back-starts : (q : ℕ → Bool) (x to s : ℕ) → ScannedBack q x to s → x < s → Starts q s
+back-starts q x to s B l = clear (let e : suc (s - 1) ≡ s = omega arith in ap (behind q) (sym e) ∙ behind-off q (s - 1) (B .stop (s - 1) (omega arith) (omega arith)))
+
 module _ (g : Sweep) (m : List ℕ) (run-min thick-max v o x : ℕ) (S : Starts (widenedLine g m o) x) where
   abbrev q : ℕ → Bool
   q = widenedLine g m o
@@ -233,17 +243,11 @@ module _ (g : Sweep) (m : List ℕ) (run-min thick-max v o x : ℕ) (S : Starts 
       record {
         further = l;
         inside = let k = B .high in omega arith;
-        starts = clear (let e : suc (s - 1) ≡ s = omega arith in ap (behind q) (sym e) ∙ behind-off q (s - 1) off);
+        starts = back-starts q x (x + run-min) s B l;
         marked =
             marked-none g (length m) ruling v a (o * g .inner + x) (o * g .inner + s)
-            (λ i j li lj y z. let k = B .high in let w = count-line (g .inner) o x s i j (omega arith) li y z in ap (ruling i) (w .0) ∙ short-ruling i (short i (w .1) (w .2)));
+            (λ i j li lj y z. let k = B .high in let w = count-line (g .inner) o x s i j (omega arith) li y z in ap (ruling i) (w .0) ∙ short-ruling i (back-short q (g .inner) x run-min s S B l i (w .1) (w .2)));
       }
-    where
-      off : q (s - 1) ≡ false
-      off = B .stop (s - 1) (omega arith) (omega arith)
-
-      short : (i : ℕ) → x ≤ i → i < s → runThrough q (g .inner) i < run-min
-      short i y z = let k = B .high in let r = runThrough-between q (g .inner) x (s - 1) i S off y (omega arith) in omega arith
 
   -- nor where less than run-min is left of the line
   pub marked-rest : (a : List ℕ) → x ≤ g .inner → g .inner < x + run-min → Marked g (length m) ruling v a a (o * g .inner + x) (o * g .inner + g .inner)

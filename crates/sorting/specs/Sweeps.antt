@@ -1,12 +1,12 @@
 -- Rows or columns walked alike (the Rust's `outer` and `inner`): place i of line o lies at o × across + i × along.
 use mathlib.Core.Path.{_≡_}
-use mathlib.Core.Bool.{Bool, true, false, cond, _&&_}
+use mathlib.Core.Bool.{Bool, true, false, cond, _&&_, _||_}
 use mathlib.Core.List.{List}
-use Prim.Native.Nat.{ℕ, _+_, _*_, _≤_, _<_}
+use Prim.Native.Nat.{ℕ, _+_, _-_, _*_, _≤_, _<_}
 use lib.ListN.{length, getD}
 use lib.Dec.{ltb, leb}
 use Rattle.memory.specs.Limits.{maxMaskDots}
-use Rattle.sorting.specs.Extents.{Plane, extent}
+use Rattle.sorting.specs.Extents.{Plane, behind, extent}
 use Rattle.sorting.specs.Rulings.{widened, inThinRuling}
 use Rattle.sorting.specs.Scans.{Starts}
 use Rattle.sorting.specs.declared.rulings.Sweep.{Sweep}
@@ -77,3 +77,40 @@ pub record Walked (g : Sweep) (m : List ℕ) (run-min thick-max v o x r : ℕ) (
   pub inside : r ≤ g .inner
   pub starts : Starts (widenedLine g m o) r
   pub marked : Marked g (length m) (isRuling g m run-min thick-max) v before after (o * g .inner + x) (o * g .inner + r)
+
+-- marks of at most v
+pub record UpTo (g : Sweep) (n : ℕ) (marks : List ℕ) (v : ℕ) : Type 0 where
+  pub room : n ≤ length marks
+  pub small : (i o : ℕ) → i < g .inner → o < g .outer → getD marks (spotOf g i o) 0 ≤ v
+
+-- a counter a line, for those from a up to b: how many widened places in a row end before place y
+pub record Counted (g : Sweep) (m : List ℕ) (a b y : ℕ) (words : List ℕ) : Type 0 where
+  pub each : (o : ℕ) → a ≤ o → o < b → getD words o 0 ≡ behind (widenedLine g m o) y
+
+-- counters before and after: those from a up to b have counted place y, the other words are as they were
+pub record Recounted (g : Sweep) (m : List ℕ) (a b y : ℕ) (before after : List ℕ) : Type 0 where
+  pub inside : (o : ℕ) → a ≤ o → o < b → getD after o 0 ≡ behind (widenedLine g m o) (y + 1)
+  pub below : (o : ℕ) → o < a → getD after o 0 ≡ getD before o 0
+  pub above : (o : ℕ) → b ≤ o → getD after o 0 ≡ getD before o 0
+
+-- ink at dot k of a row or at one beside it
+abbrev pub inkBeside : List ℕ → ℕ → Bool
+inkBeside m k = ltb 0 (getD m k 0) || ltb 0 (getD m (k - 1) 0) || ltb 0 (getD m (k + 1) 0)
+
+-- counters before and after: from a up to b one more where there is ink beside the row's dot, else none; the other words are as they were
+pub record CountedOn (m : List ℕ) (row a b : ℕ) (before after : List ℕ) : Type 0 where
+  pub inside : (o : ℕ) → a ≤ o → o < b → getD after o 0 ≡ cond (inkBeside m (row + o)) (getD before o 0 + 1) 0
+  pub below : (o : ℕ) → o < a → getD after o 0 ≡ getD before o 0
+  pub above : (o : ℕ) → b ≤ o → getD after o 0 ≡ getD before o 0
+
+-- a dot of a thin ruling by the first y places of its line
+unfoldable pub rulingBy : Sweep → List ℕ → ℕ → ℕ → ℕ → Plane
+rulingBy g m run-min thick-max y i o = ltb i y && inThinRuling (planeOf g m) y (g .outer) run-min thick-max i o
+
+-- marks before and after, of the lines from a up to b: 2 more where a dot of a ruling by the first z places was none by the first y
+pub record Risen (g : Sweep) (m : List ℕ) (run-min thick-max a b y z : ℕ) (before after : List ℕ) : Type 0 where
+  pub size : length after ≡ length before
+  pub each : (i o : ℕ) → i < g .inner → o < g .outer
+      → getD after (spotOf g i o) 0 + cond (leb a o && ltb o b && rulingBy g m run-min thick-max y i o) 2 0
+      ≡ getD before (spotOf g i o) 0 + cond (leb a o && ltb o b && rulingBy g m run-min thick-max z i o) 2 0
+  pub past : (k : ℕ) → length m ≤ k → getD after k 0 ≡ getD before k 0

@@ -169,7 +169,7 @@ fn is_short(row: &[u8], x: usize, to: usize) -> bool
 }
 
 // Where the stretch from x on ends: at most 64 dots, none from `end` on.
-fn stretch_end(x: usize, end: usize) -> usize
+pub fn stretch_end(x: usize, end: usize) -> usize
     requires { ⌜ x < end ⌝ }
     ensures { λ r. ⌜ (x < r) × (r ≤ end) × (r ≤ x + 64) ⌝ }
 {

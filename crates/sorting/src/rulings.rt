@@ -260,7 +260,7 @@ fn end_line(ink: &[u8], g: Sweep, i: usize, o: usize) -> usize
 }
 
 // The first place, from `from` on, of the widened run that ends before `to`.
-fn run_start(ink: &[u8], g: Sweep, o: usize, from: usize, to: usize) -> usize
+pub fn run_start(ink: &[u8], g: Sweep, o: usize, from: usize, to: usize) -> usize
     requires { ⌜ (Laid g (length (now ink))) × (o < g .outer) × (from ≤ to) × (to ≤ g .inner) ⌝ }
     ensures { λ r. ⌜ ScannedBack (widenedLine g (now (ink .entry)) o) from to r ⌝ }
 {
@@ -275,7 +275,7 @@ fn run_start(ink: &[u8], g: Sweep, o: usize, from: usize, to: usize) -> usize
 }
 
 // Ink at place i of line o, of the line before or of the line after.
-fn is_widened(ink: &[u8], g: Sweep, i: usize, o: usize) -> bool
+pub fn is_widened(ink: &[u8], g: Sweep, i: usize, o: usize) -> bool
     requires { ⌜ (Laid g (length (now ink))) × (i < g .inner) × (o < g .outer) ⌝ }
     ensures { λ r. ⌜ r ≡ widenedLine g (now (ink .entry)) o i ⌝ }
 {
@@ -300,7 +300,7 @@ fn line_after(o: usize, outer: usize) -> usize
 }
 
 // Ink at place i of line o.
-fn is_ink(ink: &[u8], g: Sweep, i: usize, o: usize) -> bool
+pub fn is_ink(ink: &[u8], g: Sweep, i: usize, o: usize) -> bool
     requires { ⌜ (Laid g (length (now ink))) × (i < g .inner) × (o < g .outer) ⌝ }
     ensures { λ r. ⌜ r ≡ planeOf g (now (ink .entry)) i o ⌝ }
 {
@@ -309,7 +309,7 @@ fn is_ink(ink: &[u8], g: Sweep, i: usize, o: usize) -> bool
 }
 
 // Where place i of line o lies.
-fn spot(g: Sweep, i: usize, o: usize) -> usize
+pub fn spot(g: Sweep, i: usize, o: usize) -> usize
     requires { ⌜ spotOf g i o < maxMaskDots ⌝ }
     ensures { λ r. ⌜ r ≡ spotOf g i o ⌝ }
 {
