@@ -14,7 +14,7 @@ use Rattle.memory.specs.Limits.{maxExtent}
 use Rattle.sorting.specs.Extents.{behind, ahead, runThrough, extent}
 use Rattle.sorting.specs.Rulings.{widened, inThinRuling}
 use Rattle.sorting.specs.Scans.{Starts}
-use Rattle.sorting.specs.Sweeps.{spotOf, planeOf, widenedLine, isThin, isRuling, ScannedBack, Marked, UpTo, Counted, inkBeside, CountedOn, Recounted, rulingBy, Risen}
+use Rattle.sorting.specs.Sweeps.{spotOf, planeOf, widenedLine, isThin, isRuling, Laid, ScannedBack, Marked, UpTo, Counted, inkBeside, CountedOn, Recounted, rulingBy, Risen}
 use Rattle.sorting.specs.declared.rulings.Sweep.{Sweep}
 use Rattle.sorting.proofs.MaskLaws.{dot-inside}
 use Rattle.sorting.proofs.RunLaws.{behind-on, behind-off, behind-le, ahead-on, ahead-off, ahead-le, count-next, runThrough-on, runThrough-last, run-reached, run-reached-before, run-apart, run-last}
@@ -218,6 +218,10 @@ marked-more g n p v c d s t A U =
       room = let e = A .size in let r = U .room in omega arith;
       small = λ i o li lo. let e = A .each i o li lo in let f = U .small i o li lo in let h = at-most-two (leb c (o * g .inner + i) && ltb (o * g .inner + i) d && p i o) in omega arith;
     }
+
+-- marks of at most v everywhere
+pub up-to-all : (g : Sweep) (n v : ℕ) (marks : List ℕ) → Laid g n → n ≤ length marks → ((k : ℕ) → k < n → getD marks k 0 ≤ v) → UpTo g n marks v
+up-to-all g n v marks L h z = record { room = h; small = λ i o l k. z (spotOf g i o) (L .inside i o l k) }
 
 -- Counters
 

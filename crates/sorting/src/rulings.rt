@@ -12,6 +12,7 @@ ghost use Rattle.memory.specs.Words.{over};
 ghost use Rattle.sorting.specs.Rulings.{cutMark};
 ghost use Rattle.sorting.specs.Scans.{ScannedTo, Starts, RulingsRoom};
 ghost use Rattle.sorting.specs.Sweeps.{sweepDown, sweepAcross, spotOf, planeOf, widenedLine, isThin, isRuling, Laid, ScannedBack, Cached, Marked, Unmarked, Walked};
+use crate::columns::mark_columns;
 use crate::extents::area;
 use crate::extents::capped;
 use crate::extents::fill;
@@ -40,11 +41,18 @@ pub fn thin_rulings(
 {
     let w = width as usize;
     let h = height as usize;
-    let run = run_min as usize;
     let end = marks + area(width, height);
     fill(&mut words[marks..end], 0);
-    mark_lines(ink, words, marks, down(w, h), run, thick_max, 2);
-    mark_lines(ink, words, marks, across(w, h), run, thick_max, 1);
+    mark_columns(ink, words, marks, down(w, h), run_min, thick_max);
+    mark_lines(
+        ink,
+        words,
+        marks,
+        across(w, h),
+        run_min as usize,
+        thick_max,
+        1,
+    );
 }
 
 // The columns of a plane.
