@@ -27,10 +27,11 @@ use Rattle.sorting.specs.Sorted.{sorted}
 use Rattle.sorting.specs.Scratch.{marksAt, horizontalAt, verticalAt, sizesAt, kindsAt, packed, inkAfterCut, mostComponents}
 use Rattle.sorting.specs.declared.Unit.{Unit}
 use Rattle.sorting.proofs.OverLaws.{over-at}
+use Rattle.sorting.specs.declared.sort.Cuts.{Cuts}
 use Rattle.sorting.specs.declared.sort.SortAnswer.{SortAnswer}
 use Rattle.sorting.specs.declared.sort.SortAnswer.the-variants.{Sorted, TooMany}
 use Rattle.sorting.specs.Measures.{Within, Stored, sizedAt, sizedFrom, SizesInside, boxWord}
-use Rattle.sorting.specs.Sortings.{sortLeft, componentsOf, FrameRoom, passed, CutLabelled, RestHeld, restLeft, cutsLeft}
+use Rattle.sorting.specs.Sortings.{sortLeft, componentsOf, FrameRoom, passed, CutLabelled, mostCuts, CutsHeld, RestHeld, restLeft}
 use Rattle.sorting.proofs.StoredLaws.{within-drop, stored-count}
 use Rattle.sorting.proofs.SizedLaws.{held-table, held-inside, held-unit, held-kinds, held-boxes}
 use Rattle.sorting.proofs.HeightLaws.{inside-past}
@@ -135,10 +136,10 @@ module _ (p : LayoutParams) {w h P : ℕ} {m s s₁ s₂ s₃ : List ℕ} {c r :
   pub rest-inside : 3 * (w * h) + h + 1 ≤ sizesAt (w * h) P → SizesInside w h s₃ (sizesAt (w * h) P) r
   rest-inside k = inside-past (left-inside F L (L .len ∙ M .len) l) W k
 
-  pub rest-done : {s₄ : List ℕ} (unit : Unit) (ink horizontal vertical : ℕ) → 3 * (w * h) + h + 1 ≤ horizontalAt (w * h) → unit ≡ unitOf p w h (sizedFrom s₂ (sizesAt (w * h) P) r)
+  pub rest-done : {s₄ : List ℕ} (unit : Unit) (ink : ℕ) (cuts : Cuts) → 3 * (w * h) + h + 1 ≤ horizontalAt (w * h) → unit ≡ unitOf p w h (sizedFrom s₂ (sizesAt (w * h) P) r)
       → Stored (λ k. kindOf p (unitValue unit) w h (sizedAt s₃ (sizesAt (w * h) P) k)) (kindsAt (w * h) P) r s₃ s₄
-      → RestHeld p w h (passed Neither w h m s) P ink horizontal vertical s s₄ (record { unit = unit; ink = ink; horizontal = horizontal; vertical = vertical; runs = c; components = r })
-  rest-done {s₄} unit ink horizontal vertical k ue S =
+      → RestHeld p w h (passed Neither w h m s) P ink cuts s s₄ (record { unit = unit; ink = ink; horizontal = cuts .horizontal; vertical = cuts .vertical; runs = c; components = r })
+  rest-done {s₄} unit ink cuts k ue S =
       let len : length s₂ ≡ length s = L .len ∙ M .len in
       let cs = componentsOf w h (passed Neither w h m s) in
       let e : r ≡ length cs = left-count F L len l in
@@ -162,62 +163,60 @@ module _ (p : LayoutParams) {w h P : ℕ} {m s s₁ s₂ s₃ : List ℕ} {c r :
         components-is = e;
       }
 
--- Both kinds of cuts, then the rest
+-- Both kinds of cuts, by the marks that thin rulings leave
 
-module _ {w h P : ℕ} {m s s₁ : List ℕ} {r₁ : ℕ} (F : FrameRoom w h m P s) (A : CutLabelled First w h m P (horizontalAt (w * h)) s s₁ r₁) where
-  first : (t : Test) → passed t w h m s₁ ≡ passed t w h m s
-  first t = passed-same t w h m s s₁ (A .before)
+module _ (run-min thick-max : ℕ) {w h P : ℕ} {m s s₁ : List ℕ} {r₁ : ℕ} (s₀ : List ℕ) (F : FrameRoom w h m P s)
+    (T : drop (marksAt (w * h)) s ≡ over (table (cutMark run-min thick-max w h m) (w * h)) (drop (marksAt (w * h)) s₀))
+    (A : CutLabelled First w h m P (horizontalAt (w * h)) s s₁ r₁) where
+  abbrev masks : List ℕ × List ℕ
+  masks = (cutHorizontal run-min thick-max w h m, cutVertical run-min thick-max w h m)
 
-  abbrev three : ℕ
-  three = greatest (map (λ (m : List ℕ). length (componentsOf w h m)) (passed First w h m s ∷ passed Second w h m s ∷ passed Neither w h m s ∷ []))
+  told : (i : ℕ) → i < w * h → getD (drop (marksAt (w * h)) s) i 0 ≡ cutMark run-min thick-max w h m i
+  told i b = ap (λ (d : List ℕ). getD d i 0) T ∙ over-at (cutMark run-min thick-max w h m) (w * h) (drop (marksAt (w * h)) s₀) i b
 
-  pub cuts-first : P < r₁ → P < three
+  marks-kept : (t : Test) → passed t w h m s₁ ≡ passed t w h m s
+  marks-kept t = passed-same t w h m s s₁ (A .before)
+
+  first-mask : passed First w h m s ≡ masks .0
+  first-mask = passing-first run-min thick-max w h m (drop (marksAt (w * h)) s) told (F .wide)
+
+  first-count : r₁ ≡ min (length (componentsOf w h (masks .0))) (P + 1)
+  first-count = subst (λ (a : List ℕ). r₁ ≡ min (length (componentsOf w h a)) (P + 1)) first-mask (A .count)
+
+  pub cuts-first : P < r₁ → P < mostCuts run-min thick-max w h m
   unfolding greatest
-  cuts-first l = let e = A .count in omega arith
+  cuts-first l = let e = first-count in omega arith
 
   module _ {s₂ : List ℕ} {r₂ : ℕ} (B : CutLabelled Second w h m P (verticalAt (w * h) P) s₁ s₂ r₂) where
-    second-count : r₂ ≡ min (length (componentsOf w h (passed Second w h m s))) (P + 1)
-    second-count = subst (λ (b : List ℕ). r₂ ≡ min (length (componentsOf w h b)) (P + 1)) (first Second) (B .count)
+    second-mask : passed Second w h m s₁ ≡ masks .1
+    second-mask = marks-kept Second ∙ passing-second run-min thick-max w h m (drop (marksAt (w * h)) s) told (F .wide)
 
-    pub cuts-second : P < r₂ → P < three
+    second-count : r₂ ≡ min (length (componentsOf w h (masks .1))) (P + 1)
+    second-count = subst (λ (b : List ℕ). r₂ ≡ min (length (componentsOf w h b)) (P + 1)) second-mask (B .count)
+
+    pub cuts-second : P < r₂ → P < mostCuts run-min thick-max w h m
     unfolding greatest
     cuts-second l = let e = second-count in omega arith
 
-    rest-same : passed Neither w h m s₂ ≡ passed Neither w h m s
-    rest-same = passed-same Neither w h m s₁ s₂ (λ i a b. B .before i a (omega arith)) ∙ first Neither
-
-    module _ (p : LayoutParams) (ink : ℕ) (l₁ : r₁ ≤ P) (l₂ : r₂ ≤ P) (s₃ : List ℕ) (len : length s₃ ≡ length s₂) where
-      cuts-by : (r : SortAnswer) → restLeft r p w h (passed Neither w h m s) P ink r₁ r₂ s₂ s₃
-          → cutsLeft r p w h (passed First w h m s) (passed Second w h m s) (passed Neither w h m s) P ink s₃
-      unfolding greatest
-      cuts-by TooMany l = omega arith
-      cuts-by (Sorted f) R =
-          let a = componentsOf w h (passed First w h m s) in
-          let b = componentsOf w h (passed Second w h m s) in
-          let ea : r₁ ≡ length a = (let e = A .count in omega arith) in
-          let eb : r₂ ≡ length b = (let e = second-count in omega arith) in
-          let x = R .few in
-          let second-boxes : take (2 * length b) (drop (verticalAt (w * h) P) s₂) ≡ encoded packed (map boxOf b) =
-          subst (λ (z : List ℕ). take (2 * length (componentsOf w h z)) (drop (verticalAt (w * h) P) s₂) ≡ encoded packed (map boxOf (componentsOf w h z))) (first Second) (B .boxes l₂) in
-          record {
-            few = omega arith;
-            numbered = R .numbered;
-            sizes = R .sizes;
-            kinds = R .kinds;
-            horizontal =
-                part-kept (horizontalAt (w * h)) (2 * length a) s₂ s₃ len (λ i c d. R .kept i c (omega arith))
-                ∙ (part-kept (horizontalAt (w * h)) (2 * length a) s₁ s₂ (B .len) (λ i c d. B .before i (omega arith) (omega arith)) ∙ A .boxes l₁);
-            vertical = part-kept (verticalAt (w * h) P) (2 * length b) s₂ s₃ len (λ i c d. R .kept i (omega arith) (omega arith)) ∙ second-boxes;
-            unit-is = R .unit-is;
-            ink-is = R .ink-is;
-            horizontal-is = R .horizontal-is ∙ ea;
-            vertical-is = R .vertical-is ∙ eb;
-            components-is = R .components-is;
-          }
-
-      pub cuts-done : (r : SortAnswer) → restLeft r p w h (passed Neither w h m s₂) P ink r₁ r₂ s₂ s₃
-          → cutsLeft r p w h (passed First w h m s) (passed Second w h m s) (passed Neither w h m s) P ink s₃
-      cuts-done r R = cuts-by r (subst (λ (z : List ℕ). restLeft r p w h z P ink r₁ r₂ s₂ s₃) rest-same R)
+    pub cuts-done : r₁ ≤ P → r₂ ≤ P → CutsHeld run-min thick-max w h m P s₂ (record { horizontal = r₁; vertical = r₂ })
+    unfolding greatest
+    cuts-done l₁ l₂ =
+        let a = componentsOf w h (masks .0) in
+        let b = componentsOf w h (masks .1) in
+        let ea : r₁ ≡ length a = (let e = first-count in omega arith) in
+        let eb : r₂ ≡ length b = (let e = second-count in omega arith) in
+        let boxes-first : take (2 * length a) (drop (horizontalAt (w * h)) s₁) ≡ encoded packed (map boxOf a) =
+        subst (λ (z : List ℕ). take (2 * length (componentsOf w h z)) (drop (horizontalAt (w * h)) s₁) ≡ encoded packed (map boxOf (componentsOf w h z))) first-mask (A .boxes l₁) in
+        record {
+          few = omega arith;
+          horizontal = part-kept (horizontalAt (w * h)) (2 * length a) s₁ s₂ (B .len) (λ i c d. B .before i (omega arith) (omega arith)) ∙ boxes-first;
+          vertical = subst (λ (z : List ℕ). take (2 * length (componentsOf w h z)) (drop (verticalAt (w * h) P) s₂) ≡ encoded packed (map boxOf (componentsOf w h z))) second-mask (B .boxes l₂);
+          rest =
+              passed-same Neither w h m s₁ s₂ (λ i c d. B .before i c (omega arith))
+              ∙ (marks-kept Neither ∙ passing-neither run-min thick-max w h m (drop (marksAt (w * h)) s) told (F .wide));
+          horizontal-is = ea;
+          vertical-is = eb;
+        }
 
 -- The whole
 
@@ -233,41 +232,44 @@ module _ (p : LayoutParams) (w h : ℕ) (m : List ℕ) (P : ℕ) where
   unfolding sorted greatest
   sort-many l = omega arith
 
-  sort-by : (r : SortAnswer) (ink : ℕ) (s : List ℕ) → length (componentsOf w h m) ≤ P → ink ≡ occurs 1 m
-      → cutsLeft r p w h (cutHorizontal (runMin p firstUnit) (thickMax p firstUnit) w h m) (cutVertical (runMin p firstUnit) (thickMax p firstUnit) w h m)
-      (afterCut w h (cutHorizontal (runMin p firstUnit) (thickMax p firstUnit) w h m) (cutVertical (runMin p firstUnit) (thickMax p firstUnit) w h m) m) P ink s
-      → sortLeft r p w h m P s
-  unfolding sorted greatest inkAfterCut
-  sort-by TooMany ink s l e C = omega arith
-  sort-by (Sorted f) ink s l e C =
-      record {
-        few = (let x = C .few in omega arith);
-        held = record { numbered = C .numbered; sizes = C .sizes; kinds = C .kinds; horizontal = C .horizontal; vertical = C .vertical };
-        figures = record { unit-is = C .unit-is; ink-is = C .ink-is ∙ e; horizontal-is = C .horizontal-is; vertical-is = C .vertical-is; components-is = C .components-is };
-      }
+  cuts-many : P < mostCuts (runMin p firstUnit) (thickMax p firstUnit) w h m → P < mostComponents (sorted p w h m)
+  unfolding sorted greatest
+  cuts-many l = omega arith
 
-  -- by the marks that thin rulings leave
-  pub sort-done : (r : SortAnswer) (ink run thick : ℕ) (s₃ s₄ s₅ : List ℕ) → 0 < w → length (componentsOf w h m) ≤ P → ink ≡ occurs 1 m
-      → run ≡ runMin p firstUnit → thick ≡ thickMax p firstUnit
-      → drop (marksAt (w * h)) s₄ ≡ over (table (cutMark run thick w h m) (w * h)) (drop (marksAt (w * h)) s₃)
-      → cutsLeft r p w h (passed First w h m s₄) (passed Second w h m s₄) (passed Neither w h m s₄) P ink s₅
-      → sortLeft r p w h m P s₅
-  sort-done r ink run thick s₃ s₄ s₅ wide l e er et eq C =
-      sort-by r ink s₅ l e
-      (subst (λ (z : List ℕ). cutsLeft r p w h A B z P ink s₅) (passing-neither (runMin p firstUnit) (thickMax p firstUnit) w h m marks told wide)
-      (subst (λ (z : List ℕ). cutsLeft r p w h A z (passed Neither w h m s₄) P ink s₅) (passing-second (runMin p firstUnit) (thickMax p firstUnit) w h m marks told wide)
-      (subst (λ (z : List ℕ). cutsLeft r p w h z (passed Second w h m s₄) (passed Neither w h m s₄) P ink s₅) (passing-first (runMin p firstUnit) (thickMax p firstUnit) w h m marks told wide) C)))
-    where
-      A : List ℕ
-      A = cutHorizontal (runMin p firstUnit) (thickMax p firstUnit) w h m
+  module _ (run thick : ℕ) (er : run ≡ runMin p firstUnit) (et : thick ≡ thickMax p firstUnit) where
+    pub sort-cuts-many : P < mostCuts run thick w h m → P < mostComponents (sorted p w h m)
+    sort-cuts-many l = cuts-many (subst (λ (k : ℕ). P < k) (λ i. mostCuts (er i) (et i) w h m) l)
 
-      B : List ℕ
-      B = cutVertical (runMin p firstUnit) (thickMax p firstUnit) w h m
+    module _ (f : Cuts) (s : List ℕ) (C : CutsHeld run thick w h m P s f) (ink : ℕ) (s' : List ℕ) (len : length s' ≡ length s) (l : length (componentsOf w h m) ≤ P) (e : ink ≡ occurs 1 m) where
+      held : CutsHeld (runMin p firstUnit) (thickMax p firstUnit) w h m P s f
+      held = subst (λ (k : ℕ). CutsHeld (runMin p firstUnit) k w h m P s f) et (subst (λ (k : ℕ). CutsHeld k thick w h m P s f) er C)
 
-      marks : List ℕ
-      marks = drop (marksAt (w * h)) s₄
+      sort-by : (r : SortAnswer) → restLeft r p w h (inkAfterCut p w h m) P ink f s s' → sortLeft r p w h m P s'
+      unfolding sorted greatest inkAfterCut
+      sort-by TooMany z = omega arith
+      sort-by (Sorted g) R =
+          let a = componentsOf w h (cutHorizontal (runMin p firstUnit) (thickMax p firstUnit) w h m) in
+          let b = componentsOf w h (cutVertical (runMin p firstUnit) (thickMax p firstUnit) w h m) in
+          let x = held .few in
+          let y = R .few in
+          record {
+            few = omega arith;
+            held = record {
+              numbered = R .numbered;
+              sizes = R .sizes;
+              kinds = R .kinds;
+              horizontal = part-kept (horizontalAt (w * h)) (2 * length a) s s' len (λ i c d. R .kept i c (omega arith)) ∙ held .horizontal;
+              vertical = part-kept (verticalAt (w * h) P) (2 * length b) s s' len (λ i c d. R .kept i (omega arith) (omega arith)) ∙ held .vertical;
+            };
+            figures = record {
+              unit-is = R .unit-is;
+              ink-is = R .ink-is ∙ e;
+              horizontal-is = R .horizontal-is ∙ held .horizontal-is;
+              vertical-is = R .vertical-is ∙ held .vertical-is;
+              components-is = R .components-is;
+            };
+          }
 
-      told : (i : ℕ) → i < w * h → getD marks i 0 ≡ cutMark (runMin p firstUnit) (thickMax p firstUnit) w h m i
-      told i b =
-          ap (λ (d : List ℕ). getD d i 0) eq
-          ∙ (over-at (cutMark run thick w h m) (w * h) (drop (marksAt (w * h)) s₃) i b ∙ (λ j. cutMark (er j) (et j) w h m i))
+      pub sort-done : (r : SortAnswer) → restLeft r p w h (passed Neither w h m s) P ink f s s' → sortLeft r p w h m P s'
+      unfolding inkAfterCut
+      sort-done r R = sort-by r (subst (λ (z : List ℕ). restLeft r p w h z P ink f s s') (held .rest) R)

@@ -29,8 +29,11 @@ pub use measure::total_area;
 pub use measure::write_kinds;
 pub use median::median_of_counts;
 pub use rulings::thin_rulings;
+pub use sort::CutAnswer;
+pub use sort::Cuts;
 pub use sort::SortAnswer;
 pub use sort::Sorting;
+pub use sort::cut_ink;
 pub use sort::sort_ink;
 
 // The x-height of the page, 01's unit: the length that every threshold is a multiple of, and whether it was measured.

@@ -2,7 +2,7 @@
 ghost use mathlib.Core.Path.{_≡_};
 ghost use Prim.Native.Nat.{_+_, _*_, _≤_};
 ghost use lib.ListN.{length};
-ghost use Rattle.labelling.specs.declared.marked.Test.the-variants.{First, Second, Neither};
+ghost use Rattle.labelling.specs.declared.marked.Test.the-variants.{Neither};
 ghost use Rattle.sorting.specs.Scratch.{SortRoom, horizontalAt, sizesAt};
 ghost use Rattle.sorting.specs.Sortings.{sortLeft, FrameRoom, passed, CutLabelled, restLeft, cutsLeft};
 use crate::Unit;
@@ -27,6 +27,18 @@ pub struct Sorting {
     pub vertical: usize,
     pub runs: usize,
     pub components: usize,
+}
+
+// How many cuts of each kind.
+pub struct Cuts {
+    pub horizontal: usize,
+    pub vertical: usize,
+}
+
+// Cut, or one kind of cuts has more components than the capacity.
+pub enum CutAnswer {
+    Cut(Cuts),
+    TooMany,
 }
 
 // Sorted, or a labelling has more components than the capacity.
@@ -61,46 +73,44 @@ pub fn sort_ink(
     let u = unit.value();
     let run = run_min(sheet, u);
     let thick = thick_max(sheet, u);
-    thin_rulings(ink, width, height, run, thick, words, 3 * dots + 64);
-    sort_cuts(ink, width, height, sheet, capacity, total, words)
+    match cut_ink(ink, width, height, run, thick, capacity, words) {
+        CutAnswer::TooMany => SortAnswer::TooMany,
+        CutAnswer::Cut(cuts) => sort_rest(ink, width, height, sheet, capacity, total, cuts, words),
+    }
 }
 
-// From the marks on: both kinds of cuts labelled, then the ink after the cut.
-fn sort_cuts(
+// Cuts an ink plane along thin rulings, any byte but 0 being ink: the dots of both kinds marked, then either kind labelled. The
+// marks stay, for the ink after the cut.
+pub fn cut_ink(
     ink: &[u8],
     width: u32,
     height: u32,
-    sheet: LayoutParams,
+    run_min: u32,
+    thick_max: u32,
     capacity: usize,
-    total: u32,
     words: &mut [u32],
-) -> SortAnswer
-    requires { ⌜ FrameRoom width height (now ink) capacity (now words) ⌝ }
-    ensures { λ r. ⌜ (length (now (words .exit)) ≡ length (now (words .entry))) × (cutsLeft r sheet width height (passed First width height (now (ink .entry)) (now (words .entry))) (passed Second width height (now (ink .entry)) (now (words .entry))) (passed Neither width height (now (ink .entry)) (now (words .entry))) capacity total (now (words .exit))) ⌝ }
+) -> CutAnswer
+    requires { ⌜ (FrameRoom width height (now ink) capacity (now words)) × (2 ≤ «run_min») ⌝ }
+    ensures { λ r. ⌜ (length (now (words .exit)) ≡ length (now (words .entry))) × (cutsLeft r «run_min» «thick_max» width height (now (ink .entry)) capacity (now (words .exit))) ⌝ }
 {
     let w = width as usize;
     let h = height as usize;
-    let first = 4 * (w * h) + 64;
+    let dots = w * h;
+    thin_rulings(ink, width, height, run_min, thick_max, words, 3 * dots + 64);
+    let first = 4 * dots + 64;
     let horizontal = label_cut(ink, w, h, Test::First, capacity, first, words);
     if capacity < horizontal {
-        return SortAnswer::TooMany;
+        return CutAnswer::TooMany;
     }
     let second = first + 2 * capacity;
     let vertical = label_cut(ink, w, h, Test::Second, capacity, second, words);
     if capacity < vertical {
-        return SortAnswer::TooMany;
+        return CutAnswer::TooMany;
     }
-    sort_rest(
-        ink,
-        width,
-        height,
-        sheet,
-        capacity,
-        total,
+    CutAnswer::Cut(Cuts {
         horizontal,
         vertical,
-        words,
-    )
+    })
 }
 
 // The components of the dots that pass the test, their boxes packed from word `to` on; answers how many, or one more than the capacity.
@@ -135,12 +145,11 @@ fn sort_rest(
     sheet: LayoutParams,
     capacity: usize,
     total: u32,
-    horizontal: usize,
-    vertical: usize,
+    cuts: Cuts,
     words: &mut [u32],
 ) -> SortAnswer
     requires { ⌜ FrameRoom width height (now ink) capacity (now words) ⌝ }
-    ensures { λ r. ⌜ (length (now (words .exit)) ≡ length (now (words .entry))) × (restLeft r sheet width height (passed Neither width height (now (ink .entry)) (now (words .entry))) capacity total horizontal vertical (now (words .entry)) (now (words .exit))) ⌝ }
+    ensures { λ r. ⌜ (length (now (words .exit)) ≡ length (now (words .entry))) × (restLeft r sheet width height (passed Neither width height (now (ink .entry)) (now (words .entry))) capacity total cuts (now (words .entry)) (now (words .exit))) ⌝ }
 {
     let w = width as usize;
     let h = height as usize;
@@ -157,8 +166,8 @@ fn sort_rest(
     SortAnswer::Sorted(Sorting {
         unit,
         ink: total,
-        horizontal,
-        vertical,
+        horizontal: cuts.horizontal,
+        vertical: cuts.vertical,
         runs,
         components,
     })

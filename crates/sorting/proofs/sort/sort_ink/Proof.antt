@@ -4,8 +4,10 @@ use Prim.Native.Nat.{ℕ, _≤_}
 use mathlib.Core.Path.{sym, ap, _∙_, subst}
 use Rattle.sorting.specs.Units.{unitValue}
 use Rattle.sorting.specs.Rulings.{runMin, thickMax}
-use Rattle.sorting.proofs.PlanLaws.{plan-extract, plan-sizes, plan-rulings, plan-down, plan-dots, frame-of, frame-kept}
-use Rattle.sorting.proofs.SortLaws.{runs-held, left-count, left-inside, left-many, left-unit, left-areas, ink-few, two-least, sort-many, sort-done}
+use Rattle.sorting.specs.Sortings.{cutsLeft}
+use Rattle.sorting.specs.declared.sort.CutAnswer.{CutAnswer}
+use Rattle.sorting.proofs.PlanLaws.{plan-extract, plan-sizes, plan-down, plan-dots, frame-of, frame-kept}
+use Rattle.sorting.proofs.SortLaws.{runs-held, left-count, left-inside, left-many, left-unit, left-areas, ink-few, two-least, sort-many, sort-cuts-many, sort-done}
 use Rattle.sorting.proofs.sort.sort_ink.Statement.{statement}
 use Rattle.sorting.proofs.sort.sort_ink.Tie as tie
 
@@ -60,35 +62,51 @@ run-min-requires c κs = search needs
 thick-max-requires : tie.Need-thick-max-requires
 thick-max-requires c κs = search needs
 
-mul-thin-rulings : tie.Need-mul-thin-rulings
-mul-thin-rulings c = let e = plan-dots (frame-of ((c .before .before .before .before .before .before .before .before .before .before .before .before .before .before .before .before .before .before .before .before .before) .pre)) in omega arith
-
-add-thin-rulings : tie.Need-add-thin-rulings
-add-thin-rulings c = let e = plan-dots (frame-of ((c .before .before .before .before .before .before .before .before .before .before .before .before .before .before .before .before .before .before .before .before .before) .pre)) in omega arith
-
-thin-rulings-requires : tie.Need-thin-rulings-requires
-thin-rulings-requires c κs = let a = (c .before .before .before .before .before .before .before .before .before .before .before .before .before .before .before .before .before .before .before .before .before) .args in let F = frame-of ((c .before .before .before .before .before .before .before .before .before .before .before .before .before .before .before .before .before .before .before .before .before) .pre) in let E = (c .before .before .before .before .before .before .before .before .before .before .before .before .before .before .before .before .before .extract-runs) .ensures in let len₁ = E .len in
+cut-ink-requires : tie.Need-cut-ink-requires
+cut-ink-requires c κs = let a = (c .before .before .before .before .before .before .before .before .before .before .before .before .before .before .before .before .before .before .before .before .before) .args in let F = frame-of ((c .before .before .before .before .before .before .before .before .before .before .before .before .before .before .before .before .before .before .before .before .before) .pre) in let E = (c .before .before .before .before .before .before .before .before .before .before .before .before .before .before .before .before .before .extract-runs) .ensures in let len₁ = E .len in
     let L = (c .before .before .before .before .before .before .before .before .before .before .before .before .before .label-sizes) .ensures (a .ink .now) (plan-sizes (frame-kept F len₁) (runs-held E)) in let len = L .len ∙ len₁ in
-    let W = (c .before .before .before .before .before .before .measure-unit) .ensures .1 in
-    plan-rulings F ((c .before .before .run-min) .result) _ (subst (λ (k : ℕ). 2 ≤ k) (sym ((c .before .before .run-min) .ensures)) (two-least (a .sheet) ((c .before .before .before .value) .result))) (W .len ∙ len)
+    let W = (c .before .before .before .before .before .before .measure-unit) .ensures .1 in (frame-kept F (W .len ∙ len), subst (λ (k : ℕ). 2 ≤ k) (sym ((c .before .before .run-min) .ensures)) (two-least (a .sheet) ((c .before .before .before .value) .result)))
 
-sort-cuts-requires : tie.Need-sort-cuts-requires
-sort-cuts-requires c κs = let a = (c .before .before .before .before .before .before .before .before .before .before .before .before .before .before .before .before .before .before .before .before .before .before .before .before .before) .args in let F = frame-of ((c .before .before .before .before .before .before .before .before .before .before .before .before .before .before .before .before .before .before .before .before .before .before .before .before .before) .pre) in let E = (c .before .before .before .before .before .before .before .before .before .before .before .before .before .before .before .before .before .before .before .before .before .extract-runs) .ensures in let len₁ = E .len in
-    let L = (c .before .before .before .before .before .before .before .before .before .before .before .before .before .before .before .before .before .label-sizes) .ensures (a .ink .now) (plan-sizes (frame-kept F len₁) (runs-held E)) in let len = L .len ∙ len₁ in
-    let W = (c .before .before .before .before .before .before .before .before .before .before .measure-unit) .ensures .1 in let T = (c .before .before .before .thin-rulings) .ensures in frame-kept F (T .0 ∙ (W .len ∙ len))
+enum-told : tie.Need-enum-told
+enum-told c = search needs
+
+enum-known-cuts : tie.Need-enum-known-cuts
+enum-known-cuts c = search needs
+
+sort-rest-requires : tie.Need-sort-rest-requires
+sort-rest-requires c κs = let a = (c .before .before .before .before .before .before .before .before .before .before .before .before .before .before .before .before .before .before .before .before .before .before .before .before .before .before .before .before) .args in let F = frame-of ((c .before .before .before .before .before .before .before .before .before .before .before .before .before .before .before .before .before .before .before .before .before .before .before .before .before .before .before .before) .pre) in let E = (c .before .before .before .before .before .before .before .before .before .before .before .before .before .before .before .before .before .before .before .before .before .before .before .before .extract-runs) .ensures in let len₁ = E .len in
+    let L = (c .before .before .before .before .before .before .before .before .before .before .before .before .before .before .before .before .before .before .before .before .label-sizes) .ensures (a .ink .now) (plan-sizes (frame-kept F len₁) (runs-held E)) in let len = L .len ∙ len₁ in
+    let W = (c .before .before .before .before .before .before .before .before .before .before .before .before .before .measure-unit) .ensures .1 in frame-kept F ((c .before .before .before .before .before .before .cut-ink) .ensures .0 ∙ (W .len ∙ len))
 
 same-length-2 : tie.Need-same-length-2
 same-length-2 c = search needs
 
 returns-2 : tie.Need-returns-2
-returns-2 c = let a = (c .before .before .before .before .before .before .before .before .before .before .before .before .before .before .before .before .before .before .before .before .before .before .before .before .before .before .before .before) .args in let F = frame-of ((c .before .before .before .before .before .before .before .before .before .before .before .before .before .before .before .before .before .before .before .before .before .before .before .before .before .before .before .before) .pre) in let E = (c .before .before .before .before .before .before .before .before .before .before .before .before .before .before .before .before .before .before .before .before .before .before .before .before .extract-runs) .ensures in let len₁ = E .len in
-    let L = (c .before .before .before .before .before .before .before .before .before .before .before .before .before .before .before .before .before .before .before .before .label-sizes) .ensures (a .ink .now) (plan-sizes (frame-kept F len₁) (runs-held E)) in let len = L .len ∙ len₁ in
-    let l : (c .before .before .before .before .before .before .before .before .before .before .before .before .before .before .before .before .before .before .before .before .label-sizes) .result ≤ a .capacity = omega arith in let q = F .room in let few = F .few in let d = plan-down F in let e = plan-dots F in let W = (c .before .before .before .before .before .before .before .before .before .before .before .before .before .measure-unit) .ensures .1 in let T = (c .before .before .before .before .before .before .thin-rulings) .ensures in let C = (c .before .before .sort-cuts) .ensures in
-    let u = (c .before .before .before .before .before .before .before .before .before .before .value) .ensures ∙ ap unitValue ((c .before .before .before .before .before .before .before .before .before .before .before .before .before .measure-unit) .ensures .0 ∙ left-unit F L len (a .sheet) l) in
-    let n = left-count F L len l in (
-      C .0 ∙ (T .0 ∙ (W .len ∙ len)),
-      sort-done (a .sheet) (a .width) (a .height) (a .ink .now) (a .capacity) ((c .before .before .sort-cuts) .result) ((c .before .before .before .before .before .before .before .before .before .before .before .before .before .before .before .total-area) .result) ((c .before .before .before .before .before .before .before .before .before .run-min) .result) ((c .before .before .before .before .before .before .before .before .thick-max) .result) _ _ _ (F .wide) (omega arith)
-          ((c .before .before .before .before .before .before .before .before .before .before .before .before .before .before .before .total-area) .ensures ∙ left-areas F L len l ((c .before .before .before .before .before .before .before .before .before .before .before .before .before .before .before .before .before .before .before .before .before .before .before .before .before .before .before .before) .pre .whole) ((c .before .before .before .before .before .before .before .before .before .before .before .before .before .before .before .before .before .before .before .before .before .before .before .before .before .before .before .before) .pre .ones)) ((c .before .before .before .before .before .before .before .before .before .run-min) .ensures ∙ ap (runMin (a .sheet)) u) ((c .before .before .before .before .before .before .before .before .thick-max) .ensures ∙ ap (thickMax (a .sheet)) u) (T .1) (C .1),
+returns-2 c = let a = (c .before .before .before .before .before .before .before .before .before .before .before .before .before .before .before .before .before .before .before .before .before .before .before .before .before .before) .args in let F = frame-of ((c .before .before .before .before .before .before .before .before .before .before .before .before .before .before .before .before .before .before .before .before .before .before .before .before .before .before) .pre) in let E = (c .before .before .before .before .before .before .before .before .before .before .before .before .before .before .before .before .before .before .before .before .before .before .extract-runs) .ensures in let len₁ = E .len in
+    let L = (c .before .before .before .before .before .before .before .before .before .before .before .before .before .before .before .before .before .before .label-sizes) .ensures (a .ink .now) (plan-sizes (frame-kept F len₁) (runs-held E)) in let len = L .len ∙ len₁ in
+    let W = (c .before .before .before .before .before .before .before .before .before .before .before .measure-unit) .ensures .1 in let C = (c .before .before .before .before .cut-ink) .ensures in let l : (c .before .before .before .before .before .before .before .before .before .before .before .before .before .before .before .before .before .before .label-sizes) .result ≤ a .capacity = omega (arith, (c .before .before .before .before .before .before .before .before .before .before .before .before .before .before .before .if1) .left) in
+    let u = (c .before .before .before .before .before .before .before .before .value) .ensures ∙ ap unitValue ((c .before .before .before .before .before .before .before .before .before .before .before .measure-unit) .ensures .0 ∙ left-unit F L len (a .sheet) l) in
+    let run = (c .before .before .before .before .before .before .before .run-min) .ensures ∙ ap (runMin (a .sheet)) u in let thick = (c .before .before .before .before .before .before .thick-max) .ensures ∙ ap (thickMax (a .sheet)) u in
+    let n = left-count F L len l in
+    let T = subst (λ (r : CutAnswer). cutsLeft r ((c .before .before .before .before .before .before .before .run-min) .result) ((c .before .before .before .before .before .before .thick-max) .result) (a .width) (a .height) (a .ink .now) (a .capacity) ((c .before .before .before .before .cut-ink) .last .1 .1 .1 .1 .1 .1 .0)) ((c .enum-told) .given .1) (C .1) in
+    (C .0 ∙ (W .len ∙ len), sort-cuts-many (a .sheet) (a .width) (a .height) (a .ink .now) (a .capacity) ((c .before .before .before .before .before .before .before .run-min) .result) ((c .before .before .before .before .before .before .thick-max) .result) run thick T)
+
+same-length-3 : tie.Need-same-length-3
+same-length-3 c = let a = (c .before .before .before .before .before .before .before .before .before .before .before .before .before .before .before .before .before .before .before .before .before .before .before .before .before .before .before .before .before .before .before) .args in let F = frame-of ((c .before .before .before .before .before .before .before .before .before .before .before .before .before .before .before .before .before .before .before .before .before .before .before .before .before .before .before .before .before .before .before) .pre) in let E = (c .before .before .before .before .before .before .before .before .before .before .before .before .before .before .before .before .before .before .before .before .before .before .before .before .before .before .before .extract-runs) .ensures in let len₁ = E .len in
+    let L = (c .before .before .before .before .before .before .before .before .before .before .before .before .before .before .before .before .before .before .before .before .before .before .before .label-sizes) .ensures (a .ink .now) (plan-sizes (frame-kept F len₁) (runs-held E)) in let len = L .len ∙ len₁ in
+    let W = (c .before .before .before .before .before .before .before .before .before .before .before .before .before .before .before .before .measure-unit) .ensures .1 in (c .before .before .sort-rest) .ensures .0 ∙ ((c .before .before .before .before .before .before .before .before .before .cut-ink) .ensures .0 ∙ (W .len ∙ len))
+
+returns-3 : tie.Need-returns-3
+returns-3 c = let a = (c .before .before .before .before .before .before .before .before .before .before .before .before .before .before .before .before .before .before .before .before .before .before .before .before .before .before .before .before .before .before .before) .args in let F = frame-of ((c .before .before .before .before .before .before .before .before .before .before .before .before .before .before .before .before .before .before .before .before .before .before .before .before .before .before .before .before .before .before .before) .pre) in let E = (c .before .before .before .before .before .before .before .before .before .before .before .before .before .before .before .before .before .before .before .before .before .before .before .before .before .before .before .extract-runs) .ensures in let len₁ = E .len in
+    let L = (c .before .before .before .before .before .before .before .before .before .before .before .before .before .before .before .before .before .before .before .before .before .before .before .label-sizes) .ensures (a .ink .now) (plan-sizes (frame-kept F len₁) (runs-held E)) in let len = L .len ∙ len₁ in
+    let W = (c .before .before .before .before .before .before .before .before .before .before .before .before .before .before .before .before .measure-unit) .ensures .1 in let C = (c .before .before .before .before .before .before .before .before .before .cut-ink) .ensures in let R = (c .before .before .sort-rest) .ensures in let l : (c .before .before .before .before .before .before .before .before .before .before .before .before .before .before .before .before .before .before .before .before .before .before .before .label-sizes) .result ≤ a .capacity = omega (arith, (c .before .before .before .before .before .before .before .before .before .before .before .before .before .before .before .before .before .before .before .before .if1) .left) in
+    let u = (c .before .before .before .before .before .before .before .before .before .before .before .before .before .value) .ensures ∙ ap unitValue ((c .before .before .before .before .before .before .before .before .before .before .before .before .before .before .before .before .measure-unit) .ensures .0 ∙ left-unit F L len (a .sheet) l) in
+    let run = (c .before .before .before .before .before .before .before .before .before .before .before .before .run-min) .ensures ∙ ap (runMin (a .sheet)) u in let thick = (c .before .before .before .before .before .before .before .before .before .before .before .thick-max) .ensures ∙ ap (thickMax (a .sheet)) u in
+    let n = left-count F L len l in
+    let T = subst (λ (r : CutAnswer). cutsLeft r ((c .before .before .before .before .before .before .before .before .before .before .before .before .run-min) .result) ((c .before .before .before .before .before .before .before .before .before .before .before .thick-max) .result) (a .width) (a .height) (a .ink .now) (a .capacity) ((c .before .before .before .before .before .before .before .before .before .cut-ink) .last .1 .1 .1 .1 .1 .1 .0)) ((c .before .before .before .before .before .cuts) .given .1) (C .1) in (
+      R .0 ∙ (C .0 ∙ (W .len ∙ len)),
+      sort-done (a .sheet) (a .width) (a .height) (a .ink .now) (a .capacity) ((c .before .before .before .before .before .before .before .before .before .before .before .before .run-min) .result) ((c .before .before .before .before .before .before .before .before .before .before .before .thick-max) .result) run thick ((c .before .before .before .before .before .cuts) .given .0 .0) ((c .before .before .before .before .before .before .before .before .before .cut-ink) .last .1 .1 .1 .1 .1 .1 .0) T ((c .before .before .before .before .before .before .before .before .before .before .before .before .before .before .before .before .before .before .total-area) .result) _ (R .0) (omega (arith, n, l))
+          ((c .before .before .before .before .before .before .before .before .before .before .before .before .before .before .before .before .before .before .total-area) .ensures ∙ left-areas F L len l ((c .before .before .before .before .before .before .before .before .before .before .before .before .before .before .before .before .before .before .before .before .before .before .before .before .before .before .before .before .before .before .before) .pre .whole) ((c .before .before .before .before .before .before .before .before .before .before .before .before .before .before .before .before .before .before .before .before .before .before .before .before .before .before .before .before .before .before .before) .pre .ones)) ((c .before .before .sort-rest) .result) (R .1),
     )
 
 pub sort-ink-spec : {M : Type 1} → statement M
@@ -110,9 +128,11 @@ sort-ink-spec =
     value-requires
     run-min-requires
     thick-max-requires
-    mul-thin-rulings
-    add-thin-rulings
-    thin-rulings-requires
-    sort-cuts-requires
+    cut-ink-requires
+    enum-told
+    enum-known-cuts
+    sort-rest-requires
     same-length-2
-    returns-2)
+    returns-2
+    same-length-3
+    returns-3)

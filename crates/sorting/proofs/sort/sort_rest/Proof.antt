@@ -76,7 +76,7 @@ returns-2 : tie.Need-returns-2
 returns-2 c = let a = (c .before .before .before .before .before .before .before .before .before .before .before .before .before .before .before .before .before .before .before) .args in let F = (c .before .before .before .before .before .before .before .before .before .before .before .before .before .before .before .before .before .before .before) .pre in let M = (c .before .before .before .before .before .before .before .before .before .before .before .before .before .before .before .extract-marked) .ensures in let len₁ = M .len in
     let L = (c .before .before .before .before .before .before .before .before .before .before .before .label-sizes) .ensures (passed Neither (a .width) (a .height) (a .ink .now) (a .words .now)) (plan-sizes (frame-kept F len₁) (M .held)) in let len = L .len ∙ len₁ in
     let l : (c .before .before .before .before .before .before .before .before .before .before .before .label-sizes) .result ≤ a .capacity = omega arith in let q = F .room in let few = F .few in let d = plan-down F in let e = plan-dots F in let W = (c .before .before .before .before .before .before .measure-unit) .ensures .1 in let S = (c .before .before .write-kinds) .ensures in
-    (S .within .len ∙ (W .len ∙ len), rest-done (a .sheet) F M L l W ((c .before .before .before .before .before .before .measure-unit) .result) (a .total) (a .horizontal) (a .vertical) (omega arith) ((c .before .before .before .before .before .before .measure-unit) .ensures .0) S)
+    (S .within .len ∙ (W .len ∙ len), rest-done (a .sheet) F M L l W ((c .before .before .before .before .before .before .measure-unit) .result) (a .total) (a .cuts) (omega arith) ((c .before .before .before .before .before .before .measure-unit) .ensures .0) S)
 
 pub sort-rest-spec : {M : Type 1} → statement M
 sort-rest-spec =
