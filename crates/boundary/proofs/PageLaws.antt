@@ -30,6 +30,7 @@ use Rattle.segmenting.specs.Answers as Answers
 use Rattle.segmenting.specs.Results.{resultWords}
 use Rattle.segmenting.specs.declared.results.Segmentation.{Segmentation}
 use Rattle.segmenting.specs.declared.page.SegmentAnswer.{SegmentAnswer}
+use Rattle.boundary.proofs.FrameLaws.{passes-none, passes-if, frame-pass, room-pass, frame-good, room-good}
 use Rattle.boundary.specs.Pages.{isMask, planeRefusal, lentRefusal, pageRefusal, figuresLength, measuredWord, figureWords, figuresLeft, left, leftWith, paged}
 
 -- The bytes
@@ -44,29 +45,15 @@ mask-ones m e i = le-trans (greatest-bounds m i) (leb-true (greatest m) 1 e)
 
 -- A chain of tests before others
 
-passes-none : Passes (λ x. x)
-passes-none = record { pass = λ _ x. refl; stop = λ n x. absurd (n refl) }
-
-passes-if : (b : Bool) (k : ℕ) {F : ℕ → ℕ} → Passes F → Passes (λ x. refuseIf b (suc k) (F x))
-unfolding refuseIf
-passes-if true k p = record { pass = λ e x. absurd (omega arith); stop = λ _ x. refl }
-passes-if false k p = record { pass = p .pass; stop = p .stop }
-
-plane-pass : (w h : ℕ) (m : List ℕ) → Passes (planeRefusal w h m)
+pub plane-pass : (w h : ℕ) (m : List ℕ) → Passes (planeRefusal w h m)
 unfolding planeRefusal
-plane-pass w h m =
-    passes-if (eqb w 0) 0
-    (passes-if (ltb maxFrameWidth w) 0
-    (passes-if (eqb h 0) 0 (passes-if (ltb maxFrameHeight h) 0 (passes-if (not (eqb (length m) (w * h))) 1 (passes-if (not (isMask m)) 2 passes-none)))))
+plane-pass w h m = frame-pass w h (length m) (passes-if (not (isMask m)) 2 passes-none)
 
 lent-pass : (p : LayoutParams) (w dots P words results kinds figures : ℕ) → Passes (lentRefusal p w dots P words results kinds figures)
 unfolding lentRefusal
 lent-pass p w dots P words results kinds figures =
     passes-if (not (valid p)) 5
-    (passes-if (eqb P 0) 6
-    (passes-if (ltb maxCapacity P) 6
-    (passes-if (ltb words (scratchWords dots P)) 8
-    (passes-if (ltb results (resultWords w P)) 8 (passes-if (ltb kinds dots) 8 (passes-if (ltb figures figuresLength) 8 passes-none))))))
+    (room-pass dots P words (passes-if (ltb results (resultWords w P)) 8 (passes-if (ltb kinds dots) 8 (passes-if (ltb figures figuresLength) 8 passes-none))))
 
 -- What a passed chain says
 
@@ -79,27 +66,19 @@ pub record PlaneGood (w h : ℕ) (m : List ℕ) : Type 0 where
   pub whole : length m ≡ w * h
   pub ones : (i : ℕ) → getD m i 0 ≤ 1
 
-plane-good : (w h : ℕ) (m : List ℕ) → planeRefusal w h m 0 ≡ 0 → PlaneGood w h m
+pub plane-good : (w h : ℕ) (m : List ℕ) → planeRefusal w h m 0 ≡ 0 → PlaneGood w h m
 unfolding planeRefusal
 plane-good w h m e =
-    let p₁ = refusal-passed (eqb w 0) 0 _ e in
-    let p₂ = refusal-passed (ltb maxFrameWidth w) 0 _ (p₁ .later) in
-    let p₃ = refusal-passed (eqb h 0) 0 _ (p₂ .later) in
-    let p₄ = refusal-passed (ltb maxFrameHeight h) 0 _ (p₃ .later) in
-    let p₅ = refusal-passed (not (eqb (length m) (w * h))) 1 _ (p₄ .later) in
-    let p₆ = refusal-passed (not (isMask m)) 2 _ (p₅ .later) in
-    let a = eqb-false w 0 (p₁ .passed) in
-    let b = eqb-false h 0 (p₃ .passed) in
-    let narrow = ltb-false maxFrameWidth w (p₂ .passed) in
-    let low = ltb-false maxFrameHeight h (p₄ .passed) in
+    let f = frame-good w h (length m) _ e in
+    let p = refusal-passed (not (isMask m)) 2 _ (f .later) in
     record {
-      wide = omega arith;
-      narrow = narrow;
-      high = omega arith;
-      low = low;
-      dots = le-trans (mul-le-mul-right h narrow) (mul-le-mul-left maxFrameWidth low);
-      whole = eqb-true (length m) (w * h) (not-false (eqb (length m) (w * h)) (p₅ .passed));
-      ones = mask-ones m (not-false (isMask m) (p₆ .passed));
+      wide = f .wide;
+      narrow = f .narrow;
+      high = f .high;
+      low = f .low;
+      dots = f .dots;
+      whole = f .whole;
+      ones = mask-ones m (not-false (isMask m) (p .passed));
     }
 
 pub record LentGood (p : LayoutParams) (w dots P words results kinds figures : ℕ) : Type 0 where
@@ -114,25 +93,23 @@ lent-good : (p : LayoutParams) (w dots P words results kinds figures : ℕ) → 
 unfolding lentRefusal
 lent-good p w dots P words results kinds figures e =
     let p₁ = refusal-passed (not (valid p)) 5 _ e in
-    let p₂ = refusal-passed (eqb P 0) 6 _ (p₁ .later) in
-    let p₃ = refusal-passed (ltb maxCapacity P) 6 _ (p₂ .later) in
-    let p₄ = refusal-passed (ltb words (scratchWords dots P)) 8 _ (p₃ .later) in
-    let p₅ = refusal-passed (ltb results (resultWords w P)) 8 _ (p₄ .later) in
-    let p₆ = refusal-passed (ltb kinds dots) 8 _ (p₅ .later) in
-    let p₇ = refusal-passed (ltb figures figuresLength) 8 _ (p₆ .later) in
+    let r = room-good dots P words _ (p₁ .later) in
+    let p₂ = refusal-passed (ltb results (resultWords w P)) 8 _ (r .later) in
+    let p₃ = refusal-passed (ltb kinds dots) 8 _ (p₂ .later) in
+    let p₄ = refusal-passed (ltb figures figuresLength) 8 _ (p₃ .later) in
     record {
       sheet = valid-gives p (yes (not-false (valid p) (p₁ .passed)));
-      few = ltb-false maxCapacity P (p₃ .passed);
-      words-room = ltb-false words (scratchWords dots P) (p₄ .passed);
-      results-room = ltb-false results (resultWords w P) (p₅ .passed);
-      kinds-room = ltb-false kinds dots (p₆ .passed);
-      figures-room = ltb-false figures figuresLength (p₇ .passed);
+      few = r .few;
+      words-room = r .words-room;
+      results-room = ltb-false results (resultWords w P) (p₂ .passed);
+      kinds-room = ltb-false kinds dots (p₃ .passed);
+      figures-room = ltb-false figures figuresLength (p₄ .passed);
     }
 
 -- The figures
 
 -- the words v stored one by one from word k on
-abbrev stores : List ℕ → ℕ → List ℕ → List ℕ
+abbrev pub stores : List ℕ → ℕ → List ℕ → List ℕ
 stores [] k s = s
 stores (a ∷ v) k s = stores v (suc k) (set s k a)
 
@@ -140,7 +117,7 @@ stores-behind : (v s : List ℕ) (x k : ℕ) → stores v (suc k) (x ∷ s) ≡ 
 stores-behind [] s x k = refl
 stores-behind (a ∷ v) s x k = stores-behind v (set s k a) x (suc k)
 
-stores-over : (v s : List ℕ) → length v ≤ length s → stores v 0 s ≡ over v s
+pub stores-over : (v s : List ℕ) → length v ≤ length s → stores v 0 s ≡ over v s
 stores-over [] s l = refl
 stores-over (a ∷ v) [] l = absurd (omega arith)
 stores-over (a ∷ v) (x ∷ s) l = stores-behind v s a 0 ∙ ap (λ z. a ∷ z) (stores-over v s (omega arith))

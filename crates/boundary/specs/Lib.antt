@@ -1,5 +1,7 @@
 -- a parameter sheet of its eighteen numbers
 pub mod Sheet
+-- what the calls on a frame judge alike
+pub mod Frames
 -- an answer as one word
 pub mod Answers
 -- labelling called by itself
@@ -12,3 +14,5 @@ pub mod Levels
 pub mod Sorting
 -- a whole segmentation
 pub mod Pages
+-- an ink plane sorted
+pub mod SortedPages

@@ -2,10 +2,10 @@
 use mathlib.Core.Bool.{Bool, not}
 use mathlib.Core.List.{List, [], _∷_}
 use Prim.Native.Nat.{ℕ, _*_, _/_, _%_, _^_}
-use lib.Dec.{eqb, ltb, leb}
+use lib.Dec.{ltb, leb}
 use lib.Ieee.{binary64, toBits}
 use lib.ListN.{length, drop}
-use Rattle.memory.specs.Limits.{maxFrameWidth, maxFrameHeight, maxCapacity, scratchWords}
+use Rattle.memory.specs.Limits.{scratchWords}
 use Rattle.memory.specs.Lists.{greatest}
 use Rattle.memory.specs.Refusals.{refuseIf}
 use Rattle.memory.specs.Words.{over}
@@ -20,6 +20,7 @@ use Rattle.segmenting.specs.Results.{resultWords}
 use Rattle.segmenting.specs.declared.results.Segmentation.{Segmentation}
 use Rattle.segmenting.specs.declared.page.SegmentAnswer.{SegmentAnswer}
 use Rattle.segmenting.specs.declared.page.SegmentAnswer.the-variants.{Segmented, Refused}
+use Rattle.boundary.specs.Frames.{frameRefusal, roomRefusal}
 
 -- no byte is above 1
 unfoldable pub isMask : List ℕ → Bool
@@ -27,13 +28,7 @@ isMask m = leb (greatest m) 1
 
 -- 1: a side outside its limit; 2: ink length; 3: a byte above 1
 unfoldable pub planeRefusal : ℕ → ℕ → List ℕ → ℕ → ℕ
-planeRefusal w h m rest =
-    refuseIf (eqb w 0) 1
-    (refuseIf (ltb maxFrameWidth w) 1
-    (refuseIf (eqb h 0) 1
-    (refuseIf (ltb maxFrameHeight h) 1
-    (refuseIf (not (eqb (length m) (w * h))) 2
-    (refuseIf (not (isMask m)) 3 rest)))))
+planeRefusal w h m rest = frameRefusal w h (length m) (refuseIf (not (isMask m)) 3 rest)
 
 -- how many words the figures take
 abbrev pub figuresLength : ℕ
@@ -43,12 +38,7 @@ figuresLength = 15
 unfoldable pub lentRefusal : LayoutParams → ℕ → ℕ → ℕ → ℕ → ℕ → ℕ → ℕ → ℕ → ℕ
 lentRefusal p w dots P words results kinds figures rest =
     refuseIf (not (valid p)) 6
-    (refuseIf (eqb P 0) 7
-    (refuseIf (ltb maxCapacity P) 7
-    (refuseIf (ltb words (scratchWords dots P)) 9
-    (refuseIf (ltb results (resultWords w P)) 9
-    (refuseIf (ltb kinds dots) 9
-    (refuseIf (ltb figures figuresLength) 9 rest))))))
+    (roomRefusal dots P words (refuseIf (ltb results (resultWords w P)) 9 (refuseIf (ltb kinds dots) 9 (refuseIf (ltb figures figuresLength) 9 rest))))
 
 -- the number that the call is refused with, the lowest that applies; what the page itself gives where none does
 abbrev pub pageRefusal : LayoutParams → ℕ → ℕ → List ℕ → ℕ → ℕ → ℕ → ℕ → ℕ → ℕ → ℕ

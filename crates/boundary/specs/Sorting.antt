@@ -1,20 +1,23 @@
 -- What the boundary tells of thin rulings and of kinds. Assumes nothing.
 use mathlib.Core.Path.{_≡_}
 use mathlib.Core.Bool.{Bool, true, false, cond, _&&_}
-use mathlib.Core.List.{List}
-use Prim.Native.Nat.{ℕ, _+_, _*_}
-use lib.Dec.{eqb, leb}
+use mathlib.Core.List.{List, [], _∷_}
+use Prim.Native.Nat.{ℕ, _+_, _*_, max}
+use lib.Dec.{eqb, ltb, leb}
 use lib.Ieee.{Float}
 use lib.ListN.{length, drop}
 use Rattle.memory.specs.Limits.{maxMaskDots}
 use Rattle.memory.specs.Lists.{table}
+use Rattle.memory.specs.Refusals.{refuseIf}
 use Rattle.memory.specs.Words.{over}
 use Rattle.params.specs.Valid.{zero}
 use Rattle.params.specs.declared.LayoutParams.{LayoutParams}
 use Rattle.sorting.specs.Answers.{isMaskSide}
-use Rattle.sorting.specs.Rulings.{cutMark}
+use Rattle.sorting.specs.Rulings.{cutHorizontal, cutVertical, cutMark}
+use Rattle.sorting.specs.Sortings.{componentsOf, mostCuts}
 use Rattle.sorting.specs.declared.Unit.{Unit}
 use Rattle.sorting.specs.declared.Unit.the-variants.{Measured, Assumed}
+use Rattle.boundary.specs.Frames.{frameRefusal, roomRefusal, Told, toldBy}
 use Rattle.boundary.specs.Sheet.{sheetOf}
 
 -- a mask within its limits and of its length, a word a dot for the marks, a least run of 2, and two words a place of the longest line before them
@@ -34,6 +37,24 @@ pub record RulingsTold (done : Bool) (run-min thick-max w h marks : ℕ) (m word
   pub answer : r ≡ done
   pub marked : drop marks words' ≡ cond done (over (table (cutMark run-min thick-max w h m) (w * h)) (drop marks words)) (drop marks words)
   pub kept : done ≡ false → words' ≡ words
+
+-- the number that the call with these sides and lengths is refused with, the lowest that applies: 9 for counts under two words too
+abbrev pub cutRefusal : ℕ → ℕ → ℕ → ℕ → ℕ → ℕ → ℕ → ℕ
+cutRefusal w h ink P words counts rest = frameRefusal w h ink (roomRefusal (w * h) P words (refuseIf (ltb counts 2) 9 rest))
+
+-- 20 where one of the cut masks has more than P components
+abbrev pub cutsMany : ℕ → ℕ → ℕ → ℕ → List ℕ → ℕ → ℕ
+cutsMany run-min thick-max w h m P = refuseIf (ltb P (mostCuts run-min thick-max w h m)) 20 0
+
+-- how many components the horizontal cut mask has, and the vertical one
+abbrev pub cutCounts : ℕ → ℕ → ℕ → ℕ → List ℕ → List ℕ
+cutCounts run-min thick-max w h m =
+    length (componentsOf w h (cutHorizontal run-min thick-max w h m)) ∷ length (componentsOf w h (cutVertical run-min thick-max w h m)) ∷ []
+
+-- what `novlizeb_cut_rulings` leaves; a least run below 2 counts as 2
+abbrev pub cutRulings : ℕ → ℕ → ℕ → ℕ → List ℕ → ℕ → List ℕ → List ℕ → Told
+cutRulings run-min thick-max w h m P words counts =
+    toldBy (cutRefusal w h (length m) P (length words) (length counts) (cutsMany (max 2 run-min) thick-max w h m P)) (cutCounts (max 2 run-min) thick-max w h m) (w * h) P words counts
 
 -- a unit, measured or assumed
 abbrev pub unitFor : Bool → Float → Unit

@@ -9,9 +9,11 @@ ghost use Rattle.rounding.specs.Sums.{pairwiseSum};
 ghost use Rattle.params.specs.Valid.{valid};
 ghost use Rattle.boundary.specs.Sheet.{sheetOf};
 
+mod frames;
 mod levels;
 mod masks;
 mod pages;
+mod sorted_pages;
 mod sorting_parts;
 
 use params::LayoutParams;

@@ -8,6 +8,8 @@ ghost use Rattle.memory.specs.Words.{over};
 ghost use Rattle.segmenting.specs.Answers.{numberOf};
 ghost use Rattle.boundary.specs.Sheet.{sheetOf};
 ghost use Rattle.boundary.specs.Pages.{isMask, planeRefusal, lentRefusal, measuredWord, figureWords, figuresLength, figuresLeft, left, paged};
+use crate::frames::judge_frame;
+use crate::frames::judge_room;
 use memory::put_float;
 use memory::refuse_if;
 use params::LayoutParams;
@@ -15,13 +17,6 @@ use segmenting::SegmentAnswer;
 use segmenting::Segmentation;
 use segmenting::segment;
 use sorting::Unit;
-
-// 01's limits, under the names that specs/Limits of the crate memory gives them.
-const MAX_FRAME_WIDTH: u32 = 24574;
-
-const MAX_FRAME_HEIGHT: u32 = 16383;
-
-const MAX_CAPACITY: usize = 65535;
 
 const FIGURES: usize = 15;
 
@@ -42,22 +37,11 @@ fn is_mask(ink: &[u8]) -> bool
 }
 
 // 1, 2 or 3 where a side, the ink's length or a byte of it is not as it must be, else 0.
-fn judge_plane(ink: &[u8], width: u32, height: u32) -> u32
+pub fn judge_plane(ink: &[u8], width: u32, height: u32) -> u32
     ensures { λ r. ⌜ r ≡ planeRefusal width height (now (ink .entry)) 0 ⌝ }
 {
-    let dots = (width as usize) * (height as usize);
     let by_byte = refuse_if(!is_mask(ink), 3, 0);
-    let by_length = refuse_if(ink.len() != dots, 2, by_byte);
-    let by_height = refuse_if(
-        height == 0,
-        1,
-        refuse_if(MAX_FRAME_HEIGHT < height, 1, by_length),
-    );
-    refuse_if(
-        width == 0,
-        1,
-        refuse_if(MAX_FRAME_WIDTH < width, 1, by_height),
-    )
+    judge_frame(width, height, ink.len(), by_byte)
 }
 
 // 6, 7 or 9 where the sheet, the capacity or the memory lent is not as it must be, else 0.
@@ -77,16 +61,11 @@ fn judge_lent(
     let by_figures = refuse_if(figures < FIGURES, 9, 0);
     let by_kinds = refuse_if(kinds < dots, 9, by_figures);
     let by_results = refuse_if(results < 2 * w + 35 * capacity, 9, by_kinds);
-    let by_words = refuse_if(words < 4 * dots + 16 * capacity + 64, 9, by_results);
-    let by_capacity = refuse_if(
-        capacity == 0,
-        7,
-        refuse_if(MAX_CAPACITY < capacity, 7, by_words),
-    );
-    refuse_if(!sheet.validate(), 6, by_capacity)
+    let by_room = judge_room(dots, capacity, words, by_results);
+    refuse_if(!sheet.validate(), 6, by_room)
 }
 
-fn measured_word(unit: Unit) -> u32
+pub fn measured_word(unit: Unit) -> u32
     ensures { λ r. ⌜ r ≡ measuredWord unit ⌝ }
 {
     match unit {

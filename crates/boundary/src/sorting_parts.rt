@@ -1,15 +1,25 @@
-// Thin rulings, and the kind of a component by its size.
+// Thin rulings, the dots and the cuts of an ink plane, and the kind of a component by its size.
 ghost use mathlib.Core.Path.{_≡_};
 ghost use mathlib.Core.Bool.{true};
-ghost use Prim.Native.Nat.{_*_, _-_};
-ghost use lib.ListN.{length};
+ghost use mathlib.Core.List.{[], _∷_};
+ghost use Prim.Native.Nat.{_*_, _-_, _≤_, max};
+ghost use lib.ListN.{length, drop};
+ghost use Rattle.memory.specs.Limits.{scratchWords};
+ghost use Rattle.memory.specs.Words.{over};
 ghost use Rattle.params.specs.Valid.{zero};
 ghost use Rattle.sorting.specs.Answers.{isMaskSide};
 ghost use Rattle.sorting.specs.Kinds.{kindBySize};
 ghost use Rattle.sorting.specs.Rulings.{runMin, thickMax};
-ghost use Rattle.boundary.specs.Sorting.{rulingsFit, RulingsTold, unitFor, sizeSheet};
+ghost use Rattle.boundary.specs.Frames.{told};
+ghost use Rattle.boundary.specs.Sorting.{rulingsFit, RulingsTold, cutRulings, unitFor, sizeSheet};
+use crate::frames::judge_frame;
+use crate::frames::judge_room;
+use memory::refuse_if;
 use params::LayoutParams;
+use sorting::CutAnswer;
+use sorting::Cuts;
 use sorting::Unit;
+use sorting::cut_ink;
 
 fn is_mask_side(n: u32) -> bool
     ensures { λ r. ⌜ r ≡ isMaskSide n ⌝ }
@@ -75,6 +85,59 @@ pub extern "C" fn novlizeb_thin_rulings(
     }
     sorting::thin_rulings(ink, width, height, run_min, thick_max, words, from);
     true
+}
+
+fn at_least_two(n: u32) -> u32
+    ensures { λ r. ⌜ r ≡ max 2 n ⌝ }
+{
+    if n < 2 { 2 } else { n }
+}
+
+// Both counts over the front of the words lent for them.
+fn write_counts(cuts: Cuts, counts: &mut [u32])
+    requires { ⌜ (2 ≤ length (now counts)) × (cuts .horizontal ≤ 4294967295) × (cuts .vertical ≤ 4294967295) ⌝ }
+    ensures { λ _. ⌜ now (counts .exit) ≡ over (cuts .horizontal ∷ cuts .vertical ∷ []) (now (counts .entry)) ⌝ }
+{
+    counts[0] = cuts.horizontal as u32;
+    counts[1] = cuts.vertical as u32;
+}
+
+// The thin rulings of an ink plane, cut and labelled: counts then holds how many components the horizontal cut mask has, and the
+// vertical one. Any byte but 0 is ink, and a least run below 2 counts as 2. The words are worked in. The answer is 0, or document
+// 01's number of a refusal, which writes nothing but scratch, and that only with 20.
+#[no_mangle]
+pub extern "C" fn novlizeb_cut_rulings(
+    ink: &[u8],
+    width: u32,
+    height: u32,
+    run_min: u32,
+    thick_max: u32,
+    capacity: u32,
+    words: &mut [u32],
+    counts: &mut [u32],
+) -> u32
+    ensures { λ r. ⌜ told r (now (counts .exit)) (length (now (words .exit))) (drop (scratchWords (width * height) capacity) (now (words .exit))) ≡ cutRulings «run_min» «thick_max» width height (now (ink .entry)) capacity (now (words .entry)) (now (counts .entry)) ⌝ }
+{
+    let frame = judge_frame(width, height, ink.len(), 0);
+    if frame != 0 {
+        return frame;
+    }
+    let dots = (width as usize) * (height as usize);
+    let p = capacity as usize;
+    let by_counts = refuse_if(counts.len() < 2, 9, 0);
+    let room = judge_room(dots, p, words.len(), by_counts);
+    if room != 0 {
+        return room;
+    }
+    let need = 4 * dots + 16 * p + 64;
+    let run = at_least_two(run_min);
+    match cut_ink(ink, width, height, run, thick_max, p, &mut words[..need]) {
+        CutAnswer::TooMany => 20,
+        CutAnswer::Cut(cuts) => {
+            write_counts(cuts, counts);
+            0
+        }
+    }
 }
 
 fn unit_for(measured: bool, value: f64) -> Unit

@@ -1,5 +1,11 @@
 -- `boundary::pages::judge_lent` meets its contract, test by test. Assumes nothing.
 use borrow.Author.Needs.{needs}
+use mathlib.Core.Path.{ap, _∙_}
+use mathlib.Core.Bool.{not}
+use lib.Dec.{ltb}
+use Rattle.memory.specs.Refusals.{refuseIf}
+use Rattle.segmenting.specs.Results.{resultWords}
+use Rattle.boundary.specs.Frames.{roomRefusal}
 use Rattle.boundary.specs.Pages.{lentRefusal}
 use Rattle.boundary.proofs.pages.judge_lent.Statement.{statement}
 use Rattle.boundary.proofs.pages.judge_lent.Tie as tie
@@ -22,36 +28,20 @@ add-refuse-if c = search needs
 refuse-if-requires-3 : tie.Need-refuse-if-requires-3
 refuse-if-requires-3 c κs = search needs
 
-mul-refuse-if-3 : tie.Need-mul-refuse-if-3
-mul-refuse-if-3 c = search needs
-
-mul-refuse-if-4 : tie.Need-mul-refuse-if-4
-mul-refuse-if-4 c = search needs
-
-add-refuse-if-2 : tie.Need-add-refuse-if-2
-add-refuse-if-2 c = search needs
-
-add-refuse-if-3 : tie.Need-add-refuse-if-3
-add-refuse-if-3 c = search needs
-
-refuse-if-requires-4 : tie.Need-refuse-if-requires-4
-refuse-if-requires-4 c κs = search needs
-
-refuse-if-requires-5 : tie.Need-refuse-if-requires-5
-refuse-if-requires-5 c κs = search needs
-
-refuse-if-requires-6 : tie.Need-refuse-if-requires-6
-refuse-if-requires-6 c κs = search needs
+judge-room-requires : tie.Need-judge-room-requires
+judge-room-requires c κs = search needs
 
 validate-requires : tie.Need-validate-requires
 validate-requires c κs = search needs
 
-refuse-if-requires-7 : tie.Need-refuse-if-requires-7
-refuse-if-requires-7 c κs = search needs
+refuse-if-requires-4 : tie.Need-refuse-if-requires-4
+refuse-if-requires-4 c κs = search needs
 
 returns : tie.Need-returns
 unfolding lentRefusal
-returns c = cc
+returns c = let a = (c .before .before .before .before .before .before) .args in
+    (c .refuse-if4) .ensures
+    ∙ (λ i. refuseIf (not ((c .before .validate) .ensures i)) 6 (((c .before .before .judge-room) .ensures ∙ ap (roomRefusal (a .dots) (a .capacity) (a .words)) ((c .before .before .before .refuse-if3) .ensures ∙ ap (refuseIf (ltb (a .results) (resultWords (a .w) (a .capacity))) 9) ((c .before .before .before .before .refuse-if2) .ensures ∙ ap (refuseIf (ltb (a .kinds) (a .dots)) 9) ((c .before .before .before .before .before .refuse-if) .ensures)))) i))
 
 pub judge-lent-spec : {M : Type 1} → statement M
 judge-lent-spec =
@@ -63,13 +53,7 @@ judge-lent-spec =
     mul-refuse-if-2
     add-refuse-if
     refuse-if-requires-3
-    mul-refuse-if-3
-    mul-refuse-if-4
-    add-refuse-if-2
-    add-refuse-if-3
-    refuse-if-requires-4
-    refuse-if-requires-5
-    refuse-if-requires-6
+    judge-room-requires
     validate-requires
-    refuse-if-requires-7
+    refuse-if-requires-4
     returns)
