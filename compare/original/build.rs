@@ -38,6 +38,18 @@ const SORTING: [&str; 2] = [
     "    let rows = components::label_8(&smeared, width, height);",
 ];
 
+/// .. of those, the ones before the rulings are cut ..
+const MEASURING: [&str; 2] = [
+    "    let mut lab = components::label_8(&ink, width, height);",
+    "    let thick_max = ((p.rule_max_thick_xh * xheight).round() as usize).max(1);",
+];
+
+/// .. and the ones up to the kind of each component.
+const SORTED: [&str; 2] = [
+    "    let mut lab = components::label_8(&ink, width, height);",
+    "                Kind::Glyph\n            }\n        })\n        .collect();",
+];
+
 /// What the comparison needs of `layout.rs` that is private there. A later part adds its own lines here.
 const LAYOUT_WRAPPERS: &str = r#"
 pub fn compare_extent_through(ink: &[u8], width: usize, height: usize, vertical: bool) -> Vec<u16> {
@@ -103,6 +115,7 @@ impl Original {
     fn of_lines(&self) -> String {
         let (levelling, extents) = (self.lines(LEVELLING), self.lines(EXTENTS));
         let (limits, kind, sorting) = (self.lines(LIMITS), self.lines(KIND), self.lines(SORTING));
+        let (measuring, sorted) = (self.lines(MEASURING), self.lines(SORTED));
         format!(
             "
 pub fn compare_level(ink: Vec<u8>, width: usize, height: usize, skew_deg: f64, p: &LayoutParams) -> Layout {{
@@ -156,6 +169,21 @@ pub fn compare_sorted(ink: Vec<u8>, width: usize, height: usize, p: &LayoutParam
         }},
     }};
     (counts, measured, (0..uncut.len()).map(kind).collect())
+}}
+
+/// The limits of thin rulings of this ink.
+#[allow(unused_variables, unused_mut)]
+pub fn compare_measured(ink: &[u8], width: usize, height: usize, p: &LayoutParams) -> (usize, usize) {{
+{measuring}
+    (run_min, thick_max)
+}}
+
+/// How many dots of ink there are, how many rulings were cut, how many components are left, and how many of them are glyphs.
+#[allow(unused_variables, unused_mut)]
+pub fn compare_sort(ink: Vec<u8>, width: usize, height: usize, p: &LayoutParams) -> (u64, usize, f64, usize, usize) {{
+{sorted}
+    let glyphs = kinds.iter().filter(|&&kind| kind == Kind::Glyph).count();
+    (ink_pixels, rules.len(), xheight, lab.components.len(), glyphs)
 }}
 "
         )

@@ -29,42 +29,77 @@ impl Bench {
 
     /// One line, `STAGE PAGE ratio R`: the Rust's time over ours. Each side hands its answers to `black_box` itself.
     pub fn stage(&mut self, stage: &str, page: &str, mut rust: impl FnMut(), mut ours: impl FnMut()) {
-        let (best_rust, best_ours) = best(&mut rust, &mut ours);
-        println!(
-            "{stage} {page} ratio {:.2}",
-            best_rust.as_secs_f64() / best_ours.as_secs_f64()
-        );
+        let [times] = self.together(|| [Times::once(&mut rust, &mut ours)]);
+        self.line(stage, page, times);
+    }
+
+    /// The line of a stage with these times.
+    pub fn line(&mut self, stage: &str, page: &str, times: Times) {
+        let ratio = times.rust.as_secs_f64() / times.ours.as_secs_f64();
+        println!("{stage} {page} ratio {ratio:.2}");
     }
 
     /// One line, `STAGE PAGE ours A, the Rust B nanoseconds a dot`.
     pub fn per_dot(&mut self, stage: &str, page: &str, dots: usize, mut rust: impl FnMut(), mut ours: impl FnMut()) {
-        let (best_rust, best_ours) = best(&mut rust, &mut ours);
+        let [times] = self.together(|| [Times::once(&mut rust, &mut ours)]);
         let each = |time: Duration| time.as_secs_f64() * 1e9 / dots as f64;
         println!(
             "{stage} {page} ours {:.3}, the Rust {:.3} nanoseconds a dot",
-            each(best_ours),
-            each(best_rust)
+            each(times.ours),
+            each(times.rust)
         );
     }
-}
 
-/// The best time of each.
-fn best(rust: &mut impl FnMut(), ours: &mut impl FnMut()) -> (Duration, Duration) {
-    rust();
-    ours();
-    let start = Instant::now();
-    let (mut best_rust, mut best_ours) = (Duration::MAX, Duration::MAX);
-    for turn in 0..MOST_TURNS {
-        if turn >= LEAST_TURNS && start.elapsed() > TIME {
-            break;
+    /// The best times of stages that are timed in turn, each once a turn.
+    pub fn together<const N: usize>(&mut self, mut turn: impl FnMut() -> [Times; N]) -> [Times; N] {
+        turn();
+        let start = Instant::now();
+        let mut best = turn();
+        for done in 1..MOST_TURNS {
+            if done >= LEAST_TURNS && start.elapsed() > TIME * N as u32 {
+                break;
+            }
+            let times = turn();
+            best = std::array::from_fn(|i| best[i].best(times[i]));
         }
-        best_rust = best_rust.min(timed(rust));
-        best_ours = best_ours.min(timed(ours));
+        best
     }
-    (best_rust, best_ours)
 }
 
-fn timed(work: &mut impl FnMut()) -> Duration {
+/// How long each side takes.
+#[derive(Clone, Copy)]
+pub struct Times {
+    pub rust: Duration,
+    pub ours: Duration,
+}
+
+impl Times {
+    /// Of one call.
+    pub fn once(rust: impl FnOnce(), ours: impl FnOnce()) -> Self {
+        Times {
+            rust: timed(rust),
+            ours: timed(ours),
+        }
+    }
+
+    fn best(self, other: Times) -> Self {
+        Times {
+            rust: self.rust.min(other.rust),
+            ours: self.ours.min(other.ours),
+        }
+    }
+
+    /// What is left of both sides without a part, if anything is.
+    pub fn less(self, part: Times) -> Option<Self> {
+        let left = |whole: Duration, part: Duration| whole.checked_sub(part).filter(|left| !left.is_zero());
+        Some(Times {
+            rust: left(self.rust, part.rust)?,
+            ours: left(self.ours, part.ours)?,
+        })
+    }
+}
+
+fn timed(work: impl FnOnce()) -> Duration {
     let start = Instant::now();
     work();
     start.elapsed()

@@ -101,6 +101,19 @@ mod c {
             words_length: usize,
             marks: u32,
         ) -> u8;
+        pub fn novlizeb_cut_rulings(
+            ink: *const u8,
+            ink_length: usize,
+            width: u32,
+            height: u32,
+            run_min: u32,
+            thick_max: u32,
+            capacity: u32,
+            words: *mut u32,
+            words_length: usize,
+            counts: *mut u32,
+            counts_length: usize,
+        ) -> u32;
         pub fn novlizeb_segment(
             ink: *const u8,
             ink_length: usize,
@@ -131,6 +144,35 @@ mod c {
             results_length: usize,
             kinds: *mut u8,
             kinds_length: usize,
+            figures: *mut u32,
+            figures_length: usize,
+        ) -> u32;
+        pub fn novlizeb_sort(
+            ink: *const u8,
+            ink_length: usize,
+            width: u32,
+            height: u32,
+            glyph_min_area: u32,
+            glyph_max_extent_frac: f64,
+            xheight_min_area: u32,
+            xheight_fallback_px: f64,
+            rule_min_len_xh: f64,
+            rule_max_thick_xh: f64,
+            rule_run_xh: f64,
+            graphic_min_xh: f64,
+            smear_xh: f64,
+            line_min_glyphs: u32,
+            line_min_height_xh: f64,
+            line_max_height_xh: f64,
+            block_min_overlap: f64,
+            block_gap_margin_lines: f64,
+            block_max_gap_lines: f64,
+            column_gap_xh: f64,
+            column_cover_frac: f64,
+            shear_min_deg: f64,
+            capacity: u32,
+            words: *mut u32,
+            words_length: usize,
             figures: *mut u32,
             figures_length: usize,
         ) -> u32;
@@ -353,6 +395,35 @@ pub fn thin_rulings(
     })
 }
 
+/// Thin rulings cut and labelled: document 01's number of its refusal, 0 where it has none.
+#[allow(clippy::too_many_arguments)]
+pub fn cut_rulings(
+    ink: &[u8],
+    width: u32,
+    height: u32,
+    run_min: u32,
+    thick_max: u32,
+    capacity: u32,
+    words: &mut [u32],
+    counts: &mut [u32],
+) -> u32 {
+    unsafe {
+        c::novlizeb_cut_rulings(
+            ink.as_ptr(),
+            ink.len(),
+            width,
+            height,
+            run_min,
+            thick_max,
+            capacity,
+            words.as_mut_ptr(),
+            words.len(),
+            counts.as_mut_ptr(),
+            counts.len(),
+        )
+    }
+}
+
 /// What is lent to a whole segmentation.
 pub struct Page<'a> {
     pub words: &'a mut [u32],
@@ -396,6 +467,49 @@ pub fn segment(ink: &[u8], width: u32, height: u32, p: &LayoutParams, capacity: 
             lent.kinds.len(),
             lent.figures.as_mut_ptr(),
             lent.figures.len(),
+        )
+    }
+}
+
+/// An ink plane sorted, as a segmentation sorts it: document 01's number of its refusal, 0 where it has none.
+pub fn sort(
+    ink: &[u8],
+    width: u32,
+    height: u32,
+    p: &LayoutParams,
+    capacity: u32,
+    words: &mut [u32],
+    figures: &mut [u32],
+) -> u32 {
+    unsafe {
+        c::novlizeb_sort(
+            ink.as_ptr(),
+            ink.len(),
+            width,
+            height,
+            p.glyph_min_area,
+            p.glyph_max_extent_frac,
+            p.xheight_min_area,
+            p.xheight_fallback_px,
+            p.rule_min_len_xh,
+            p.rule_max_thick_xh,
+            p.rule_run_xh,
+            p.graphic_min_xh,
+            p.smear_xh,
+            p.line_min_glyphs,
+            p.line_min_height_xh,
+            p.line_max_height_xh,
+            p.block_min_overlap,
+            p.block_gap_margin_lines,
+            p.block_max_gap_lines,
+            p.column_gap_xh,
+            p.column_cover_frac,
+            p.shear_min_deg,
+            capacity,
+            words.as_mut_ptr(),
+            words.len(),
+            figures.as_mut_ptr(),
+            figures.len(),
         )
     }
 }

@@ -1,15 +1,17 @@
 //! Whole segmentations of ink planes: every figure, list and plane against `segment`'s, on random small pages with random valid sheets
-//! and on large pages of every kind; what is refused, and what is left then. The benchmark times levelling and segmenting together.
+//! and on large pages of every kind; what is refused, and what is left then; the same of sorting by itself. The benchmark times levelling
+//! and segmenting together, and its stages: levelling, sorting, the cuts of sorting, and the rest.
 
 use std::hint::black_box;
 
-use original::pixel::layout::{compare_sorted, Layout, LayoutParams, Rect};
-use original::segment_mask;
+use original::pixel::layout::{compare_measured, compare_sort, compare_sorted, Layout, LayoutParams, Rect};
+use original::{level_mask, segment_mask};
 
 use super::kinds::near_sheet;
+use super::rulings::rust_counts;
 use super::validate::{plain, sheet, valid};
 use super::Part;
-use crate::bench::Bench;
+use crate::bench::{Bench, Times};
 use crate::definitions;
 use crate::lent::{Bytes, Words};
 use crate::list::{hash, packed, List};
@@ -34,6 +36,7 @@ const MOST_LINES: usize = 4095;
 const NO_LINE: u32 = 0xFFF;
 
 const FIGURES: usize = 15;
+const SORT_FIGURES: usize = 7;
 const RANDOM_PAGES: u32 = 120_000;
 const RANDOM_LEAVES: u32 = 3000;
 
@@ -132,6 +135,28 @@ impl Answers {
         ]
     }
 
+    /// Document 01's number of sorting by itself: the smoothed glyphs are not labelled there.
+    fn sort_number(&self, capacity: usize) -> u32 {
+        if self.components[..4].iter().any(|&count| capacity < count) {
+            20
+        } else {
+            0
+        }
+    }
+
+    fn sort_figures(&self) -> [u32; SORT_FIGURES] {
+        let bits = self.layout.xheight.to_bits();
+        [
+            u32::from(self.measured),
+            bits as u32,
+            (bits >> 32) as u32,
+            self.layout.ink_pixels as u32,
+            self.components[1] as u32,
+            self.components[2] as u32,
+            self.components[3] as u32,
+        ]
+    }
+
     /// Each list with its place.
     fn lists(&self, width: usize, capacity: usize) -> [(usize, Vec<u32>); 6] {
         let l = &self.layout;
@@ -188,14 +213,33 @@ fn one(tally: &mut Tally, lent: &mut Lent, ink: &[u8], width: usize, p: &LayoutP
     tally.equal("bytes past the kinds", None, lent.kinds.written_from(dots), input);
 }
 
+/// A page sorted by itself, with this capacity.
+fn sort_one(tally: &mut Tally, lent: &mut Lent, ink: &[u8], width: usize, p: &LayoutParams, rust: &Answers, capacity: usize) {
+    let (dots, height) = (ink.len(), ink.len() / width);
+    let input = || format!("sorted: {}, P {capacity}, {p:?}", shown(ink, width));
+    let needed = scratch_words(dots, capacity);
+    let page = lent.lend([needed + 3, 0, 0, SORT_FIGURES + 3]);
+    let number = ours::sort(ink, width as u32, height as u32, p, capacity as u32, page.words, page.figures);
+    tally.equal("the number", rust.sort_number(capacity), number, input);
+    tally.equal("words past scratch", None, lent.words.written_from(needed), input);
+    if number != 0 {
+        tally.equal("figures when refused", None, lent.figures.written_from(0), input);
+        return;
+    }
+    tally.equal("figures", &rust.sort_figures()[..], &lent.figures.0[..SORT_FIGURES], input);
+    tally.equal("words past the figures", None, lent.figures.written_from(SORT_FIGURES), input);
+}
+
 /// A page with as many components as the capacity or a few less, and with one more than it.
 fn around(tally: &mut Tally, lent: &mut Lent, random: &mut Random, ink: &[u8], width: usize, p: &LayoutParams) {
     let rust = answers(ink, width, p);
     let most = rust.components.iter().copied().max().unwrap_or(0);
     let room = most.max(1) + random.below(4) as usize;
     one(tally, lent, ink, width, p, &rust, room);
+    sort_one(tally, lent, ink, width, p, &rust, room);
     if 1 < most {
         one(tally, lent, ink, width, p, &rust, most - 1);
+        sort_one(tally, lent, ink, width, p, &rust, most - 1);
     }
 }
 
@@ -249,6 +293,7 @@ fn large_pages(tally: &mut Tally, lent: &mut Lent, random: &mut Random) {
             for p in [leaf_sheet(), sheet(&plain())] {
                 let rust = answers(&ink, width, &p);
                 one(tally, lent, &ink, width, &p, &rust, MOST_CAPACITY as usize);
+                sort_one(tally, lent, &ink, width, &p, &rust, MOST_CAPACITY as usize);
             }
         }
     }
@@ -300,7 +345,13 @@ fn refused(tally: &mut Tally, lent: &mut Lent) {
         let answer = ours::segment(&ink, width, height, if valid { &good } else { &bad }, capacity, &mut page);
         tally.equal("the number", number, answer, || format!("{call:?}"));
         untouched(tally, lent, || format!("{call:?}"));
+        let page = lent.lend([4000; 4]);
+        let sheet = if valid { &good } else { &bad };
+        let answer = ours::sort(&ink, width, height, sheet, capacity, page.words, page.figures);
+        tally.equal("the number of a sorting", number, answer, || format!("{call:?}"));
+        untouched(tally, lent, || format!("{call:?}"));
     }
+    short_sorts(tally, lent, &good);
     let (width, dots, capacity) = (3usize, 6usize, 4usize);
     let needed = [scratch_words(dots, capacity), result_words(width, capacity), dots, FIGURES];
     for i in 0..needed.len() {
@@ -314,6 +365,22 @@ fn refused(tally: &mut Tally, lent: &mut Lent) {
             if number != 0 {
                 untouched(tally, lent, || format!("{lengths:?}"));
             }
+        }
+    }
+}
+
+/// Sorting with memory that is too short, just long enough or longer.
+fn short_sorts(tally: &mut Tally, lent: &mut Lent, p: &LayoutParams) {
+    let needed = [scratch_words(6, 4), SORT_FIGURES];
+    for (i, length) in [0, 1].into_iter().flat_map(|i| near(needed[i]).map(|length| (i, length))) {
+        let mut lengths = needed;
+        lengths[i] = length;
+        let page = lent.lend([lengths[0], 0, 0, lengths[1]]);
+        let answer = ours::sort(&[1; 6], 3, 2, p, 4, page.words, page.figures);
+        let number = if length < needed[i] { 9 } else { 0 };
+        tally.equal("the number of a sorting", number, answer, || format!("{lengths:?}"));
+        if number != 0 {
+            untouched(tally, lent, || format!("{lengths:?}"));
         }
     }
 }
@@ -370,38 +437,135 @@ fn bench(bench: &mut Bench) {
     for (kind, width, height) in pages.chain([(Kind::Text, 8192, 8192), (Kind::Table, 8192, 8192)]) {
         let mask = kind.page(width, height, &mut Random::new());
         for (skew, slope) in [(0.0, 0.0), (0.6, 0.010_472)] {
-            whole(bench, &p, &mask, width, skew, slope, &format!("{kind}-{width}x{height} slope {slope}"));
+            stages(bench, &p, &mask, width, skew, slope, &format!("{kind}-{width}x{height} slope {slope}"));
         }
     }
 }
 
-fn whole(bench: &mut Bench, p: &LayoutParams, mask: &[u8], width: usize, skew: f64, slope: f64, name: &str) {
-    let height = mask.len() / width;
-    let (w, h) = ours::frame_size(width as u32, height as u32, slope);
-    let (dots, capacity) = (w as usize * h as usize, MOST_CAPACITY as usize);
-    let mut shears = vec![0; width + h as usize];
-    let mut ink = vec![0; dots];
-    let mut words = vec![1; scratch_words(dots, capacity)];
-    let mut results = vec![1; result_words(w as usize, capacity)];
-    let (mut kinds, mut figures) = (vec![1; dots], vec![1; FIGURES]);
-    bench.stage(
-        "segments",
-        name,
-        || {
-            black_box(segment_mask(black_box(mask), width, height, skew, slope, p).expect("accepted"));
-        },
-        || {
-            let levelled = ours::level_plane(black_box(mask), 0, width as u32, height as u32, slope, &mut shears, &mut ink);
-            let mut page = ours::Page {
-                words: &mut words,
-                results: &mut results,
-                kinds: &mut kinds,
-                figures: &mut figures,
-            };
-            let number = ours::segment(&ink, w, h, p, capacity as u32, &mut page);
-            assert!(levelled && black_box(number) == 0, "{name} is refused by {number}");
-        },
-    );
+/// A page to time, and what is lent for it.
+struct Timed<'a> {
+    p: &'a LayoutParams,
+    mask: &'a [u8],
+    sides: (usize, usize),
+    skew: f64,
+    slope: f64,
+    frame: (u32, u32),
+    limits: (usize, usize),
+    shears: Vec<u32>,
+    ink: Vec<u8>,
+    words: Vec<u32>,
+    results: Vec<u32>,
+    kinds: Vec<u8>,
+}
+
+/// The lines of a page: levelling, sorting, the cuts of sorting, the whole, and the rest of it beside levelling and sorting.
+fn stages(bench: &mut Bench, p: &LayoutParams, mask: &[u8], width: usize, skew: f64, slope: f64, name: &str) {
+    let mut page = Timed::new(p, mask, width, skew, slope);
+    let [levelling, sorting, cuts, whole] =
+        bench.together(|| [page.levelling(), page.sorting(), page.cuts(), page.whole()]);
+    bench.line("levelling", name, levelling);
+    bench.line("sorting", name, sorting);
+    bench.line("cuts", name, cuts);
+    match whole.less(levelling).and_then(|times| times.less(sorting)) {
+        Some(rest) => bench.line("rest", name, rest),
+        None => println!("rest {name} is too short to tell"),
+    }
+    bench.line("segments", name, whole);
+}
+
+impl<'a> Timed<'a> {
+    /// The limits of thin rulings are those that the page's own unit gives.
+    fn new(p: &'a LayoutParams, mask: &'a [u8], width: usize, skew: f64, slope: f64) -> Self {
+        let height = mask.len() / width;
+        let (w, h) = ours::frame_size(width as u32, height as u32, slope);
+        let (dots, capacity) = (w as usize * h as usize, MOST_CAPACITY as usize);
+        let mut page = Timed {
+            p,
+            mask,
+            sides: (width, height),
+            skew,
+            slope,
+            frame: (w, h),
+            limits: (2, 1),
+            shears: vec![0; width + h as usize],
+            ink: vec![0; dots],
+            words: vec![1; scratch_words(dots, capacity)],
+            results: vec![1; result_words(w as usize, capacity)],
+            kinds: vec![1; dots],
+        };
+        page.level();
+        page.limits = compare_measured(&page.ink, w as usize, h as usize, p);
+        page
+    }
+
+    fn level(&mut self) {
+        let (width, height) = (self.sides.0 as u32, self.sides.1 as u32);
+        let mask = black_box(self.mask);
+        let levelled = ours::level_plane(mask, 0, width, height, self.slope, &mut self.shears, &mut self.ink);
+        assert!(black_box(levelled), "the page is not levelled");
+    }
+
+    /// The Rust starts from a copy of the mask, as in the whole, where the copy stands for the mask that it makes.
+    fn levelling(&mut self) -> Times {
+        let (p, mask, (width, height), skew, slope) = (self.p, self.mask, self.sides, self.skew, self.slope);
+        Times::once(
+            || {
+                black_box(level_mask(black_box(mask).to_vec(), width, height, skew, slope, p));
+            },
+            || self.level(),
+        )
+    }
+
+    /// On the levelled ink, which the Rust takes by value and cuts.
+    fn sorting(&mut self) -> Times {
+        let (p, (w, h), ink) = (self.p, self.frame, self.ink.clone());
+        let mut figures = [1; SORT_FIGURES];
+        Times::once(
+            || {
+                black_box(compare_sort(ink, w as usize, h as usize, p));
+            },
+            || {
+                let number = ours::sort(black_box(&self.ink), w, h, p, MOST_CAPACITY, &mut self.words, &mut figures);
+                assert!(black_box(number) == 0, "sorting is refused by {number}");
+            },
+        )
+    }
+
+    fn cuts(&mut self) -> Times {
+        let ((w, h), (run_min, thick_max), ink) = (self.frame, self.limits, black_box(&self.ink));
+        let (limits, words, mut counts) = ((run_min as u32, thick_max as u32), &mut self.words, [1; 2]);
+        Times::once(
+            || {
+                black_box(rust_counts(ink, w as usize, run_min, thick_max));
+            },
+            || {
+                let number = ours::cut_rulings(ink, w, h, limits.0, limits.1, MOST_CAPACITY, words, &mut counts);
+                assert!(black_box(number) == 0, "cutting is refused by {number}");
+            },
+        )
+    }
+
+    fn whole(&mut self) -> Times {
+        let (p, mask, (width, height), (w, h)) = (self.p, self.mask, self.sides, self.frame);
+        let (skew, slope) = (self.skew, self.slope);
+        let mut figures = [1; FIGURES];
+        Times::once(
+            || {
+                black_box(segment_mask(black_box(mask), width, height, skew, slope, p).expect("accepted"));
+            },
+            || {
+                self.level();
+                let mut lent = ours::Page {
+                    words: &mut self.words,
+                    results: &mut self.results,
+                    kinds: &mut self.kinds,
+                    figures: &mut figures,
+                };
+                let number = ours::segment(&self.ink, w, h, p, MOST_CAPACITY, &mut lent);
+                assert!(black_box(number) == 0, "segmenting is refused by {number}");
+            },
+        )
+    }
 }
 
 /// The most dots and components of a page that the gate replays.
