@@ -69,3 +69,17 @@ column-span x last l =
     let d : last - x + 1 ≡ suc (last - x) = omega arith in
     let e : last ≡ x + (last - x) = omega arith in
     ap (λ z. z * (x + last) / 2) d ∙ (ap (λ z. suc (last - x) * (x + z) / 2) e ∙ column-half x (last - x))
+
+-- a span's box takes in its two end dots
+module _ (c first ends : Component) (x last y : ℕ) (h₁ : first ≡ absorbed c x y) (h₂ : ends ≡ absorbed first last y) (order : x ≤ last) where
+  pub ends-x0 : ends .x0 ≡ min (c .x0) x
+  ends-x0 = let a = ap (λ z. z .x0) h₁ in let b = ap (λ z. z .x0) h₂ in omega arith
+
+  pub ends-y0 : ends .y0 ≡ min (c .y0) y
+  ends-y0 = let a = ap (λ z. z .y0) h₁ in let b = ap (λ z. z .y0) h₂ in omega arith
+
+  pub ends-x1 : ends .x1 ≡ max (c .x1) last
+  ends-x1 = let a = ap (λ z. z .x1) h₁ in let b = ap (λ z. z .x1) h₂ in omega arith
+
+  pub ends-y1 : ends .y1 ≡ max (c .y1) y
+  ends-y1 = let a = ap (λ z. z .y1) h₁ in let b = ap (λ z. z .y1) h₂ in omega arith

@@ -83,7 +83,7 @@ module _ {w h c : ℕ} {s : List ℕ} {at y first before : ℕ} (R : RowSizable 
           number-is : number ≡ componentNumber (firstRun w c (take (2 * c) (R .s₀))) k
           number-is = en ∙ (size-list row-sweep .numbers k lk ∙ ap (λ z. componentNumber (firstRun w c z) k) (runs-same row-sweep))
 
-          pub row-asks : SpanSizable (take (length s₁ - at) (drop at s₁)) number count dots y
+          pub row-asks : SpanSizable (take (length s₁ - at) (drop at s₁)) number count (start - y * w) last dots y
           row-asks = size-asks row-sweep lk span-is number (start - y * w) y number-is (column-is ∙ ap (λ z. z % w) first-dot) (row-is ∙ ap (λ z. z / w) first-dot)
 
           -- its columns, its dots and its row fit in words

@@ -290,7 +290,7 @@ module _ {w h c at : ℕ} {s₀ s : List ℕ} {k count : ℕ} (S : SizeSweep w h
       few-more : countIf (isRoot f) next ≤ C + 1
       few-more = let a = P .counted in let b = next-count in let e = count-step (isRoot f) k in omega arith
 
-      pub size-asks : SpanSizable (take (length s - at) (drop at s)) number count dots y
+      pub size-asks : SpanSizable (take (length s - at) (drop at s)) number count x last dots y
       size-asks =
           let p = number-room in
           let q = size-long in
@@ -304,7 +304,8 @@ module _ {w h c at : ℕ} {s₀ s : List ℕ} {k count : ℕ} (S : SizeSweep w h
           let n = S .asks .list .narrow in
           let a = P .few in
           let b = P .narrow in
-          rw (tail-part at s) (record { counted = omega arith; room = omega arith; few = omega arith; low = omega arith; small = rw en held-small })
+          let f = P .from in
+          rw (tail-part at s) (record { counted = omega arith; room = omega arith; order = omega arith; few = omega arith; low = omega arith; small = rw en held-small })
 
       pub size-more : (part : List ℕ) (count' : ℕ) → part ≡ resized (take (length s - at) (drop at s)) number count x last dots y → count' ≡ max count number
           → SizeSweep w h c at s₀ (putMid at (length s - at) s part) next count'

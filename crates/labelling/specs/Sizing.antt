@@ -29,9 +29,10 @@ resized s number count x last dots y =
     take ((number - 1) * 5) s ++ (sizeWords (absorbedSpan (heldSize s number count) x last dots 0 y) ++ drop ((number - 1) * 5 + 5) s)
 
 -- a span within a row, a number that has room, and a size that has
-pub record SpanSizable (s : List ℕ) (number count dots y : ℕ) : Type 0 where
+pub record SpanSizable (s : List ℕ) (number count x last dots y : ℕ) : Type 0 where
   pub counted : 0 < number
   pub room : number * 5 ≤ length s
+  pub order : x ≤ last
   pub few : dots ≤ maxMaskSide
   pub low : y ≤ maxMaskDots
   pub small : heldSize s number count .area ≤ maxMaskDots

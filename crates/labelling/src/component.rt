@@ -1,8 +1,8 @@
 // One component: its area, its box and the sums of its dots' coordinates (01's piece).
 ghost use mathlib.Core.Path.{_≡_};
-ghost use Prim.Native.Nat.{_≤_, _^_};
+ghost use Prim.Native.Nat.{_+_, _≤_, _<_, _^_};
 ghost use Rattle.memory.specs.Limits.{maxMaskSide, maxMaskDots};
-ghost use Rattle.labelling.specs.Components.{noDots, absorbedSpan, boxOf};
+ghost use Rattle.labelling.specs.Components.{noDots, absorbed, absorbedSpan, boxOf};
 use crate::rect::Rect;
 use crate::rect::greater;
 use crate::rect::lesser;
@@ -33,17 +33,35 @@ impl Component {
         }
     }
 
-    // The component with the dots of a span of row y more: so many, from column x to column `last`, whose columns add up to `sum`.
-    pub fn absorb_span(self, x: u32, last: u32, dots: u32, sum: u64, y: u32) -> Component
-        requires { ⌜ (self .area ≤ maxMaskDots) × (self .«sum_x» ≤ 2 ^ 60) × (self .«sum_y» ≤ 2 ^ 60) × (dots ≤ maxMaskSide) × (sum ≤ 2 ^ 60) × (y ≤ maxMaskDots) ⌝ }
-        ensures { λ r. ⌜ r ≡ absorbedSpan self x last dots sum y ⌝ }
+    // The component with the dot in column x and row y more.
+    pub fn absorb(self, x: u32, y: u32) -> Component
+        requires { ⌜ self .area < 4294967295 ⌝ ∗ ⌜ self .«sum_x» + x ≤ 18446744073709551615 ⌝ ∗ ⌜ self .«sum_y» + y ≤ 18446744073709551615 ⌝ }
+        ensures { λ r. ⌜ r ≡ absorbed self x y ⌝ }
     {
         Component {
-            area: self.area + dots,
+            area: self.area + 1,
             x0: lesser(self.x0, x),
             y0: lesser(self.y0, y),
-            x1: greater(self.x1, last),
+            x1: greater(self.x1, x),
             y1: greater(self.y1, y),
+            sum_x: self.sum_x + (x as u64),
+            sum_y: self.sum_y + (y as u64),
+        }
+    }
+
+    // The component with the dots of a span of row y more: so many, from column x to column `last`, whose columns add up to `sum`. Its
+    // box takes in the two end dots.
+    pub fn absorb_span(self, x: u32, last: u32, dots: u32, sum: u64, y: u32) -> Component
+        requires { ⌜ (self .area ≤ maxMaskDots) × (self .«sum_x» ≤ 2 ^ 60) × (self .«sum_y» ≤ 2 ^ 60) × (dots ≤ maxMaskSide) × (sum ≤ 2 ^ 60) × (y ≤ maxMaskDots) × (x ≤ last) ⌝ }
+        ensures { λ r. ⌜ r ≡ absorbedSpan self x last dots sum y ⌝ }
+    {
+        let ends = self.absorb(x, y).absorb(last, y);
+        Component {
+            area: self.area + dots,
+            x0: ends.x0,
+            y0: ends.y0,
+            x1: ends.x1,
+            y1: ends.y1,
             sum_x: self.sum_x + sum,
             sum_y: self.sum_y + (dots as u64) * (y as u64),
         }

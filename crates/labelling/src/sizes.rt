@@ -46,7 +46,7 @@ fn widen_size(words: &mut [u32], x: u32, last: u32, dots: u32, y: u32)
 // The dots of a span absorbed by the size of the component with this number: a new one where `count` have one and this is past them.
 // The span lies in row y, from column x to column `last`.
 fn size_span(words: &mut [u32], number: usize, count: usize, x: u32, last: u32, dots: u32, y: u32)
-    requires { ⌜ SpanSizable (now words) number count dots y ⌝ }
+    requires { ⌜ SpanSizable (now words) number count x last dots y ⌝ }
     ensures { λ _. ⌜ now (words .exit) ≡ resized (now (words .entry)) number count x last dots y ⌝ }
 {
     let at = (number - 1) * 5;

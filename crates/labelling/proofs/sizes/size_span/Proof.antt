@@ -18,7 +18,7 @@ none-requires : tie.Need-none-requires
 none-requires c κs = search needs
 
 absorb-span-requires : tie.Need-absorb-span-requires
-absorb-span-requires c κs = let p = (c .before .before .before) .pre in let e = (c .none) .ensures in let e₁ = ap (λ z. z .area) e in let e₂ = ap (λ z. z .«sum_x») e in let e₃ = ap (λ z. z .«sum_y») e in (omega arith, omega arith, omega arith, omega arith, omega arith, omega arith)
+absorb-span-requires c κs = let p = (c .before .before .before) .pre in let e = (c .none) .ensures in let e₁ = ap (λ z. z .area) e in let e₂ = ap (λ z. z .«sum_x») e in let e₃ = ap (λ z. z .«sum_y») e in (omega arith, omega arith, omega arith, omega arith, omega arith, omega arith, omega arith)
 
 add-write-size : tie.Need-add-write-size
 add-write-size c = search needs

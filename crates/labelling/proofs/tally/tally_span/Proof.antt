@@ -29,7 +29,7 @@ cast-absorb-span-4 : tie.Need-cast-absorb-span-4
 cast-absorb-span-4 c = search needs
 
 absorb-span-requires : tie.Need-absorb-span-requires
-absorb-span-requires c κs = let p = (c .before .before .before) .pre in let e = (c .none) .ensures in let e₁ = ap (λ z. z .area) e in let e₂ = ap (λ z. z .«sum_x») e in let e₃ = ap (λ z. z .«sum_y») e in (omega arith, omega arith, omega arith, omega arith, omega arith, omega arith)
+absorb-span-requires c κs = let p = (c .before .before .before) .pre in let e = (c .none) .ensures in let e₁ = ap (λ z. z .area) e in let e₂ = ap (λ z. z .«sum_x») e in let e₃ = ap (λ z. z .«sum_y») e in (omega arith, omega arith, omega arith, omega arith, omega arith, omega arith, omega arith)
 
 add-encode : tie.Need-add-encode
 add-encode c = search needs
