@@ -10,7 +10,7 @@ use borrow.Rule.Slice.PartMut.{putMid}
 use lib.ListN.{getD, length, take, drop}
 use lib.Seq.{getD-take}
 use Rattle.memory.specs.Words.{over}
-use Rattle.memory.specs.Limits.{maxMaskSide, maxMaskDots}
+use Rattle.memory.specs.Limits.{maxMaskDots}
 use Rattle.labelling.specs.InkRuns.{startOf, componentNumber}
 use Rattle.labelling.specs.Linking.{firstRun}
 use Rattle.labelling.specs.Spans.{SpanAhead, SpanOf}
@@ -85,17 +85,6 @@ module _ {w h c : ℕ} {s : List ℕ} {at y first before : ℕ} (R : RowSizable 
 
           pub row-asks : SpanSizable (take (length s₁ - at) (drop at s₁)) number count (start - y * w) last dots y
           row-asks = size-asks row-sweep lk span-is number (start - y * w) y number-is (column-is ∙ ap (λ z. z % w) first-dot) (row-is ∙ ap (λ z. z / w) first-dot)
-
-          -- its columns, its dots and its row fit in words
-          pub row-casts : (start - y * w ≤ maxMaskSide) × (last ≤ maxMaskSide) × (dots ≤ maxMaskSide) × (y ≤ maxMaskDots)
-          row-casts =
-              let Q = row-asks in
-              let a = X .1 .from in
-              let b = X .1 .narrow in
-              let n = R .sweep .asks .list .narrow in
-              let x = column-is in
-              let m = ap (λ z. z % w) start-here in
-              (omega arith, omega arith, Q .few, Q .low)
 
           pub row-more : (part : List ℕ) (count₂ : ℕ) → part ≡ resized (take (length s₁ - at) (drop at s₁)) number count (start - y * w) last dots y → count₂ ≡ max count number
               → RowSweep w c s (putMid at (length s₁ - at) s₁ part) at y first before next count₂

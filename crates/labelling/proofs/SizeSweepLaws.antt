@@ -304,8 +304,17 @@ module _ {w h c at : ℕ} {s₀ s : List ℕ} {k count : ℕ} (S : SizeSweep w h
           let n = S .asks .list .narrow in
           let a = P .few in
           let b = P .narrow in
-          let f = P .from in
-          rw (tail-part at s) (record { counted = omega arith; room = omega arith; order = omega arith; few = omega arith; low = omega arith; small = rw en held-small })
+          let m = P .from in
+          rw (tail-part at s)
+          (record {
+            counted = omega arith;
+            room = omega arith;
+            order = omega arith;
+            narrow = omega arith;
+            few = omega arith;
+            low = omega arith;
+            small = rw en held-small;
+          })
 
       pub size-more : (part : List ℕ) (count' : ℕ) → part ≡ resized (take (length s - at) (drop at s)) number count x last dots y → count' ≡ max count number
           → SizeSweep w h c at s₀ (putMid at (length s - at) s part) next count'

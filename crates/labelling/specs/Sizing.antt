@@ -33,6 +33,7 @@ pub record SpanSizable (s : List ℕ) (number count x last dots y : ℕ) : Type 
   pub counted : 0 < number
   pub room : number * 5 ≤ length s
   pub order : x ≤ last
+  pub narrow : last < maxMaskSide
   pub few : dots ≤ maxMaskSide
   pub low : y ≤ maxMaskDots
   pub small : heldSize s number count .area ≤ maxMaskDots

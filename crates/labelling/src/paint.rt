@@ -101,18 +101,9 @@ fn paint_row(
         }
         let number = wide(runs[2 * c + k]);
         let span = paint_span(runs, c, w, base, k, labels);
-        tally_span(
-            components,
-            number,
-            count,
-            start - base,
-            span.last,
-            span.dots,
-            span.sum,
-            y,
-        );
-        count = larger(count, number);
         k = span.next;
+        tally_span(components, number, count, start - base, span, y);
+        count = larger(count, number);
     }
     Reached {
         next: k,

@@ -13,6 +13,7 @@ use crate::link::link_runs;
 use crate::number::number_runs;
 use crate::record::lower;
 use crate::record::raise;
+use crate::span::Extent;
 use crate::span::Reached;
 use crate::span::measure_span;
 use crate::tally::larger;
@@ -44,18 +45,20 @@ fn widen_size(words: &mut [u32], x: u32, last: u32, dots: u32, y: u32)
 }
 
 // The dots of a span absorbed by the size of the component with this number: a new one where `count` have one and this is past them.
-// The span lies in row y, from column x to column `last`.
-fn size_span(words: &mut [u32], number: usize, count: usize, x: u32, last: u32, dots: u32, y: u32)
-    requires { ⌜ SpanSizable (now words) number count x last dots y ⌝ }
-    ensures { λ _. ⌜ now (words .exit) ≡ resized (now (words .entry)) number count x last dots y ⌝ }
+// The span lies in row y and starts in column x.
+fn size_span(words: &mut [u32], number: usize, count: usize, x: usize, span: Extent, y: usize)
+    requires { ⌜ SpanSizable (now words) number count x (span .last) (span .dots) y ⌝ }
+    ensures { λ _. ⌜ now (words .exit) ≡ resized (now (words .entry)) number count x (span .last) (span .dots) y ⌝ }
 {
     let at = (number - 1) * 5;
+    let last = span.last as u32;
+    let dots = span.dots as u32;
     if count < number {
-        let after = Component::none().absorb_span(x, last, dots, 0, y);
+        let after = Component::none().absorb_span(x as u32, last, dots, 0, y as u32);
         write_size(&mut words[at..at + 5], after);
         return;
     }
-    widen_size(&mut words[at..at + 5], x, last, dots, y);
+    widen_size(&mut words[at..at + 5], x as u32, last, dots, y as u32);
 }
 
 // Writes the sizes of the components of row y's runs, from `first` on, to the words from `at` on; `before` components have one already.
@@ -85,17 +88,9 @@ fn size_row(
         }
         let number = wide(words[2 * c + k]);
         let span = measure_span(&words[..], c, w, base, k);
-        size_span(
-            &mut words[at..],
-            number,
-            count,
-            (start - base) as u32,
-            span.last as u32,
-            span.dots as u32,
-            y as u32,
-        );
-        count = larger(count, number);
         k = span.next;
+        size_span(&mut words[at..], number, count, start - base, span, y);
+        count = larger(count, number);
     }
     Reached {
         next: k,

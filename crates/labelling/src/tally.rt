@@ -5,6 +5,7 @@ ghost use Rattle.labelling.specs.Tallying.{SpanTallyable, tallied};
 use crate::component::Component;
 use crate::record::absorb_words;
 use crate::record::encode;
+use crate::span::Span;
 
 // The greater of two numbers.
 pub fn larger(a: usize, b: usize) -> usize
@@ -14,38 +15,33 @@ pub fn larger(a: usize, b: usize) -> usize
 }
 
 // The dots of a span absorbed by the record of the component with this number: a new one where `count` have one and this is past
-// them. The span lies in row y, from column x to column `last`.
+// them. The span lies in row y and starts in column x.
 pub fn tally_span(
     components: &mut [u32],
     number: usize,
     count: usize,
     x: usize,
-    last: usize,
-    dots: usize,
-    sum: usize,
+    span: Span,
     y: usize,
 )
-    requires { ⌜ SpanTallyable (now components) number count x last dots sum y ⌝ }
-    ensures { λ _. ⌜ now (components .exit) ≡ tallied (now (components .entry)) number count x last dots sum y ⌝ }
+    requires { ⌜ SpanTallyable (now components) number count x (span .last) (span .dots) (span .sum) y ⌝ }
+    ensures { λ _. ⌜ now (components .exit) ≡ tallied (now (components .entry)) number count x (span .last) (span .dots) (span .sum) y ⌝ }
 {
     let at = (number - 1) * 9;
+    let last = span.last as u32;
+    let dots = span.dots as u32;
+    let sum = span.sum as u64;
     if count < number {
-        let after = Component::none().absorb_span(
-            x as u32,
-            last as u32,
-            dots as u32,
-            sum as u64,
-            y as u32,
-        );
+        let after = Component::none().absorb_span(x as u32, last, dots, sum, y as u32);
         encode(&mut components[at..at + 9], after);
         return;
     }
     absorb_words(
         &mut components[at..at + 9],
         x as u32,
-        last as u32,
-        dots as u32,
-        sum as u64,
+        last,
+        dots,
+        sum,
         y as u32,
     );
 }

@@ -1,7 +1,7 @@
 use borrow.Author.Needs.{needs}
 use native.Mathlib.Omega.{arith}
 use Prim.Native.Nat.{_-_}
-use Rattle.labelling.proofs.RowSizeLaws.{RowSweep, row-none, row-room, row-words, row-long, row-done, row-start, row-span, row-casts, row-asks, row-more}
+use Rattle.labelling.proofs.RowSizeLaws.{RowSweep, row-none, row-room, row-words, row-long, row-done, row-start, row-span, row-asks, row-more}
 use Rattle.labelling.proofs.sizes.size_row.Statement.{statement}
 use Rattle.labelling.proofs.sizes.size_row.Tie as tie
 
@@ -71,29 +71,17 @@ part-size-span-end c = let r = row-words ((c .before .before .before .before .be
 sub-size-span-2 : tie.Need-sub-size-span-2 Inv-loop μ-loop
 sub-size-span-2 c = row-start ((c .before .before .before .before .before .before .before .before .before .before .before) .pre .1) ((c .before .before .before .before .before .before .before .before .before .loop) .inv) ((c .before .before .before .before .before .before .before .before .loop-test) .taken) ((c .before .before .before .before .before .before .wide) .result) ((c .before .before .before .before .before .before .wide) .ensures) .1
 
-cast-size-span : tie.Need-cast-size-span Inv-loop μ-loop
-cast-size-span c = let r = row-casts ((c .before .before .before .before .before .before .before .before .before .before .before) .pre .1) ((c .before .before .before .before .before .before .before .before .before .loop) .inv) ((c .before .before .before .before .before .before .before .before .loop-test) .taken) ((c .before .before .before .before .before .before .wide) .result) ((c .before .before .before .before .before .before .wide) .ensures) ((c .before .before .before .before .before .if1) .left) ((c .before .before .before .wide2) .result) ((c .before .before .before .wide2) .ensures) ((c .before .measure-span) .ensures) in omega arith
-
-cast-size-span-2 : tie.Need-cast-size-span-2 Inv-loop μ-loop
-cast-size-span-2 c = let r = row-casts ((c .before .before .before .before .before .before .before .before .before .before .before .before) .pre .1) ((c .before .before .before .before .before .before .before .before .before .before .loop) .inv) ((c .before .before .before .before .before .before .before .before .before .loop-test) .taken) ((c .before .before .before .before .before .before .before .wide) .result) ((c .before .before .before .before .before .before .before .wide) .ensures) ((c .before .before .before .before .before .before .if1) .left) ((c .before .before .before .before .wide2) .result) ((c .before .before .before .before .wide2) .ensures) ((c .before .before .measure-span) .ensures) in omega arith
-
-cast-size-span-3 : tie.Need-cast-size-span-3 Inv-loop μ-loop
-cast-size-span-3 c = let r = row-casts ((c .before .before .before .before .before .before .before .before .before .before .before .before .before) .pre .1) ((c .before .before .before .before .before .before .before .before .before .before .before .loop) .inv) ((c .before .before .before .before .before .before .before .before .before .before .loop-test) .taken) ((c .before .before .before .before .before .before .before .before .wide) .result) ((c .before .before .before .before .before .before .before .before .wide) .ensures) ((c .before .before .before .before .before .before .before .if1) .left) ((c .before .before .before .before .before .wide2) .result) ((c .before .before .before .before .before .wide2) .ensures) ((c .before .before .before .measure-span) .ensures) in omega arith
-
-cast-size-span-4 : tie.Need-cast-size-span-4 Inv-loop μ-loop
-cast-size-span-4 c = let r = row-casts ((c .before .before .before .before .before .before .before .before .before .before .before .before .before) .pre .1) ((c .before .before .before .before .before .before .before .before .before .before .before .loop) .inv) ((c .before .before .before .before .before .before .before .before .before .before .loop-test) .taken) ((c .before .before .before .before .before .before .before .before .wide) .result) ((c .before .before .before .before .before .before .before .before .wide) .ensures) ((c .before .before .before .before .before .before .before .if1) .left) ((c .before .before .before .before .before .wide2) .result) ((c .before .before .before .before .before .wide2) .ensures) ((c .before .before .before .measure-span) .ensures) in omega arith
-
 size-span-requires : tie.Need-size-span-requires Inv-loop μ-loop
-size-span-requires c κs = row-asks ((c .before .before .before .before .before .before .before .before .before .before .before .before .before) .pre .1) ((c .before .before .before .before .before .before .before .before .before .before .before .loop) .inv) ((c .before .before .before .before .before .before .before .before .before .before .loop-test) .taken) ((c .before .before .before .before .before .before .before .before .wide) .result) ((c .before .before .before .before .before .before .before .before .wide) .ensures) ((c .before .before .before .before .before .before .before .if1) .left) ((c .before .before .before .before .before .wide2) .result) ((c .before .before .before .before .before .wide2) .ensures) ((c .before .before .before .measure-span) .ensures)
+size-span-requires c κs = row-asks ((c .before .before .before .before .before .before .before .before .before .before .before) .pre .1) ((c .before .before .before .before .before .before .before .before .before .loop) .inv) ((c .before .before .before .before .before .before .before .before .loop-test) .taken) ((c .before .before .before .before .before .before .wide) .result) ((c .before .before .before .before .before .before .wide) .ensures) ((c .before .before .before .before .before .if1) .left) ((c .before .before .before .wide2) .result) ((c .before .before .before .wide2) .ensures) ((c .before .measure-span) .ensures)
 
 larger-requires : tie.Need-larger-requires Inv-loop μ-loop
 larger-requires c κs = search needs
 
 loop-less : tie.Need-loop-less Inv-loop μ-loop
-loop-less c = let s = (c .before .before .before .before .before .before .before .measure-span) .ensures .1 in let a = s .some in let b = s .upto in omega (arith, (c .before .before .before .before .before .before .before .before .before .before .before .before .before .before .loop-test) .taken)
+loop-less c = let s = (c .before .before .before .before .before .measure-span) .ensures .1 in let a = s .some in let b = s .upto in omega (arith, (c .before .before .before .before .before .before .before .before .before .before .before .before .loop-test) .taken)
 
 loop-again : tie.Need-loop-again Inv-loop μ-loop
-loop-again c = row-more ((c .before .before .before .before .before .before .before .before .before .before .before .before .before .before .before .before .before) .pre .1) ((c .before .before .before .before .before .before .before .before .before .before .before .before .before .before .before .loop) .inv) ((c .before .before .before .before .before .before .before .before .before .before .before .before .before .before .loop-test) .taken) ((c .before .before .before .before .before .before .before .before .before .before .before .before .wide) .result) ((c .before .before .before .before .before .before .before .before .before .before .before .before .wide) .ensures) ((c .before .before .before .before .before .before .before .before .before .before .before .if1) .left) ((c .before .before .before .before .before .before .before .before .before .wide2) .result) ((c .before .before .before .before .before .before .before .before .before .wide2) .ensures) ((c .before .before .before .before .before .before .before .measure-span) .ensures) ((c .before .before .before .size-span) .last .0) ((c .larger) .result) ((c .before .before .before .size-span) .ensures) ((c .larger) .ensures)
+loop-again c = row-more ((c .before .before .before .before .before .before .before .before .before .before .before .before .before .before .before) .pre .1) ((c .before .before .before .before .before .before .before .before .before .before .before .before .before .loop) .inv) ((c .before .before .before .before .before .before .before .before .before .before .before .before .loop-test) .taken) ((c .before .before .before .before .before .before .before .before .before .before .wide) .result) ((c .before .before .before .before .before .before .before .before .before .before .wide) .ensures) ((c .before .before .before .before .before .before .before .before .before .if1) .left) ((c .before .before .before .before .before .before .before .wide2) .result) ((c .before .before .before .before .before .before .before .wide2) .ensures) ((c .before .before .before .before .before .measure-span) .ensures) ((c .before .before .before .size-span) .last .0) ((c .larger) .result) ((c .before .before .before .size-span) .ensures) ((c .larger) .ensures)
 
 same-length-2 : tie.Need-same-length-2 Inv-loop μ-loop
 same-length-2 c = row-long ((c .before .before .before) .pre .1) ((c .before .loop) .inv)
@@ -127,10 +115,6 @@ size-row-spec =
     part-size-span-start
     part-size-span-end
     sub-size-span-2
-    cast-size-span
-    cast-size-span-2
-    cast-size-span-3
-    cast-size-span-4
     size-span-requires
     larger-requires
     loop-less

@@ -13,6 +13,12 @@ sub-at c = search needs
 mul-at : tie.Need-mul-at
 mul-at c = search needs
 
+cast-last : tie.Need-cast-last
+cast-last c = search needs
+
+cast-dots : tie.Need-cast-dots
+cast-dots c = search needs
+
 none-requires : tie.Need-none-requires
 none-requires c κs = search needs
 
@@ -22,14 +28,8 @@ cast-absorb-span c = search needs
 cast-absorb-span-2 : tie.Need-cast-absorb-span-2
 cast-absorb-span-2 c = search needs
 
-cast-absorb-span-3 : tie.Need-cast-absorb-span-3
-cast-absorb-span-3 c = search needs
-
-cast-absorb-span-4 : tie.Need-cast-absorb-span-4
-cast-absorb-span-4 c = search needs
-
 absorb-span-requires : tie.Need-absorb-span-requires
-absorb-span-requires c κs = let p = (c .before .before .before) .pre in let e = (c .none) .ensures in let e₁ = ap (λ z. z .area) e in let e₂ = ap (λ z. z .«sum_x») e in let e₃ = ap (λ z. z .«sum_y») e in (omega arith, omega arith, omega arith, omega arith, omega arith, omega arith, omega arith)
+absorb-span-requires c κs = let p = (c .before .before .before .before .before) .pre in let e = (c .none) .ensures in let e₁ = ap (λ z. z .area) e in let e₂ = ap (λ z. z .«sum_x») e in let e₃ = ap (λ z. z .«sum_y») e in (omega arith, omega arith, omega arith, omega arith, omega arith, omega arith, omega arith)
 
 add-encode : tie.Need-add-encode
 add-encode c = search needs
@@ -47,13 +47,13 @@ part-encode-end : tie.Need-part-encode-end
 part-encode-end c = search needs
 
 encode-requires : tie.Need-encode-requires
-encode-requires c κs = nine-long (((c .before .before .before .before .before) .args .number - 1) * 9) ((c .before .before .before .before .before) .args .components .now) (let p = (c .before .before .before .before .before) .pre in omega arith)
+encode-requires c κs = nine-long (((c .before .before .before .before .before .before .before) .args .number - 1) * 9) ((c .before .before .before .before .before .before .before) .args .components .now) (let p = (c .before .before .before .before .before .before .before) .pre in omega arith)
 
 same-length : tie.Need-same-length
 same-length c = search needs
 
 returns : tie.Need-returns
-returns c = span-tallied ((c .before .before .before .before .before .before .before .before) .args .components .now) ((c .before .before .before .before .before .before .before .before) .args .number) ((c .before .before .before .before .before .before .before .before) .args .count) ((c .before .before .before .before .before .before .before .before) .args .x) ((c .before .before .before .before .before .before .before .before) .args .last) ((c .before .before .before .before .before .before .before .before) .args .dots) ((c .before .before .before .before .before .before .before .before) .args .sum) ((c .before .before .before .before .before .before .before .before) .args .y) ((c .before .before .before .before .before .none) .result) ((c .before .before .before .before .absorb-span) .result) ((c .before .before .encode) .last .0) ((c .before .before .before .before .before .none) .ensures ∙ held-none ((c .before .before .before .before .before .before .before .before) .args .components .now) ((c .before .before .before .before .before .before .before .before) .args .number) ((c .before .before .before .before .before .before .before .before) .args .count) ((c .before .before .before .before .before .before .if1) .taken)) ((c .before .before .before .before .absorb-span) .ensures) ((c .before .before .encode) .ensures)
+returns c = span-tallied ((c .before .before .before .before .before .before .before .before .before .before) .args .components .now) ((c .before .before .before .before .before .before .before .before .before .before) .args .number) ((c .before .before .before .before .before .before .before .before .before .before) .args .count) ((c .before .before .before .before .before .before .before .before .before .before) .args .x) ((c .before .before .before .before .before .before .before .before .before .before) .args .span .last) ((c .before .before .before .before .before .before .before .before .before .before) .args .span .dots) ((c .before .before .before .before .before .before .before .before .before .before) .args .span .sum) ((c .before .before .before .before .before .before .before .before .before .before) .args .y) ((c .before .before .before .before .before .none) .result) ((c .before .before .before .before .absorb-span) .result) ((c .before .before .encode) .last .0) ((c .before .before .before .before .before .none) .ensures ∙ held-none ((c .before .before .before .before .before .before .before .before .before .before) .args .components .now) ((c .before .before .before .before .before .before .before .before .before .before) .args .number) ((c .before .before .before .before .before .before .before .before .before .before) .args .count) ((c .before .before .before .before .before .before .if1) .taken)) ((c .before .before .before .before .absorb-span) .ensures) ((c .before .before .encode) .ensures)
 
 add-absorb-words : tie.Need-add-absorb-words
 add-absorb-words c = search needs
@@ -76,20 +76,14 @@ cast-absorb-words c = search needs
 cast-absorb-words-2 : tie.Need-cast-absorb-words-2
 cast-absorb-words-2 c = search needs
 
-cast-absorb-words-3 : tie.Need-cast-absorb-words-3
-cast-absorb-words-3 c = search needs
-
-cast-absorb-words-4 : tie.Need-cast-absorb-words-4
-cast-absorb-words-4 c = search needs
-
 absorb-words-requires : tie.Need-absorb-words-requires
-absorb-words-requires c κs = let p = (c .before .before .before) .pre in (nine-long (((c .before .before .before) .args .number - 1) * 9) ((c .before .before .before) .args .components .now) (omega arith), omega arith, omega arith, omega arith, subst Small (sym (held-words ((c .before .before .before) .args .components .now) ((c .before .before .before) .args .number) ((c .before .before .before) .args .count) ((c .before .if1) .left))) (p .small))
+absorb-words-requires c κs = let p = (c .before .before .before .before .before) .pre in (nine-long (((c .before .before .before .before .before) .args .number - 1) * 9) ((c .before .before .before .before .before) .args .components .now) (omega arith), omega arith, omega arith, omega arith, subst Small (sym (held-words ((c .before .before .before .before .before) .args .components .now) ((c .before .before .before .before .before) .args .number) ((c .before .before .before .before .before) .args .count) ((c .before .if1) .left))) (p .small))
 
 same-length-2 : tie.Need-same-length-2
 same-length-2 c = search needs
 
 returns-2 : tie.Need-returns-2
-returns-2 c = span-tallied ((c .before .before .before .before .before .before) .args .components .now) ((c .before .before .before .before .before .before) .args .number) ((c .before .before .before .before .before .before) .args .count) ((c .before .before .before .before .before .before) .args .x) ((c .before .before .before .before .before .before) .args .last) ((c .before .before .before .before .before .before) .args .dots) ((c .before .before .before .before .before .before) .args .sum) ((c .before .before .before .before .before .before) .args .y) _ _ ((c .before .before .absorb-words) .last .0) (held-words ((c .before .before .before .before .before .before) .args .components .now) ((c .before .before .before .before .before .before) .args .number) ((c .before .before .before .before .before .before) .args .count) ((c .before .before .before .before .if1) .left)) refl ((c .before .before .absorb-words) .ensures)
+returns-2 c = span-tallied ((c .before .before .before .before .before .before .before .before) .args .components .now) ((c .before .before .before .before .before .before .before .before) .args .number) ((c .before .before .before .before .before .before .before .before) .args .count) ((c .before .before .before .before .before .before .before .before) .args .x) ((c .before .before .before .before .before .before .before .before) .args .span .last) ((c .before .before .before .before .before .before .before .before) .args .span .dots) ((c .before .before .before .before .before .before .before .before) .args .span .sum) ((c .before .before .before .before .before .before .before .before) .args .y) _ _ ((c .before .before .absorb-words) .last .0) (held-words ((c .before .before .before .before .before .before .before .before) .args .components .now) ((c .before .before .before .before .before .before .before .before) .args .number) ((c .before .before .before .before .before .before .before .before) .args .count) ((c .before .before .before .before .if1) .left)) refl ((c .before .before .absorb-words) .ensures)
 
 pub tally-span-spec : {M : Type 1} → statement M
 tally-span-spec =
@@ -97,11 +91,11 @@ tally-span-spec =
     (tie.spec
     sub-at
     mul-at
+    cast-last
+    cast-dots
     none-requires
     cast-absorb-span
     cast-absorb-span-2
-    cast-absorb-span-3
-    cast-absorb-span-4
     absorb-span-requires
     add-encode
     mul-encode
@@ -118,8 +112,6 @@ tally-span-spec =
     part-absorb-words-end
     cast-absorb-words
     cast-absorb-words-2
-    cast-absorb-words-3
-    cast-absorb-words-4
     absorb-words-requires
     same-length-2
     returns-2)
