@@ -6,6 +6,7 @@ use std::hint::black_box;
 use original::pixel::components::label_8;
 use original::pixel::layout::compare_thin_ruling_pixels;
 
+use super::segments::{scratch_words, MOST_CAPACITY};
 use super::Part;
 use crate::bench::Bench;
 use crate::lent::Words;
@@ -50,13 +51,6 @@ pub fn rust_counts(ink: &[u8], width: usize, run_min: usize, thick_max: usize) -
     [a, b].map(|mask| label_8(&mask, width, height).components.len() as u32)
 }
 
-/// Words of scratch, with document 01's greatest capacity.
-pub const MOST_CAPACITY: u32 = 65_535;
-
-pub fn scratch_words(dots: usize, capacity: u32) -> usize {
-    4 * dots + 16 * capacity as usize + 64
-}
-
 /// What is lent to a cut.
 struct CutLent {
     words: Words,
@@ -67,7 +61,7 @@ struct CutLent {
 fn cut(tally: &mut Tally, lent: &mut CutLent, ink: &[u8], width: usize, limits: [u32; 2], rust: [u32; 2], capacity: u32) {
     let height = ink.len() / width;
     let input = || format!("{}, run and thickness {limits:?}, P {capacity}", shown(ink, width));
-    let needed = scratch_words(ink.len(), capacity);
+    let needed = scratch_words(ink.len(), capacity as usize);
     let (words, counts) = (lent.words.lend(needed + 3), lent.counts.lend(5));
     let [run_min, thick_max] = limits;
     let number = ours::cut_rulings(ink, width as u32, height as u32, run_min, thick_max, capacity, words, counts);
@@ -247,7 +241,7 @@ fn bench_cuts(bench: &mut Bench) {
             _ => (2048, 3072),
         };
         let ink = kind.page(width, height, &mut Random::new());
-        let mut words = vec![1; scratch_words(ink.len(), MOST_CAPACITY)];
+        let mut words = vec![1; scratch_words(ink.len(), MOST_CAPACITY as usize)];
         let mut counts = [1; 2];
         bench.stage(
             "cuts",

@@ -31,7 +31,7 @@ pub const PART: Part = Part {
 /// Document 01's limits of a frame, of P and of lines, and the mark of a glyph without a line.
 const MOST_WIDTH: u32 = 24_574;
 const MOST_HEIGHT: u32 = 16_383;
-const MOST_CAPACITY: u32 = 65_535;
+pub const MOST_CAPACITY: u32 = 65_535;
 const MOST_LINES: usize = 4095;
 const NO_LINE: u32 = 0xFFF;
 
@@ -41,7 +41,7 @@ const RANDOM_PAGES: u32 = 120_000;
 const RANDOM_LEAVES: u32 = 3000;
 
 /// Words of scratch and of results.
-fn scratch_words(dots: usize, capacity: usize) -> usize {
+pub fn scratch_words(dots: usize, capacity: usize) -> usize {
     4 * dots + 16 * capacity + 64
 }
 
