@@ -17,11 +17,7 @@ const TILE: usize = 1024;
 // The dots of a block, and of a piece of one: what is blank is found by its known length, without a loop.
 const BLOCK: usize = 64;
 
-const PIECE: usize = 8;
-
-// A shear that adds more rows than one for so many columns puts neighbouring dots so far apart that a test of each dot costs less than a
-// store of each: measured, no promise goes by it.
-const STEEP: usize = 2;
+const PIECE: usize = 16;
 
 // A page plane moved into the frame, tile by tile.
 pub fn level_by_tiles(
@@ -41,23 +37,10 @@ pub fn level_by_tiles(
     let dots = w * h;
     fill_bytes(&mut out[0..dots], fill);
     let added = h - page_h;
-    let each = added <= page_w / STEEP;
     let mut c = 0;
     while c < page_w {
         let n = tile_columns(page_w - c, added);
-        move_tile(
-            page,
-            fill,
-            page_w,
-            page_h,
-            shear,
-            shear_x,
-            w,
-            c,
-            n,
-            each,
-            out,
-        );
+        move_tile(page, fill, page_w, page_h, shear, shear_x, w, c, n, out);
         c += n;
     }
 }
@@ -83,7 +66,6 @@ fn move_tile(
     w: usize,
     c: usize,
     n: usize,
-    each: bool,
     out: &mut [u8],
 )
     requires { ⌜ PlaneFits (frameOf «page_w» «page_h» (now shear) (now «shear_x») w (length (now «shear_x»))) (now page) (now out) ⌝ ∗ ⌜ c + n ≤ «page_w» ⌝ }
@@ -91,7 +73,7 @@ fn move_tile(
 {
     let mut y = 0;
     while y < page_h {
-        move_part(page, fill, page_w, shear, shear_x, w, y, c, n, each, out);
+        move_part(page, fill, page_w, shear, shear_x, w, y, c, n, out);
         y += 1;
     }
 }
@@ -107,7 +89,6 @@ fn move_part(
     y: usize,
     c: usize,
     n: usize,
-    each: bool,
     out: &mut [u8],
 )
     requires { ⌜ PartFits «page_w» (now shear) (now «shear_x») w (now page) (now out) y c n ⌝ }
@@ -115,7 +96,7 @@ fn move_part(
 {
     let mut i = 0;
     while BLOCK <= n - i {
-        move_block(page, fill, page_w, shear, shear_x, w, y, c + i, each, out);
+        move_block(page, fill, page_w, shear, shear_x, w, y, c + i, out);
         i += BLOCK;
     }
     move_dots(page, fill, page_w, shear, shear_x, w, y, c + i, n - i, out);
@@ -131,7 +112,6 @@ fn move_block(
     w: usize,
     y: usize,
     c: usize,
-    each: bool,
     out: &mut [u8],
 )
     requires { ⌜ PartFits «page_w» (now shear) (now «shear_x») w (now page) (now out) y c 64 ⌝ }
@@ -142,19 +122,7 @@ fn move_block(
     if all_equal(&page[from..to], fill) {
         return;
     }
-    move_pieces(
-        page,
-        fill,
-        page_w,
-        shear,
-        shear_x,
-        w,
-        y,
-        c,
-        BLOCK,
-        each,
-        out,
-    );
+    move_pieces(page, fill, page_w, shear, shear_x, w, y, c, BLOCK, out);
 }
 
 // n dots of page row y, from column c on, piece by piece.
@@ -168,7 +136,6 @@ fn move_pieces(
     y: usize,
     c: usize,
     n: usize,
-    each: bool,
     out: &mut [u8],
 )
     requires { ⌜ PartFits «page_w» (now shear) (now «shear_x») w (now page) (now out) y c n ⌝ }
@@ -176,7 +143,7 @@ fn move_pieces(
 {
     let mut i = 0;
     while PIECE <= n - i {
-        move_piece(page, fill, page_w, shear, shear_x, w, y, c + i, each, out);
+        move_piece(page, fill, page_w, shear, shear_x, w, y, c + i, out);
         i += PIECE;
     }
     move_dots(page, fill, page_w, shear, shear_x, w, y, c + i, n - i, out);
@@ -192,19 +159,14 @@ fn move_piece(
     w: usize,
     y: usize,
     c: usize,
-    each: bool,
     out: &mut [u8],
 )
-    requires { ⌜ PartFits «page_w» (now shear) (now «shear_x») w (now page) (now out) y c 8 ⌝ }
-    ensures { λ _. ⌜ MovesPart «page_w» (now (shear .entry)) (now («shear_x» .entry)) w fill (now (page .entry)) y c 8 (now (out .entry)) (now (out .exit)) ⌝ }
+    requires { ⌜ PartFits «page_w» (now shear) (now «shear_x») w (now page) (now out) y c 16 ⌝ }
+    ensures { λ _. ⌜ MovesPart «page_w» (now (shear .entry)) (now («shear_x» .entry)) w fill (now (page .entry)) y c 16 (now (out .entry)) (now (out .exit)) ⌝ }
 {
     let from = y * page_w + c;
     let to = from + PIECE;
     if all_equal(&page[from..to], fill) {
-        return;
-    }
-    if each {
-        move_each(page, fill, page_w, shear, shear_x, w, y, c, PIECE, out);
         return;
     }
     move_dots(page, fill, page_w, shear, shear_x, w, y, c, PIECE, out);
@@ -236,35 +198,6 @@ fn move_dots(
             let x = column + shear_x[r] as usize;
             out[r * w + x] = dot;
         }
-        i += 1;
-    }
-}
-
-// n dots of page row y, from column c on, each to its place. Which of the dots of a piece are ink is hard to foresee, so that a test of
-// each would cost more than its store.
-fn move_each(
-    page: &[u8],
-    fill: u8,
-    page_w: usize,
-    shear: &[u32],
-    shear_x: &[u32],
-    w: usize,
-    y: usize,
-    c: usize,
-    n: usize,
-    out: &mut [u8],
-)
-    requires { ⌜ PartFits «page_w» (now shear) (now «shear_x») w (now page) (now out) y c n ⌝ }
-    ensures { λ _. ⌜ MovesPart «page_w» (now (shear .entry)) (now («shear_x» .entry)) w fill (now (page .entry)) y c n (now (out .entry)) (now (out .exit)) ⌝ }
-{
-    let from = y * page_w;
-    let mut i = 0;
-    while i < n {
-        let column = c + i;
-        let dot = page[from + column];
-        let r = y + shear[column] as usize;
-        let x = column + shear_x[r] as usize;
-        out[r * w + x] = dot;
         i += 1;
     }
 }

@@ -11,10 +11,10 @@ use Rattle.levelling.proofs.tiles.level_by_tiles.Statement.{statement}
 use Rattle.levelling.proofs.tiles.level_by_tiles.Tie as tie
 
 abbrev Inv-loop : tie.InvT-loop
-Inv-loop page fill page-w page-h shear shear-x w h out₀ dots added each c₀ out c = (c ≤ page-w) × Tiled (frameOf page-w page-h shear shear-x w (length shear-x)) fill page out₀ out c × (length out ≡ length out₀)
+Inv-loop page fill page-w page-h shear shear-x w h out₀ dots added c₀ out c = (c ≤ page-w) × Tiled (frameOf page-w page-h shear shear-x w (length shear-x)) fill page out₀ out c × (length out ≡ length out₀)
 
 abbrev μ-loop : tie.MeasureT-loop
-μ-loop page fill page-w page-h shear shear-x w h out₀ dots added each c₀ out c = page-w - c
+μ-loop page fill page-w page-h shear shear-x w h out₀ dots added c₀ out c = page-w - c
 
 mul-dots : tie.Need-mul-dots Inv-loop μ-loop
 mul-dots c = omega arith

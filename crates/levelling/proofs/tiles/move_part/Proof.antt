@@ -9,10 +9,10 @@ use Rattle.levelling.proofs.tiles.move_part.Statement.{statement}
 use Rattle.levelling.proofs.tiles.move_part.Tie as tie
 
 abbrev Inv-loop : tie.InvT-loop
-Inv-loop page fill page-w shear shear-x w y c n each out₀ i₀ out i = (i ≤ n) × MovesPart page-w shear shear-x w fill page y c i out₀ out × (length out ≡ length out₀)
+Inv-loop page fill page-w shear shear-x w y c n out₀ i₀ out i = (i ≤ n) × MovesPart page-w shear shear-x w fill page y c i out₀ out × (length out ≡ length out₀)
 
 abbrev μ-loop : tie.MeasureT-loop
-μ-loop page fill page-w shear shear-x w y c n each out₀ i₀ out i = n - i
+μ-loop page fill page-w shear shear-x w y c n out₀ i₀ out i = n - i
 
 loop-holds : tie.Need-loop-holds Inv-loop μ-loop
 loop-holds c = let a = c .before .before .before .before .args in

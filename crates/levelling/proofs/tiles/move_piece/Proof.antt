@@ -34,26 +34,17 @@ returns c = let e = c .before in
     let a = q .args in
     λ page-h done s ly fits b.
     b
-    ∙ part-skipped (a .page-w) page-h (a .shear .now) (a .shear-x .now) (a .w) (length (a .shear-x .now)) (a .fill) (a .page .now) (a .out .now) fits done s (a .y) (a .c) 8 ly (omega (arith, q .pre .columns, fits .columns))
-    (part-all (a .page .now) (a .fill) (a .y * a .page-w) (a .c) 8 (omega (arith, q .pre .dots)) (e .all-equal .ensures (c .if1 .taken)))
+    ∙ part-skipped (a .page-w) page-h (a .shear .now) (a .shear-x .now) (a .w) (length (a .shear-x .now)) (a .fill) (a .page .now) (a .out .now) fits done s (a .y) (a .c) 16 ly (omega (arith, q .pre .columns, fits .columns))
+    (part-all (a .page .now) (a .fill) (a .y * a .page-w) (a .c) 16 (omega (arith, q .pre .dots)) (e .all-equal .ensures (c .if1 .taken)))
 
-move-each-requires : tie.Need-move-each-requires
-move-each-requires c κs = search needs
+move-dots-requires : tie.Need-move-dots-requires
+move-dots-requires c κs = search needs
 
 same-length : tie.Need-same-length
 same-length c = search needs
 
 returns-2 : tie.Need-returns-2
-returns-2 c = c .before .before .move-each .ensures
-
-move-dots-requires : tie.Need-move-dots-requires
-move-dots-requires c κs = search needs
-
-same-length-2 : tie.Need-same-length-2
-same-length-2 c = search needs
-
-returns-3 : tie.Need-returns-3
-returns-3 c = c .before .before .move-dots .ensures
+returns-2 c = c .before .before .move-dots .ensures
 
 pub move-piece-spec : {M : Type 1} → statement M
 move-piece-spec =
@@ -67,9 +58,6 @@ move-piece-spec =
     part-all-equal-end
     all-equal-requires
     returns
-    move-each-requires
-    same-length
-    returns-2
     move-dots-requires
-    same-length-2
-    returns-3)
+    same-length
+    returns-2)

@@ -9,10 +9,10 @@ use Rattle.levelling.proofs.tiles.move_pieces.Statement.{statement}
 use Rattle.levelling.proofs.tiles.move_pieces.Tie as tie
 
 abbrev Inv-loop : tie.InvT-loop
-Inv-loop page fill page-w shear shear-x w y c n each out₀ i₀ out i = (i ≤ n) × MovesPart page-w shear shear-x w fill page y c i out₀ out × (length out ≡ length out₀)
+Inv-loop page fill page-w shear shear-x w y c n out₀ i₀ out i = (i ≤ n) × MovesPart page-w shear shear-x w fill page y c i out₀ out × (length out ≡ length out₀)
 
 abbrev μ-loop : tie.MeasureT-loop
-μ-loop page fill page-w shear shear-x w y c n each out₀ i₀ out i = n - i
+μ-loop page fill page-w shear shear-x w y c n out₀ i₀ out i = n - i
 
 loop-holds : tie.Need-loop-holds Inv-loop μ-loop
 loop-holds c = let a = c .before .before .before .before .args in
@@ -50,7 +50,7 @@ loop-again c = let g = c .before .before in
           g .move-piece .ensures page-h (orRange done (a .y * a .page-w + a .c) (a .y * a .page-w + a .c + p .loop .i)) s ly
           (fits-again (a .page-w) page-h (a .shear .now) (a .shear-x .now) (a .w) (length (a .shear-x .now)) (a .page .now) (a .out .now) (p .loop .out) fits (p .loop .inv .2))
           (p .loop .inv .1 page-h done s ly fits e)
-          ∙ part-joined (a .page-w) page-h (a .shear .now) (a .shear-x .now) (a .w) (length (a .shear-x .now)) (a .fill) (a .page .now) (a .out .now) fits done s (a .y) (a .c) (p .loop .i) 8,
+          ∙ part-joined (a .page-w) page-h (a .shear .now) (a .shear-x .now) (a .w) (length (a .shear-x .now)) (a .fill) (a .page .now) (a .out .now) fits done s (a .y) (a .c) (p .loop .i) 16,
       omega arith,
     )
 

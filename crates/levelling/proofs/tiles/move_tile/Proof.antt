@@ -12,13 +12,13 @@ use Rattle.levelling.proofs.tiles.move_tile.Statement.{statement}
 use Rattle.levelling.proofs.tiles.move_tile.Tie as tie
 
 abbrev Inv-loop : tie.InvT-loop
-Inv-loop page fill page-w page-h shear shear-x w c n each out₀ y₀ out y =
+Inv-loop page fill page-w page-h shear shear-x w c n out₀ y₀ out y =
     (y ≤ page-h)
     × ((done : ℕ → Bool) (s : List ℕ) → out₀ ≡ partly (frameOf page-w page-h shear shear-x w (length shear-x)) fill page done s → out ≡ partly (frameOf page-w page-h shear shear-x w (length shear-x)) fill page (orRows done page-w c n y) s)
     × (length out ≡ length out₀)
 
 abbrev μ-loop : tie.MeasureT-loop
-μ-loop page fill page-w page-h shear shear-x w c n each out₀ y₀ out y = page-h - y
+μ-loop page fill page-w page-h shear shear-x w c n out₀ y₀ out y = page-h - y
 
 loop-holds : tie.Need-loop-holds Inv-loop μ-loop
 loop-holds c = (zero-le, (λ done s e. unfold orRows in e), refl)
