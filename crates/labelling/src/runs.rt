@@ -91,17 +91,24 @@ fn write_turns(told: &[u8], first: usize, words: &mut [u32], at: usize) -> usize
     k
 }
 
-// The same for a block of 32 dots, which has no turns where its dots are all as the one before.
-fn scan_block(row: &[u8], from: usize, base: usize, words: &mut [u32], at: usize) -> usize
-    requires { ⌜ ScanRoom (now row) from (from + 32) base (now words) at ⌝ }
+// The same for a block of 32 dots, which has no turns where its dots are all as the one before. What is told of them stands in memory that
+// is lent for it, so that the compiler does not take it apart dot by dot.
+fn scan_block(
+    row: &[u8],
+    from: usize,
+    base: usize,
+    words: &mut [u32],
+    at: usize,
+    told: &mut [u8],
+) -> usize
+    requires { ⌜ ScanRoom (now row) from (from + 32) base (now words) at ⌝ ∗ ⌜ length (now told) ≡ 32 ⌝ }
     ensures { λ r. ⌜ Scanned (now (row .entry)) from (from + 32) base (now (words .entry)) (now (words .exit)) at r ⌝ }
 {
     let to = from + BLOCK;
     if ink_count(&row[from..to]) as usize == BLOCK * (at % 2) {
         return at;
     }
-    let mut told = [0; 32];
-    tell_turns(&row[from..to], (at % 2) as u8, &mut told[..]);
+    tell_turns(&row[from..to], (at % 2) as u8, told);
     write_turns(&told[..], base + from, words, at)
 }
 
@@ -113,43 +120,51 @@ fn scan_blocks(
     base: usize,
     words: &mut [u32],
     at: usize,
+    told: &mut [u8],
 ) -> usize
-    requires { ⌜ ScanRoom (now row) from to base (now words) at ⌝ }
+    requires { ⌜ ScanRoom (now row) from to base (now words) at ⌝ ∗ ⌜ length (now told) ≡ 32 ⌝ }
     ensures { λ r. ⌜ Scanned (now (row .entry)) from to base (now (words .entry)) (now (words .exit)) at r ⌝ }
 {
     let mut k = at;
     let mut x = from;
     while BLOCK <= to - x {
-        k = scan_block(row, x, base, words, k);
+        k = scan_block(row, x, base, words, k, told);
         x += BLOCK;
     }
     scan(row, x, to, base, words, k)
 }
 
 // The same for a stretch of 128 dots. On a page that is mostly blank one count is quicker than four.
-fn scan_stretch(row: &[u8], from: usize, base: usize, words: &mut [u32], at: usize) -> usize
-    requires { ⌜ ScanRoom (now row) from (from + 128) base (now words) at ⌝ }
+fn scan_stretch(
+    row: &[u8],
+    from: usize,
+    base: usize,
+    words: &mut [u32],
+    at: usize,
+    told: &mut [u8],
+) -> usize
+    requires { ⌜ ScanRoom (now row) from (from + 128) base (now words) at ⌝ ∗ ⌜ length (now told) ≡ 32 ⌝ }
     ensures { λ r. ⌜ Scanned (now (row .entry)) from (from + 128) base (now (words .entry)) (now (words .exit)) at r ⌝ }
 {
     let to = from + STRETCH;
     if ink_count(&row[from..to]) as usize == STRETCH * (at % 2) {
         return at;
     }
-    scan_blocks(row, from, to, base, words, at)
+    scan_blocks(row, from, to, base, words, at, told)
 }
 
 // Writes the turns of a row whose first dot is `base` to the words from `at` on, and answers where they end.
-fn extract_row(row: &[u8], base: usize, words: &mut [u32], at: usize) -> usize
-    requires { ⌜ RowRoom (now row) base (now words) at ⌝ }
+fn extract_row(row: &[u8], base: usize, words: &mut [u32], at: usize, told: &mut [u8]) -> usize
+    requires { ⌜ RowRoom (now row) base (now words) at ⌝ ∗ ⌜ length (now told) ≡ 32 ⌝ }
     ensures { λ r. ⌜ RowExtracted (now (row .entry)) base (now (words .entry)) (now (words .exit)) at r ⌝ }
 {
     let mut k = at;
     let mut x = 0;
     while STRETCH <= row.len() - x {
-        k = scan_stretch(row, x, base, words, k);
+        k = scan_stretch(row, x, base, words, k, told);
         x += STRETCH;
     }
-    k = scan_blocks(row, x, row.len(), base, words, k);
+    k = scan_blocks(row, x, row.len(), base, words, k, told);
     if k % 2 == 0 {
         return k;
     }
@@ -162,12 +177,13 @@ pub fn extract_runs(mask: &[u8], w: usize, h: usize, words: &mut [u32]) -> usize
     requires { ⌜ PlaneRoom w h (now mask) (now words) ⌝ }
     ensures { λ r. ⌜ Extracted w h (now (mask .entry)) (now (words .entry)) (now (words .exit)) r ⌝ }
 {
+    let mut told = [0; 32];
     let mut k = 0;
     let mut base = 0;
     let mut y = 0;
     while y < h {
         let end = base + w;
-        k = extract_row(&mask[base..end], base, words, k);
+        k = extract_row(&mask[base..end], base, words, k, &mut told[..]);
         base = end;
         y += 1;
     }

@@ -245,6 +245,7 @@ fn ink_after(ink: &[u8], g: Sweep, i: usize, o: usize, most: usize) -> usize
     n
 }
 
+// The smaller of two numbers.
 fn smaller(a: usize, b: usize) -> usize
     ensures { λ r. ⌜ r ≡ min a b ⌝ }
 {

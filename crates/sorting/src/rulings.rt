@@ -1,5 +1,5 @@
-// Thin rulings: the dots of long thin runs along rows and columns (layout.rs, thin_ruling_pixels). Rows and columns are walked
-// alike: lines of places, with a step along the line and a step across it.
+// Thin rulings: the dots of long thin runs along rows and columns (layout.rs, thin_ruling_pixels). Rows and columns are lines of
+// places alike, with a step along the line and a step across it. Here lines are walked one by one; the columns are in columns.rt.
 ghost use mathlib.Core.Path.{_≡_};
 ghost use mathlib.Core.Bool.{cond, true, false};
 ghost use Prim.Native.Nat.{ℕ, _+_, _*_, _≤_, _<_};

@@ -1,10 +1,10 @@
-use borrow.Author.Needs.{needs}
 use mathlib.Core.Path.{ap, _∙_}
 use Prim.Native.Nat.{_+_, _-_, _%_}
 use lib.ListN.{take, drop}
 use Rattle.memory.specs.Lists.{countIf}
 use Rattle.labelling.specs.Labels.{isInk}
 use Rattle.labelling.proofs.ExtractLaws.{block-still, block-told, told-room, block-long}
+use borrow.Author.Needs.{needs}
 use Rattle.labelling.proofs.runs.scan_block.Statement.{statement}
 use Rattle.labelling.proofs.runs.scan_block.Tie as tie
 
@@ -30,7 +30,7 @@ mul-if1 : tie.Need-mul-if1
 mul-if1 c = search needs
 
 returns : tie.Need-returns
-returns c = block-still 32 ((c .before .before .before .before .before) .args .row .now) ((c .before .before .before .before .before) .args .from) ((c .before .before .before .before .before) .args .base) ((c .before .before .before .before .before) .args .words .now) ((c .before .before .before .before .before) .args .at) ((c .before .ink-count) .result) ((c .before .before .before .before .before) .pre) ((c .before .ink-count) .ensures ∙ ap (countIf (isInk (take ((c .before .before .before .before .before) .args .from + 32 - (c .before .before .before .before .before) .args .from) (drop ((c .before .before .before .before .before) .args .from) ((c .before .before .before .before .before) .args .row .now))))) (block-long 32 ((c .before .before .before .before .before) .args .row .now) ((c .before .before .before .before .before) .args .from) ((c .before .before .before .before .before) .pre .high))) ((c .if1) .taken)
+returns c = block-still 32 (c .before .before .before .before .before .before .args .row .now) (c .before .before .before .before .before .before .args .from) (c .before .before .before .before .before .before .args .base) (c .before .before .before .before .before .before .args .words .now) (c .before .before .before .before .before .before .args .at) (c .before .ink-count .result) (c .before .before .before .before .before .before .pre .0) (c .before .ink-count .ensures ∙ ap (countIf (isInk (take (c .before .before .before .before .before .before .args .from + 32 - c .before .before .before .before .before .before .args .from) (drop (c .before .before .before .before .before .before .args .from) (c .before .before .before .before .before .before .args .row .now))))) (block-long 32 (c .before .before .before .before .before .before .args .row .now) (c .before .before .before .before .before .before .args .from) (c .before .before .before .before .before .before .pre .0 .high))) (c .if1 .taken)
 
 sub-tell-turns : tie.Need-sub-tell-turns
 sub-tell-turns c = search needs
@@ -44,26 +44,23 @@ part-tell-turns-end c = search needs
 cast-tell-turns : tie.Need-cast-tell-turns
 cast-tell-turns c = search needs
 
-slice-aggregate-tell-turns : tie.Need-slice-aggregate-tell-turns
-slice-aggregate-tell-turns c = search needs
-
 tell-turns-requires : tie.Need-tell-turns-requires
 tell-turns-requires c κs = search needs
-
-slice-aggregate-write-turns : tie.Need-slice-aggregate-write-turns
-slice-aggregate-write-turns c = search needs
 
 add-write-turns : tie.Need-add-write-turns
 add-write-turns c = search needs
 
 write-turns-requires : tie.Need-write-turns-requires
-write-turns-requires c κs = told-room ((c .before .before .before .before .before .before .before .before .before .before .before) .args .row .now) ((c .before .before .before .before .before .before .before .before .before .before .before) .args .from) ((c .before .before .before .before .before .before .before .before .before .before .before) .args .base) ((c .before .before .before .tell-turns) .last .1 .1 .0) ((c .before .before .before .before .before .before .before .before .before .before .before) .args .words .now) ((c .before .before .before .before .before .before .before .before .before .before .before) .args .at) ((c .before .before .before .before .before .before .before .before .before .before .before) .args .at % 2) (take ((c .before .before .before .before .before .before .before .before .before .before .before) .args .from + 32 - (c .before .before .before .before .before .before .before .before .before .before .before) .args .from) (drop ((c .before .before .before .before .before .before .before .before .before .before .before) .args .from) ((c .before .before .before .before .before .before .before .before .before .before .before) .args .row .now))) ((c .before .before .before .before .before .before .before .before .before .before .before) .pre) ((c .before .before .before .tell-turns) .ensures)
+write-turns-requires c κs = told-room (c .before .before .before .before .before .before .before .before .before .before .before .before .before .args .row .now) (c .before .before .before .before .before .before .before .before .before .before .before .before .before .args .from) (c .before .before .before .before .before .before .before .before .before .before .before .before .before .args .base) (c .before .before .before .before .tell-turns .last .1 .1 .0) (c .before .before .before .before .before .before .before .before .before .before .before .before .before .args .words .now) (c .before .before .before .before .before .before .before .before .before .before .before .before .before .args .at) (c .before .before .before .before .before .before .before .before .before .before .before .before .before .args .at % 2) (take (c .before .before .before .before .before .before .before .before .before .before .before .before .before .args .from + 32 - c .before .before .before .before .before .before .before .before .before .before .before .before .before .args .from) (drop (c .before .before .before .before .before .before .before .before .before .before .before .before .before .args .from) (c .before .before .before .before .before .before .before .before .before .before .before .before .before .args .row .now))) (c .before .before .before .before .before .before .before .before .before .before .before .before .before .pre .0) (c .before .before .before .before .tell-turns .ensures)
 
 same-length : tie.Need-same-length
 same-length c = search needs
 
+same-length-2 : tie.Need-same-length-2
+same-length-2 c = search needs
+
 returns-2 : tie.Need-returns-2
-returns-2 c = block-told ((c .before .before .before .before .before .before .before .before .before .before .before .before .before .before) .args .row .now) ((c .before .before .before .before .before .before .before .before .before .before .before .before .before .before) .args .from) ((c .before .before .before .before .before .before .before .before .before .before .before .before .before .before) .args .base) ((c .before .before .before .before .before .before .tell-turns) .last .1 .1 .0) ((c .before .before .before .before .before .before .before .before .before .before .before .before .before .before) .args .words .now) ((c .before .before .write-turns) .last .1 .1 .0) ((c .before .before .before .before .before .before .before .before .before .before .before .before .before .before) .args .at) ((c .before .before .write-turns) .result) ((c .before .before .before .before .before .before .before .before .before .before .before .before .before .before) .pre) ((c .before .before .before .before .before .before .tell-turns) .ensures) ((c .before .before .write-turns) .ensures)
+returns-2 c = block-told (c .before .before .before .before .before .before .before .before .before .before .before .before .before .before .before .before .args .row .now) (c .before .before .before .before .before .before .before .before .before .before .before .before .before .before .before .before .args .from) (c .before .before .before .before .before .before .before .before .before .before .before .before .before .before .before .before .args .base) (c .before .before .before .before .before .before .before .tell-turns .last .1 .1 .0) (c .before .before .before .before .before .before .before .before .before .before .before .before .before .before .before .before .args .words .now) (c .before .before .write-turns .last .1 .1 .0) (c .before .before .before .before .before .before .before .before .before .before .before .before .before .before .before .before .args .at) (c .before .before .write-turns .result) (c .before .before .before .before .before .before .before .before .before .before .before .before .before .before .before .before .pre .0) (c .before .before .before .before .before .before .before .tell-turns .ensures) (c .before .before .write-turns .ensures)
 
 pub scan-block-spec : {M : Type 1} → statement M
 scan-block-spec =
@@ -81,10 +78,9 @@ scan-block-spec =
     part-tell-turns-start
     part-tell-turns-end
     cast-tell-turns
-    slice-aggregate-tell-turns
     tell-turns-requires
-    slice-aggregate-write-turns
     add-write-turns
     write-turns-requires
     same-length
+    same-length-2
     returns-2)
