@@ -1,19 +1,18 @@
 -- A whole segmentation at the boundary: which number a call is refused with, what a passed chain says, and what the call leaves. Assumes nothing.
 use mathlib.Core.Path.{_≡_, refl, sym, ap, _∙_, subst}
 use mathlib.Core.List.{List, [], _∷_, _++_}
-use mathlib.Core.Bool.{Bool, true, false, not}
+use mathlib.Core.Bool.{true, not}
 use Prim.Native.Nat.{ℕ, suc, _+_, _*_, _≤_, _<_}
-use native.Mathlib.Nat.{le-refl, le-trans, mul-le-mul-left, mul-le-mul-right}
+use native.Mathlib.Nat.{le-refl, le-trans}
 use native.Mathlib.Omega.{arith}
-use borrow.Author.Tests.{ltb-false, leb-true, eqb-true, eqb-false, not-false, ne-eqb}
-use lib.Dec.{eqb, ltb, leb}
+use borrow.Author.Tests.{ltb-false, leb-true, not-false, ne-eqb}
+use lib.Dec.{ltb, leb}
 use lib.Ieee.{Float}
 use lib.ListN.{length, getD, set, take, drop, length-append, length-drop, length-set}
 use lib.Seq.{drop-at, length-take-le}
 use Rattle.memory.specs.Floats.{withFloat}
 use Rattle.memory.specs.Limits.{maxFrameWidth, maxFrameHeight, maxCapacity, scratchWords}
 use Rattle.memory.specs.Lists.{table, greatest}
-use Rattle.memory.specs.Refusals.{refuseIf}
 use Rattle.memory.specs.Words.{over}
 use Rattle.memory.proofs.CountLaws.{list-is-table}
 use Rattle.memory.proofs.RefusalLaws.{refusal-passed}
@@ -31,7 +30,7 @@ use Rattle.segmenting.specs.Results.{resultWords}
 use Rattle.segmenting.specs.declared.results.Segmentation.{Segmentation}
 use Rattle.segmenting.specs.declared.page.SegmentAnswer.{SegmentAnswer}
 use Rattle.boundary.proofs.FrameLaws.{passes-none, passes-if, frame-pass, room-pass, frame-good, room-good}
-use Rattle.boundary.specs.Pages.{isMask, planeRefusal, lentRefusal, pageRefusal, figuresLength, measuredWord, figureWords, figuresLeft, left, leftWith, paged}
+use Rattle.boundary.specs.Pages.{isMask, planeRefusal, lentRefusal, figuresLength, measuredWord, figureWords, figuresLeft, left, leftWith, paged}
 
 -- The bytes
 

@@ -28,10 +28,10 @@ use Rattle.sorting.specs.Sortings.{SortHeld}
 use Rattle.sorting.specs.Units.{unitValue}
 use Rattle.sorting.specs.declared.Unit.{Unit}
 use Rattle.sorting.specs.declared.sort.Sorting.{Sorting}
-use Rattle.boundary.specs.Frames.{roomRefusal, told}
+use Rattle.boundary.specs.Frames.{told}
 use Rattle.boundary.specs.Pages.{planeRefusal, measuredWord}
 use Rattle.boundary.specs.SortedPages.{sortFigures, sortLent, sortMany, sortWords, sortedWords, sortedPage}
-use Rattle.boundary.proofs.FrameLaws.{passes-none, passes-if, room-pass, RoomGood, room-good, told-refused, told-many, told-done}
+use Rattle.boundary.proofs.FrameLaws.{passes-none, passes-if, room-pass, room-good, told-refused, told-many, told-done}
 use Rattle.boundary.proofs.PageLaws.{PlaneGood, plane-pass, plane-good, stores, stores-over}
 
 -- The figures

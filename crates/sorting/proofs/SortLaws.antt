@@ -1,6 +1,6 @@
 -- Sorting, stage by stage: what each labelling leaves for those after it, up to the plane sorted.
 use mathlib.Core.Path.{_≡_, refl, sym, ap, _∙_, subst}
-use mathlib.Core.List.{List, [], _∷_, map}
+use mathlib.Core.List.{List, map}
 use Prim.Native.Nat.{ℕ, _+_, _-_, _*_, _≤_, _<_, min}
 use native.Mathlib.Omega.{arith}
 use lib.Ieee.{Float}
@@ -20,7 +20,7 @@ use Rattle.labelling.specs.declared.marked.Test.{Test}
 use Rattle.labelling.specs.declared.marked.Test.the-variants.{First, Second, Neither}
 use Rattle.labelling.proofs.CountLaws.{count-low}
 use Rattle.params.specs.declared.LayoutParams.{LayoutParams}
-use Rattle.sorting.specs.Rulings.{runMin, thickMax, cutHorizontal, cutVertical, afterCut, cutMark}
+use Rattle.sorting.specs.Rulings.{runMin, thickMax, cutHorizontal, cutVertical, cutMark}
 use Rattle.sorting.specs.Units.{unitOf, unitValue}
 use Rattle.sorting.specs.Kinds.{kindOf}
 use Rattle.sorting.specs.Sorted.{sorted}
