@@ -5,17 +5,16 @@ use mathlib.Core.Bool.{Bool, true, false, cond, _&&_}
 use Prim.Native.Nat.{ℕ, zero, suc, _+_, _-_, _*_, _/_, _%_, _≤_, _<_}
 use native.Mathlib.Nat.{le-refl, not-suc-le-zero, suc-mul, mul-comm, mod-eq-of-lt, mod-self, mul-mod-left, mul-add-mod-self-right, mul-le-mul-right, mul-left-comm, mul-one, mul-zero}
 use native.Mathlib.Numerals.{add-one}
-use native.Mathlib.Decide.{ℕ-discrete, decLt}
+use native.Mathlib.Decide.{ℕ-discrete}
 use native.Mathlib.Omega.{arith}
 use borrow.Author.Tests.{eq-eqb, ne-eqb, lt-ltb, le-ltb}
 use lib.ListN.{getD, length, set, take, drop, length-set, length-map, length-append, length-drop}
-use lib.Seq.{getD-take, getD-drop, getD-set-same, getD-set-other, ext-getD, length-take-le}
+use lib.Seq.{getD-take, getD-drop, length-take-le}
 use lib.Dec.{eqb, ltb}
-use Rattle.memory.specs.Lists.{countIf, table}
-use Rattle.memory.proofs.TableLaws.{length-table, getD-table}
+use Rattle.memory.specs.Lists.{countIf}
 use Rattle.labelling.specs.Labels.{isInk}
 use Rattle.labelling.specs.InkRuns.{inkBefore, differ, appendIf, turns, runCount}
-use Rattle.labelling.specs.Extraction.{rowTurns, RowRoom, RowScan, ScanRoom, Scanned, inkBit, bitBefore, turnBit, TurnRoom, TurnsWritten, RowExtracted, PlaneRoom, Extracted}
+use Rattle.labelling.specs.Extraction.{rowTurns, RowRoom, RowScan, ScanRoom, Scanned, RowExtracted, PlaneRoom, Extracted}
 use Rattle.labelling.proofs.CountLaws.{count-zero, count-full}
 use Rattle.labelling.proofs.TurnLaws.{bit, scanned}
 use Rattle.labelling.proofs.ScanLaws.{turns-still, append-step, turns-inner, turns-last, inkBefore-inner, turns-room, turns-fit}
@@ -322,111 +321,6 @@ module _ {row : List ℕ} {from to base : ℕ} {s₀ s : List ℕ} {at k before 
             subst (λ z. RowScan row base s₁ s start k (k % 2) z) (let h = S .high in let e : x ≡ to = omega arith in e)
             (subst (λ z. RowScan row base s₁ s start k z x) (sym (scan-parity Q)) Q);
       }
-
--- the first i dots of a block are read, whatever row's dots were told so
-pub record TurnSweep (told : List ℕ) (first : ℕ) (s₀ s : List ℕ) (at k i : ℕ) : Type 0 where
-  pub len : length s ≡ length s₀
-  pub upto : i ≤ 32
-  pub short : k ≤ at + i
-  pub read : (row : List ℕ) (from base : ℕ) → first ≡ base + from → told ≡ table (turnBit (at % 2) (take 32 (drop from row))) 32
-      → ScanRoom row from (from + 32) base s₀ at → ScanSweep row from (from + 32) base s₀ s at k (bitBefore (at % 2) (take 32 (drop from row)) i) (from + i)
-
-pub turns-none : (told : List ℕ) (first : ℕ) (s : List ℕ) (at : ℕ) → TurnSweep told first s s at at 0
-turns-none told first s at =
-    record {
-      len = refl;
-      upto = omega arith;
-      short = omega arith;
-      read = λ row from base e t A. subst (λ z. ScanSweep row from (from + 32) base s s at at (at % 2) z) (let q : from ≡ from + 0 = omega arith in q) (sweep-none A);
-    }
-
-module _ {told : List ℕ} {first : ℕ} {s₀ s : List ℕ} {at k i : ℕ} (S : TurnSweep told first s₀ s at k i) where
-  pub turns-more : i < 32 → ((j : ℕ) → j < 32 → getD told j 0 ≤ 1) → TurnSweep told first s₀ (set s k (first + i)) at (k + getD told i 0) (i + 1)
-  turns-more l bits =
-      record {
-        len = length-set s k (first + i) ∙ S .len;
-        upto = omega arith;
-        short = let b = S .short in let t = bits i l in omega arith;
-        read = λ row from base e t A.
-            let block = take 32 (drop from row) in
-            let Q = S .read row from base e t A in
-            let here = inkBit block i in
-            let eh : here ≡ inkBit row (from + i) = ap (λ z. cond (eqb z 0) 0 1) (getD-take 32 (drop from row) i 0 l ∙ getD-drop from row i 0) in
-            let et : getD told i 0 ≡ turnBit (at % 2) block i = ap (λ z. getD z i 0) t ∙ getD-table (turnBit (at % 2) block) 32 i 0 l in
-            let N = sweep-more Q (omega arith) here (getD told i 0) eh et in
-            subst (λ z. ScanSweep row from (from + 32) base s₀ (set s k z) at (k + getD told i 0) (bitBefore (at % 2) block (i + 1)) (from + (i + 1))) (let q : base + (from + i) ≡ first + i = omega arith in q)
-            (subst (λ z. ScanSweep row from (from + 32) base s₀ (set s k (base + (from + i))) at (k + getD told i 0) (bitBefore (at % 2) block (i + 1)) z) (let q : from + i + 1 ≡ from + (i + 1) = omega arith in q)
-            (subst (λ z. ScanSweep row from (from + 32) base s₀ (set s k (base + (from + i))) at (k + getD told i 0) z (from + i + 1)) (sym (bit-next (at % 2) block i)) N));
-      }
-    where
-      bit-next : (before : ℕ) (block : List ℕ) (i : ℕ) → bitBefore before block (i + 1) ≡ inkBit block i
-      bit-next before block i = rw (ne-eqb (i + 1) 0 (λ e. omega arith)) (ap (inkBit block) (let q : i + 1 - 1 ≡ i = omega arith in q))
-
-  pub turns-done : 32 ≤ i → TurnsWritten told first s₀ s at k
-  turns-done l =
-      record {
-        len = S .len;
-        read = λ row from base e t A. sweep-done (S .read row from base e t A) (omega arith);
-      }
-
--- a block whose dots are told is read
-pub block-told : (row : List ℕ) (from base : ℕ) (told s s' : List ℕ) (at r : ℕ) → ScanRoom row from (from + 32) base s at
-    → told ≡ table (turnBit (at % 2) (take (from + 32 - from) (drop from row))) 32 → TurnsWritten told (base + from) s s' at r → Scanned row from (from + 32) base s s' at r
-block-told row from base told s s' at r A t X =
-    X .read row from base refl (t ∙ ap (λ z. table (turnBit (at % 2) (take z (drop from row))) 32) (let q : from + 32 - from ≡ 32 = omega arith in q)) A
-
--- the first i dots of a block are told
-pub record Told (f : ℕ → ℕ) (told : List ℕ) (i : ℕ) : Type 0 where
-  pub len : length told ≡ 32
-  pub upto : i ≤ 32
-  pub each : (j : ℕ) → j < i → getD told j 0 ≡ f j
-
-told-put : (f : ℕ → ℕ) (told : List ℕ) (i v : ℕ) → Told f told i → i < 32 → v ≡ f i → Told f (set told i v) (i + 1)
-told-put f told i v S l e =
-    record {
-      len = length-set told i v ∙ S .len;
-      upto = omega arith;
-      each = λ j h. at j h (ℕ-discrete j i);
-    }
-  where
-    at : (j : ℕ) → j < i + 1 → Dec (j ≡ i) → getD (set told i v) j 0 ≡ f j
-    at j h (yes q) = ap (λ z. getD (set told i v) z 0) q ∙ (getD-set-same told i v 0 (let n = S .len in omega arith) ∙ (e ∙ ap f (sym q)))
-    at j h (no q) = getD-set-other told i j v 0 q ∙ S .each j (omega arith)
-
-pub told-first : (before : ℕ) (block told : List ℕ) (here turn : ℕ) → length told ≡ 32 → here ≡ inkBit block 0 → turn ≡ cond (eqb before here) 0 1 → Told (turnBit before block) (set told 0 turn) 1
-told-first before block told here turn n eh et = told-put (turnBit before block) told 0 turn (record { len = n; upto = omega arith; each = λ j h. absurd (omega arith) }) (omega arith) (et ∙ ap (λ z. cond (eqb before z) 0 1) eh)
-
-pub told-more : (before : ℕ) (block : List ℕ) {told : List ℕ} {i : ℕ} (prior here turn : ℕ) → Told (turnBit before block) told i → 0 < i → i < 32
-    → prior ≡ inkBit block (i - 1) → here ≡ inkBit block i → turn ≡ cond (eqb prior here) 0 1 → Told (turnBit before block) (set told i turn) (i + 1)
-told-more before block {told} {i} prior here turn S p l ep eh et =
-    told-put (turnBit before block) told i turn S l
-    (et ∙ (ap (λ z. cond (eqb z here) 0 1) (ep ∙ sym before-is) ∙ ap (λ z. cond (eqb (bitBefore before block i) z) 0 1) eh))
-  where
-    before-is : bitBefore before block i ≡ inkBit block (i - 1)
-    before-is = rw (ne-eqb i 0 (λ e. omega arith)) refl
-
-pub told-whole : {f : ℕ → ℕ} {told : List ℕ} {i : ℕ} → Told f told i → 32 ≤ i → told ≡ table f 32
-told-whole {f} {told} {i} S l =
-    let n = length-table f 32 in
-    let m = S .len in
-    let u = S .upto in
-    ext-getD 0 told (table f 32) (m ∙ sym n) (λ j h. S .each j (omega arith) ∙ sym (getD-table f 32 j 0 (omega arith)))
-
--- each dot is told 0 or 1
-pub told-small : (before : ℕ) (block : List ℕ) (i : ℕ) → i < 32 → getD (table (turnBit before block) 32) i 0 ≤ 1
-told-small before block i l = let e = getD-table (turnBit before block) 32 i 0 l in let t = turn-small (eqb (bitBefore before block i) (inkBit block i)) in omega arith
-
--- a block whose dots are told has room for its turns
-pub told-room : (row : List ℕ) (from base : ℕ) (told s : List ℕ) (at before : ℕ) (block : List ℕ) → ScanRoom row from (from + 32) base s at → told ≡ table (turnBit before block) 32 → TurnRoom told (base + from) s at
-told-room row from base told s at before block A t =
-    let d = A .dots in
-    let r = A .room in
-    record {
-      block = ap length t ∙ length-table (turnBit before block) 32;
-      bits = λ i l. let e = ap (λ z. getD z i 0) t in let b = told-small before block i l in omega arith;
-      dots = omega arith;
-      room = omega arith;
-    }
 
 -- dots read by a callee
 module _ {row : List ℕ} {from to base : ℕ} {s₀ s : List ℕ} {at k x : ℕ} (S : ScanSweep row from to base s₀ s at k (k % 2) x) (upto : ℕ) (l : x ≤ upto) (h : upto ≤ to) where

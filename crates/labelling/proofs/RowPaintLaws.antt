@@ -1,9 +1,8 @@
 -- Labels painted and components tallied span by span, and row by row.
-use mathlib.Core.Path.{_≡_, sym, ap, _∙_, subst}
+use mathlib.Core.Path.{_≡_, refl, sym, ap, _∙_, subst}
 use mathlib.Core.List.{List}
 use Prim.Native.Nat.{ℕ, suc, _+_, _-_, _*_, _/_, _%_, _≤_, _<_, max}
-use native.Mathlib.Nat.{div-add-mod', mul-comm, suc-mul, mul-le-mul-right}
-use native.Mathlib.Numerals.{add-one}
+use native.Mathlib.Nat.{le-refl, div-add-mod', mod-lt, mul-comm, suc-mul, mul-le-mul-right}
 use native.Mathlib.Decide.{decLt}
 use native.Mathlib.Omega.{arith}
 use lib.ListN.{getD, length, take}
@@ -104,74 +103,100 @@ module _ {w c : ℕ} {s l comps : List ℕ} {y first before : ℕ} (R : RowPaint
                 from = λ q. let a = I .from lk in let b = X .span .some in let z = R .tally .asks .list .order .some k lk in let v = R .tally .asks .list .order .rising k next b q in omega arith;
               }
 
--- A plane: the rows before y are painted and tallied
+-- A plane: the first k runs are painted and tallied, and the labels up to `clear`, before the next run, cleared
 
-pub record PlaneSweep (w c h : ℕ) (s l₀ l comps₀ comps : List ℕ) (k count base y : ℕ) : Type 0 where
-  pub sweep : PaintSweep s c l₀ l (w * h) k base
+pub record PlaneSweep (w c h : ℕ) (s l₀ l comps₀ comps : List ℕ) (k count clear : ℕ) : Type 0 where
+  pub sweep : PaintSweep s c l₀ l (w * h) k clear
   pub tally : TallySweep w c s comps₀ comps k count
-  pub base-is : base ≡ y * w
-  pub low : y ≤ h
-  pub from : k < c → base ≤ startOf (take (2 * c) s) k
+  pub from : k < c → clear ≤ startOf (take (2 * c) s) k
 
-pub plane-none : {w c h : ℕ} {s l comps : List ℕ} → Paintable s c l (w * h) → Tallyable w c s comps → PlaneSweep w c h s l l comps comps 0 0 0 0
-plane-none P T = record { sweep = paint-none P; tally = tally-none T; base-is = omega arith; low = omega arith; from = λ _. omega arith }
+pub plane-none : {w c h : ℕ} {s l comps : List ℕ} → Paintable s c l (w * h) → Tallyable w c s comps → PlaneSweep w c h s l l comps comps 0 0 0
+plane-none P T = record { sweep = paint-none P; tally = tally-none T; from = λ _. omega arith }
 
-module _ {w c h : ℕ} {s l₀ l comps₀ comps : List ℕ} {k count base y : ℕ} (I : PlaneSweep w c h s l₀ l comps₀ comps k count base y) where
+module _ {w c h : ℕ} {s l₀ l comps₀ comps : List ℕ} {k count clear : ℕ} (I : PlaneSweep w c h s l₀ l comps₀ comps k count clear) where
   pub plane-long : (length l ≡ length l₀) × (length comps ≡ length comps₀)
   plane-long = (I .sweep .len, tally-long (I .tally))
 
-  module _ (ly : y < h) where
-    -- the row lies within the plane
-    pub plane-row : (base + w ≤ w * h) × (w * h ≤ maxMaskDots) × (w * h ≤ length l)
-    plane-row =
-        let m : suc y * w ≤ h * w = mul-le-mul-right w ly in
-        let e : suc y * w ≡ y * w + w = suc-mul y w in
-        let q = mul-comm w h in
-        let b = I .base-is in
-        let a = I .sweep .asks .labels in
-        let n = I .sweep .len in
-        (omega arith, I .sweep .asks .dots, omega arith)
+  -- the labels fit
+  pub plane-fits : (clear ≤ w * h) × (w * h ≤ maxMaskDots) × (w * h ≤ length l)
+  plane-fits = let a = I .sweep .asks .labels in let n = I .sweep .len in (I .sweep .inside, I .sweep .asks .dots, omega arith)
 
-    module _ (l₁ : List ℕ) (X : Filled l l₁ base (base + w) 0) where
+  pub plane-read : k < c → (2 * k < length s) × (0 < w)
+  plane-read lk = let r = I .tally .asks .list .room in (omega arith, I .tally .asks .list .wide)
+
+  -- run k lies in row y
+  module _ (lk : k < c) (start y : ℕ) (es : start ≡ getD s (2 * k) 0) (ey : y ≡ start / w) where
+    start-is : start ≡ startOf (take (2 * c) s) k
+    start-is = es ∙ sym (getD-take (2 * c) s (2 * k) 0 (omega arith))
+
+    here : (y * w ≤ start) × (start < y * w + w) × (y * w + w ≤ w * h)
+    here =
+        let a = div-add-mod' start w in
+        let b = mod-lt start (I .tally .asks .list .wide) in
+        let m : y * w ≡ start / w * w = ap (λ z. z * w) ey in
+        let o = I .sweep .asks .order .some k lk in
+        let i = I .sweep .asks .within k lk in
+        let e = start-is in
+        let q = mul-comm w h in
+        let ly : y < h = below (omega arith) in
+        let r : suc y * w ≤ h * w = mul-le-mul-right w ly in
+        let t : suc y * w ≡ y * w + w = suc-mul y w in
+        (omega arith, omega arith, omega arith)
+      where
+        below : y * w < w * h → y < h
+        below l = go (decLt y h)
+          where
+            go : Dec (y < h) → y < h
+            go (yes z) = z
+            go (no z) = let r : h * w ≤ y * w = mul-le-mul-right w (let u : h ≤ y = omega arith in u) in let q = mul-comm w h in absurd (omega arith)
+
+    -- the row lies within the plane, past what is cleared
+    pub plane-row : (clear ≤ y * w + w) × (y * w + w ≤ length l) × (y * w + w ≤ w * h)
+    plane-row = let a = here .0 in let b = here .1 in let d = here .2 in let f = I .from lk in let e = start-is in let n = plane-fits .2 in (omega arith, omega arith, here .2)
+
+    module _ (l₁ : List ℕ) (X : Filled l l₁ clear (y * w + w) 0) where
       pub plane-ahead : RowPaintable w c s l₁ comps y k count
       plane-ahead =
           record {
             n = w * h;
             l₀ = l₀;
-            sweep = subst (λ z. PaintSweep s c l₀ l₁ (w * h) k (z + w)) (I .base-is) (paint-clear (I .sweep) l₁ (base + w) (omega arith) (plane-row .0) X);
+            sweep = paint-clear (I .sweep) l₁ (y * w + w) (plane-row .0) (plane-row .2) X;
             comps₀ = comps₀;
             tally = I .tally;
-            from = λ q. let f = I .from q in let b = I .base-is in omega arith;
+            from = λ q. let a = here .0 in let e = start-is in omega arith;
           }
 
-      pub plane-more : {l₂ comps₂ : List ℕ} {next count₂ : ℕ} → RowPainted w c s l₁ l₂ comps comps₂ y k count next count₂ → PlaneSweep w c h s l₀ l₂ comps₀ comps₂ next count₂ (base + w) (y + 1)
-      unfolding plane-ahead
-      plane-more {l₂} {comps₂} {next} {count₂} Q =
-          let e : (y + 1) * w ≡ y * w + w = ap (λ z. z * w) (add-one y) ∙ suc-mul y w in
-          let b = I .base-is in
-          let b₂ : y * w + w ≡ base + w = omega arith in
-          record {
-            sweep = subst (λ z. PaintSweep s c l₀ l₂ (w * h) next z) b₂ (Q .painted (w * h) l₀ (plane-ahead .sweep));
-            tally = Q .tallied comps₀ (I .tally);
-            base-is = omega arith;
-            low = omega arith;
-            from = λ q. let p = Q .past q in omega arith;
-          }
+      module _ {l₂ comps₂ : List ℕ} {next count₂ : ℕ} (Q : RowPainted w c s l₁ l₂ comps comps₂ y k count next count₂) where
+        pub plane-more : PlaneSweep w c h s l₀ l₂ comps₀ comps₂ next count₂ (y * w + w)
+        unfolding plane-ahead
+        plane-more = record { sweep = Q .painted (w * h) l₀ (plane-ahead .sweep); tally = Q .tallied comps₀ (I .tally); from = Q .past }
 
-  pub plane-done : h ≤ y → Painted s c l₀ l (w * h) × (comps ≡ over (records w c s c) comps₀)
-  plane-done g =
-      let b = I .base-is in
-      let low = I .low in
-      let y-is : y ≡ h = omega arith in
-      let m : y * w ≡ h * w = ap (λ z. z * w) y-is in
-      let q = mul-comm w h in
-      let all : c ≤ k = all-runs (omega arith) in
-      (paint-done (I .sweep) all (omega arith), tally-done (I .tally) all)
-    where
-      -- no run is left: it would start past the plane
-      all-runs : w * h ≤ base → c ≤ k
-      all-runs a = go (decLt k c)
-        where
-          go : Dec (k < c) → c ≤ k
-          go (yes z) = let f = I .from z in let o = I .sweep .asks .order .some k z in let i = I .sweep .asks .within k z in absurd (omega arith)
-          go (no z) = omega arith
+        -- run k is among those painted
+        pub plane-on : k < next
+        plane-on = go (decLt k next)
+          where
+            go : Dec (k < next) → k < next
+            go (yes z) = z
+            go (no z) = absurd (behind (decLt next k))
+              where
+                late : y * w + w ≤ startOf (take (2 * c) s) next
+                late = Q .past (omega arith)
+
+                behind : Dec (next < k) → ⊥
+                behind (yes u) =
+                    let o = I .sweep .asks .order .some next (omega arith) in
+                    let v = I .sweep .asks .order .rising next k u lk in
+                    let p = late in
+                    let b = here .1 in
+                    let e = start-is in
+                    omega arith
+                behind (no u) =
+                    let z : next ≡ k = omega arith in
+                    let p = late in
+                    let m = ap (startOf (take (2 * c) s)) z in
+                    let b = here .1 in
+                    let e = start-is in
+                    omega arith
+
+  pub plane-done : c ≤ k → (l₁ : List ℕ) → Filled l l₁ clear (w * h) 0 → Painted s c l₀ l₁ (w * h) × (comps ≡ over (records w c s c) comps₀)
+  plane-done all l₁ X = (paint-done (paint-clear (I .sweep) l₁ (w * h) (I .sweep .inside) (le-refl (w * h)) X) all refl, tally-done (I .tally) all)

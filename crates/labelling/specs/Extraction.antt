@@ -3,10 +3,8 @@ use mathlib.Core.Path.{_≡_}
 use mathlib.Core.Bool.{cond}
 use mathlib.Core.List.{List, _++_, map}
 use Prim.Native.Nat.{ℕ, suc, _+_, _-_, _*_, _/_, _%_, _≤_, _<_}
-use lib.ListN.{getD, length, take, drop}
-use lib.Dec.{eqb}
+use lib.ListN.{length, take}
 use Rattle.memory.specs.Limits.{maxMaskSide, maxMaskDots}
-use Rattle.memory.specs.Lists.{table}
 use Rattle.labelling.specs.InkRuns.{inkBefore, turns, runCount}
 
 -- the words that the turns of a row w wide may take
@@ -46,31 +44,6 @@ pub record Scanned (row : List ℕ) (from to base : ℕ) (s s' : List ℕ) (at r
   pub len : length s' ≡ length s
   pub short : r ≤ at + (to - from)
   pub read : (s₀ : List ℕ) (start : ℕ) → RowScan row base s₀ s start at (at % 2) from → RowScan row base s₀ s' start r (r % 2) to
-
--- 1 where dot i is ink, else 0
-abbrev pub inkBit : List ℕ → ℕ → ℕ
-inkBit m i = cond (eqb (getD m i 0) 0) 0 1
-
--- the same for the dot before dot i of a block; before the first it is `before`
-abbrev pub bitBefore : ℕ → List ℕ → ℕ → ℕ
-bitBefore before block i = cond (eqb i 0) before (inkBit block (i - 1))
-
--- 1 where dot i of a block differs from the one before it, else 0
-abbrev pub turnBit : ℕ → List ℕ → ℕ → ℕ
-turnBit before block i = cond (eqb (bitBefore before block i) (inkBit block i)) 0 1
-
--- 32 dots from `first` on, each told 0 or 1, and room for a turn at each
-pub record TurnRoom (told : List ℕ) (first : ℕ) (s : List ℕ) (at : ℕ) : Type 0 where
-  pub block : length told ≡ 32
-  pub bits : (i : ℕ) → i < 32 → getD told i 0 ≤ 1
-  pub dots : first + 32 ≤ maxMaskDots
-  pub room : at + 32 ≤ length s
-
--- whatever row's dots were told so, they are read
-pub record TurnsWritten (told : List ℕ) (first : ℕ) (s s' : List ℕ) (at r : ℕ) : Type 0 where
-  pub len : length s' ≡ length s
-  pub read : (row : List ℕ) (from base : ℕ) → first ≡ base + from → told ≡ table (turnBit (at % 2) (take 32 (drop from row))) 32
-      → ScanRoom row from (from + 32) base s at → Scanned row from (from + 32) base s s' at r
 
 -- the row's turns stand after what stood before `at`, up to r
 pub record RowExtracted (row : List ℕ) (base : ℕ) (s s' : List ℕ) (at r : ℕ) : Type 0 where

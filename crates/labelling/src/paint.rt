@@ -1,5 +1,5 @@
-// Painting: the label of each dot and the record of each component, row by row, from a run list whose runs have their numbers. A row is
-// cleared, then painted while it is still in fast memory.
+// Painting: the label of each dot and the record of each component, row by row, from a run list whose runs have their numbers. A row with
+// runs is cleared, with the rows without before it, then painted while it is still in fast memory.
 ghost use mathlib.Core.Path.{_≡_};
 ghost use Prim.Native.Nat.{_+_, _*_, _≤_, _<_};
 ghost use lib.ListN.{length};
@@ -123,17 +123,18 @@ pub fn paint_runs(
     requires { ⌜ Paintable (now runs) c (now labels) (w * h) × Tallyable w c (now runs) (now components) ⌝ }
     ensures { λ _. ⌜ Painted (now (runs .entry)) c (now (labels .entry)) (now (labels .exit)) (w * h) × (now (components .exit) ≡ over (records w c (now (runs .entry)) c) (now (components .entry))) ⌝ }
 {
+    let dots = w * h;
     let mut count = 0;
     let mut k = 0;
-    let mut base = 0;
-    let mut y = 0;
-    while y < h {
-        let limit = base + w;
-        fill(labels, base, limit, 0);
+    let mut clear = 0;
+    while k < c {
+        let y = wide(runs[2 * k]) / w;
+        let limit = y * w + w;
+        fill(labels, clear, limit, 0);
         let reached = paint_row(runs, c, w, y, k, count, labels, components);
         count = reached.count;
         k = reached.next;
-        base = limit;
-        y += 1;
+        clear = limit;
     }
+    fill(labels, clear, dots, 0);
 }

@@ -4,10 +4,9 @@ ghost use mathlib.Core.Bool.{cond};
 ghost use Prim.Native.Nat.{_+_, _≤_};
 ghost use lib.ListN.{length};
 ghost use lib.Dec.{eqb};
-ghost use Rattle.memory.specs.Limits.{maxMaskDots};
-ghost use Rattle.memory.specs.Lists.{countIf, table};
+ghost use Rattle.memory.specs.Lists.{countIf};
 ghost use Rattle.labelling.specs.Labels.{isInk};
-ghost use Rattle.labelling.specs.Extraction.{turnBit, TurnRoom, TurnsWritten, ScanRoom, Scanned, RowRoom, RowExtracted, PlaneRoom, Extracted};
+ghost use Rattle.labelling.specs.Extraction.{ScanRoom, Scanned, RowRoom, RowExtracted, PlaneRoom, Extracted};
 
 // The dots of a block, which are counted at once.
 const BLOCK: usize = 32;
@@ -23,7 +22,7 @@ fn ink_of(byte: u8) -> u8
 }
 
 // 1 where two dots differ, else 0.
-fn turn_of(before: u8, here: u8) -> u8
+fn turn_of(before: u8, here: u8) -> usize
     ensures { λ r. ⌜ r ≡ cond (eqb before here) 0 1 ⌝ }
 {
     if before == here { 0 } else { 1 }
@@ -55,61 +54,23 @@ fn scan(row: &[u8], from: usize, to: usize, base: usize, words: &mut [u32], at: 
     while x < to {
         let here = ink_of(row[x]);
         words[k] = (base + x) as u32;
-        k += turn_of(before, here) as usize;
+        k += turn_of(before, here);
         before = here;
         x += 1;
     }
     k
 }
 
-// Tells of each dot of a block whether it differs from the one before; before the first was `before`. No dot waits for another here, so
-// that many are done at once.
-fn tell_turns(block: &[u8], before: u8, told: &mut [u8])
-    requires { ⌜ (length (now block) ≡ 32) × (length (now told) ≡ 32) ⌝ }
-    ensures { λ _. ⌜ now (told .exit) ≡ table (turnBit before (now (block .entry))) 32 ⌝ }
-{
-    told[0] = turn_of(before, ink_of(block[0]));
-    let mut i = 1;
-    while i < BLOCK {
-        told[i] = turn_of(ink_of(block[i - 1]), ink_of(block[i]));
-        i += 1;
-    }
-}
-
-// Writes the turns of a block that starts at dot `first` to the words from `at` on, and answers where they end.
-fn write_turns(told: &[u8], first: usize, words: &mut [u32], at: usize) -> usize
-    requires { ⌜ TurnRoom (now told) first (now words) at ⌝ }
-    ensures { λ r. ⌜ TurnsWritten (now (told .entry)) first (now (words .entry)) (now (words .exit)) at r ⌝ }
-{
-    let mut k = at;
-    let mut i = 0;
-    while i < BLOCK {
-        words[k] = (first + i) as u32;
-        k += told[i] as usize;
-        i += 1;
-    }
-    k
-}
-
-// The same for a block of 32 dots, which has no turns where its dots are all as the one before. What is told of them stands in memory that
-// is lent for it, so that the compiler does not take it apart dot by dot.
-fn scan_block(
-    row: &[u8],
-    from: usize,
-    base: usize,
-    words: &mut [u32],
-    at: usize,
-    told: &mut [u8],
-) -> usize
-    requires { ⌜ ScanRoom (now row) from (from + 32) base (now words) at ⌝ ∗ ⌜ length (now told) ≡ 32 ⌝ }
+// The same for a block of 32 dots, which has no turns where its dots are all as the one before.
+fn scan_block(row: &[u8], from: usize, base: usize, words: &mut [u32], at: usize) -> usize
+    requires { ⌜ ScanRoom (now row) from (from + 32) base (now words) at ⌝ }
     ensures { λ r. ⌜ Scanned (now (row .entry)) from (from + 32) base (now (words .entry)) (now (words .exit)) at r ⌝ }
 {
     let to = from + BLOCK;
     if ink_count(&row[from..to]) as usize == BLOCK * (at % 2) {
         return at;
     }
-    tell_turns(&row[from..to], (at % 2) as u8, told);
-    write_turns(&told[..], base + from, words, at)
+    scan(row, from, to, base, words, at)
 }
 
 // The same for the dots `from` up to `to`, block by block.
@@ -120,51 +81,43 @@ fn scan_blocks(
     base: usize,
     words: &mut [u32],
     at: usize,
-    told: &mut [u8],
 ) -> usize
-    requires { ⌜ ScanRoom (now row) from to base (now words) at ⌝ ∗ ⌜ length (now told) ≡ 32 ⌝ }
+    requires { ⌜ ScanRoom (now row) from to base (now words) at ⌝ }
     ensures { λ r. ⌜ Scanned (now (row .entry)) from to base (now (words .entry)) (now (words .exit)) at r ⌝ }
 {
     let mut k = at;
     let mut x = from;
     while BLOCK <= to - x {
-        k = scan_block(row, x, base, words, k, told);
+        k = scan_block(row, x, base, words, k);
         x += BLOCK;
     }
     scan(row, x, to, base, words, k)
 }
 
 // The same for a stretch of 128 dots. On a page that is mostly blank one count is quicker than four.
-fn scan_stretch(
-    row: &[u8],
-    from: usize,
-    base: usize,
-    words: &mut [u32],
-    at: usize,
-    told: &mut [u8],
-) -> usize
-    requires { ⌜ ScanRoom (now row) from (from + 128) base (now words) at ⌝ ∗ ⌜ length (now told) ≡ 32 ⌝ }
+fn scan_stretch(row: &[u8], from: usize, base: usize, words: &mut [u32], at: usize) -> usize
+    requires { ⌜ ScanRoom (now row) from (from + 128) base (now words) at ⌝ }
     ensures { λ r. ⌜ Scanned (now (row .entry)) from (from + 128) base (now (words .entry)) (now (words .exit)) at r ⌝ }
 {
     let to = from + STRETCH;
     if ink_count(&row[from..to]) as usize == STRETCH * (at % 2) {
         return at;
     }
-    scan_blocks(row, from, to, base, words, at, told)
+    scan_blocks(row, from, to, base, words, at)
 }
 
 // Writes the turns of a row whose first dot is `base` to the words from `at` on, and answers where they end.
-fn extract_row(row: &[u8], base: usize, words: &mut [u32], at: usize, told: &mut [u8]) -> usize
-    requires { ⌜ RowRoom (now row) base (now words) at ⌝ ∗ ⌜ length (now told) ≡ 32 ⌝ }
+fn extract_row(row: &[u8], base: usize, words: &mut [u32], at: usize) -> usize
+    requires { ⌜ RowRoom (now row) base (now words) at ⌝ }
     ensures { λ r. ⌜ RowExtracted (now (row .entry)) base (now (words .entry)) (now (words .exit)) at r ⌝ }
 {
     let mut k = at;
     let mut x = 0;
     while STRETCH <= row.len() - x {
-        k = scan_stretch(row, x, base, words, k, told);
+        k = scan_stretch(row, x, base, words, k);
         x += STRETCH;
     }
-    k = scan_blocks(row, x, row.len(), base, words, k, told);
+    k = scan_blocks(row, x, row.len(), base, words, k);
     if k % 2 == 0 {
         return k;
     }
@@ -177,13 +130,12 @@ pub fn extract_runs(mask: &[u8], w: usize, h: usize, words: &mut [u32]) -> usize
     requires { ⌜ PlaneRoom w h (now mask) (now words) ⌝ }
     ensures { λ r. ⌜ Extracted w h (now (mask .entry)) (now (words .entry)) (now (words .exit)) r ⌝ }
 {
-    let mut told = [0; 32];
     let mut k = 0;
     let mut base = 0;
     let mut y = 0;
     while y < h {
         let end = base + w;
-        k = extract_row(&mask[base..end], base, words, k, &mut told[..]);
+        k = extract_row(&mask[base..end], base, words, k);
         base = end;
         y += 1;
     }

@@ -1,28 +1,28 @@
-use mathlib.Core.Path.{_≡_, sym, _∙_}
+use borrow.Author.Needs.{needs}
+use native.Mathlib.Omega.{arith}
+use mathlib.Core.Path.{_∙_}
 use Prim.Native.Nat.{_-_, _+_, _%_}
 use native.Mathlib.Nat.{le-refl}
 use lib.ListN.{length, length-set}
 use Rattle.labelling.specs.Extraction.{RowScan}
 use Rattle.labelling.proofs.ExtractLaws.{scan-start, scan-asks, scan-blank, scan-room-end, scan-ink}
-use native.Mathlib.Omega.{arith}
-use borrow.Author.Needs.{needs}
 use Rattle.labelling.proofs.runs.extract_row.Statement.{statement}
 use Rattle.labelling.proofs.runs.extract_row.Tie as tie
 
 abbrev Inv-loop : tie.InvT-loop
-Inv-loop row base words₀ at told₀ k₀ x₀ words told k x = RowScan row base words₀ words at k (k % 2) x × (length told ≡ 32)
+Inv-loop row base words₀ at k₀ x₀ words k x = RowScan row base words₀ words at k (k % 2) x
 
 abbrev μ-loop : tie.MeasureT-loop
-μ-loop row base words₀ at told₀ k₀ x₀ words told k x = length row - x
+μ-loop row base words₀ at k₀ x₀ words k x = length row - x
 
 loop-holds : tie.Need-loop-holds Inv-loop μ-loop
-loop-holds c = (scan-start (c .before .before .before .pre .0), c .before .before .before .pre .1)
+loop-holds c = scan-start ((c .before .before) .pre)
 
 sub-loop : tie.Need-sub-loop Inv-loop μ-loop
 sub-loop c = search needs
 
 scan-stretch-requires : tie.Need-scan-stretch-requires Inv-loop μ-loop
-scan-stretch-requires c κs = (scan-asks (c .before .before .before .loop .inv .0) (c .before .before .before .loop .x + 128) (omega arith) (omega (arith, c .before .before .loop-test .taken, c .before .before .before .loop .inv .0 .upto)), c .before .before .before .loop .inv .1)
+scan-stretch-requires c κs = scan-asks ((c .before .before .loop) .inv) ((c .before .before .loop) .x + 128) (omega arith) (omega (arith, (c .before .loop-test) .taken, (c .before .before .loop) .inv .upto))
 
 add-x : tie.Need-add-x Inv-loop μ-loop
 add-x c = search needs
@@ -31,43 +31,37 @@ loop-less : tie.Need-loop-less Inv-loop μ-loop
 loop-less c = search needs
 
 loop-again : tie.Need-loop-again Inv-loop μ-loop
-loop-again c = (c .before .before .before .before .scan-stretch .ensures .read (c .before .before .before .before .before .before .before .before .before .before .before .before .args .words .now) (c .before .before .before .before .before .before .before .before .before .before .before .before .args .at) (c .before .before .before .before .before .before .before .before .loop .inv .0), c .before .before .before .before .scan-stretch .kept .1 .1 .1 .1 .1 .0 ∙ c .before .before .before .before .before .before .before .before .loop .inv .1)
+loop-again c = (c .before .before .scan-stretch) .ensures .read ((c .before .before .before .before .before .before .before .before) .args .words .now) ((c .before .before .before .before .before .before .before .before) .args .at) ((c .before .before .before .before .before .loop) .inv)
 
 scan-blocks-requires : tie.Need-scan-blocks-requires Inv-loop μ-loop
-scan-blocks-requires c κs = (scan-asks (c .before .before .before .loop .inv .0) (length (c .before .before .before .before .before .before .before .args .row .now)) (c .before .before .before .loop .inv .0 .upto) (le-refl _), c .before .before .before .loop .inv .1)
+scan-blocks-requires c κs = scan-asks ((c .before .before .loop) .inv) (length ((c .before .before .before .before .before) .args .row .now)) ((c .before .before .loop) .inv .upto) (le-refl _)
 
 same-length : tie.Need-same-length Inv-loop μ-loop
-same-length c = c .before .before .before .before .before .scan-blocks .ensures .len ∙ c .before .before .before .before .before .before .before .before .before .loop .inv .0 .len
-
-same-length-2 : tie.Need-same-length-2 Inv-loop μ-loop
-same-length-2 c = c .before .before .before .before .before .scan-blocks .kept .1 .1 .1 .1 .1 .1 .0 ∙ (c .before .before .before .before .before .before .before .before .before .loop .inv .1 ∙ sym (c .before .before .before .before .before .before .before .before .before .before .before .before .before .pre .1))
+same-length c = (c .before .before .before .scan-blocks) .ensures .len ∙ (c .before .before .before .before .before .before .loop) .inv .len
 
 returns : tie.Need-returns Inv-loop μ-loop
-returns c = scan-blank (c .before .before .before .before .before .scan-blocks .ensures .read (c .before .before .before .before .before .before .before .before .before .before .before .before .before .args .words .now) (c .before .before .before .before .before .before .before .before .before .before .before .before .before .args .at) (c .before .before .before .before .before .before .before .before .before .loop .inv .0)) (le-refl _) (c .if1 .taken)
+returns c = scan-blank ((c .before .before .before .scan-blocks) .ensures .read ((c .before .before .before .before .before .before .before .before .before) .args .words .now) ((c .before .before .before .before .before .before .before .before .before) .args .at) ((c .before .before .before .before .before .before .loop) .inv)) (le-refl _) ((c .if1) .taken)
 
 add-words : tie.Need-add-words Inv-loop μ-loop
-add-words c = omega (arith, c .before .before .before .before .before .before .before .before .before .before .before .before .before .pre .0 .dots)
+add-words c = omega (arith, (c .before .before .before .before .before .before .before .before .before) .pre .dots)
 
 cast-words : tie.Need-cast-words Inv-loop μ-loop
-cast-words c = omega (arith, c .before .before .before .before .before .before .before .before .before .before .before .before .before .pre .0 .dots)
+cast-words c = omega (arith, (c .before .before .before .before .before .before .before .before .before) .pre .dots)
 
 mul-words : tie.Need-mul-words Inv-loop μ-loop
-mul-words c = let h = scan-room-end (c .before .before .before .before .before .scan-blocks .ensures .read (c .before .before .before .before .before .before .before .before .before .before .before .before .before .args .words .now) (c .before .before .before .before .before .before .before .before .before .before .before .before .before .args .at) (c .before .before .before .before .before .before .before .before .before .loop .inv .0)) (le-refl _) (c .if1 .left) in let e = c .before .before .before .before .before .scan-blocks .ensures .len in let f = c .before .before .before .before .before .before .before .before .before .loop .inv .0 .len in omega arith
+mul-words c = let h = scan-room-end ((c .before .before .before .scan-blocks) .ensures .read ((c .before .before .before .before .before .before .before .before .before) .args .words .now) ((c .before .before .before .before .before .before .before .before .before) .args .at) ((c .before .before .before .before .before .before .loop) .inv)) (le-refl _) ((c .if1) .left) in let e = (c .before .before .before .before .before .before .loop) .inv .len in let f = (c .before .before .before .scan-blocks) .ensures .len in omega (arith, (c .before .before .before .before .before .before .before .before .before) .good)
 
 slice-write-words : tie.Need-slice-write-words Inv-loop μ-loop
-slice-write-words c = scan-room-end (c .before .before .before .before .before .scan-blocks .ensures .read (c .before .before .before .before .before .before .before .before .before .before .before .before .before .args .words .now) (c .before .before .before .before .before .before .before .before .before .before .before .before .before .args .at) (c .before .before .before .before .before .before .before .before .before .loop .inv .0)) (le-refl _) (c .if1 .left)
+slice-write-words c = scan-room-end ((c .before .before .before .scan-blocks) .ensures .read ((c .before .before .before .before .before .before .before .before .before) .args .words .now) ((c .before .before .before .before .before .before .before .before .before) .args .at) ((c .before .before .before .before .before .before .loop) .inv)) (le-refl _) ((c .if1) .left)
 
 add-result : tie.Need-add-result Inv-loop μ-loop
-add-result c = let h = scan-room-end (c .before .before .before .before .before .scan-blocks .ensures .read (c .before .before .before .before .before .before .before .before .before .before .before .before .before .args .words .now) (c .before .before .before .before .before .before .before .before .before .before .before .before .before .args .at) (c .before .before .before .before .before .before .before .before .before .loop .inv .0)) (le-refl _) (c .if1 .left) in let e = c .before .before .before .before .before .scan-blocks .ensures .len in let f = c .before .before .before .before .before .before .before .before .before .loop .inv .0 .len in omega (arith, c .before .before .before .before .before .before .before .before .before .before .before .before .before .good)
+add-result c = let h = scan-room-end ((c .before .before .before .scan-blocks) .ensures .read ((c .before .before .before .before .before .before .before .before .before) .args .words .now) ((c .before .before .before .before .before .before .before .before .before) .args .at) ((c .before .before .before .before .before .before .loop) .inv)) (le-refl _) ((c .if1) .left) in let e = (c .before .before .before .before .before .before .loop) .inv .len in let f = (c .before .before .before .scan-blocks) .ensures .len in omega (arith, (c .before .before .before .before .before .before .before .before .before) .good)
 
-same-length-3 : tie.Need-same-length-3 Inv-loop μ-loop
-same-length-3 c = simp length-set (c .before .before .before .before .before .scan-blocks .ensures .len ∙ c .before .before .before .before .before .before .before .before .before .loop .inv .0 .len)
-
-same-length-4 : tie.Need-same-length-4 Inv-loop μ-loop
-same-length-4 c = c .before .before .before .before .before .scan-blocks .kept .1 .1 .1 .1 .1 .1 .0 ∙ (c .before .before .before .before .before .before .before .before .before .loop .inv .1 ∙ sym (c .before .before .before .before .before .before .before .before .before .before .before .before .before .pre .1))
+same-length-2 : tie.Need-same-length-2 Inv-loop μ-loop
+same-length-2 c = simp length-set ((c .before .before .before .scan-blocks) .ensures .len ∙ (c .before .before .before .before .before .before .loop) .inv .len)
 
 returns-2 : tie.Need-returns-2 Inv-loop μ-loop
-returns-2 c = scan-ink (c .before .before .before .before .before .scan-blocks .ensures .read (c .before .before .before .before .before .before .before .before .before .before .before .before .before .args .words .now) (c .before .before .before .before .before .before .before .before .before .before .before .before .before .args .at) (c .before .before .before .before .before .before .before .before .before .loop .inv .0)) (le-refl _) (c .if1 .left)
+returns-2 c = scan-ink ((c .before .before .before .scan-blocks) .ensures .read ((c .before .before .before .before .before .before .before .before .before) .args .words .now) ((c .before .before .before .before .before .before .before .before .before) .args .at) ((c .before .before .before .before .before .before .loop) .inv)) (le-refl _) ((c .if1) .left)
 
 pub extract-row-spec : {M : Type 1} → statement M
 extract-row-spec =
@@ -83,13 +77,11 @@ extract-row-spec =
     loop-again
     scan-blocks-requires
     same-length
-    same-length-2
     returns
     add-words
     cast-words
     mul-words
     slice-write-words
     add-result
-    same-length-3
-    same-length-4
+    same-length-2
     returns-2)

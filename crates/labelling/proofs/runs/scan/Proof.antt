@@ -39,9 +39,6 @@ slice-write-words c = sweep-room ((c .before .before .before .loop) .inv) ((c .b
 turn-of-requires : tie.Need-turn-of-requires Inv-loop μ-loop
 turn-of-requires c κs = search needs
 
-cast-k : tie.Need-cast-k Inv-loop μ-loop
-cast-k c = search needs
-
 add-k : tie.Need-add-k Inv-loop μ-loop
 add-k c = let h = sweep-room ((c .before .before .before .before .loop) .inv) ((c .before .before .before .loop-test) .taken) in let e = (c .before .before .before .before .loop) .inv .len in let t = (c .turn-of) .ensures in let b = turn-small (eqb ((c .before .before .before .before .loop) .before) ((c .before .ink-of) .result)) in omega (arith, (c .before .before .before .before .before .before .before) .good)
 
@@ -75,7 +72,6 @@ scan-spec =
     mul-words
     slice-write-words
     turn-of-requires
-    cast-k
     add-k
     add-x
     loop-less

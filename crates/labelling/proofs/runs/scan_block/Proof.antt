@@ -1,10 +1,11 @@
+use borrow.Author.Needs.{needs}
+use native.Mathlib.Omega.{arith}
 use mathlib.Core.Path.{ap, _∙_}
-use Prim.Native.Nat.{_+_, _-_, _%_}
+use Prim.Native.Nat.{_+_, _-_}
 use lib.ListN.{take, drop}
 use Rattle.memory.specs.Lists.{countIf}
 use Rattle.labelling.specs.Labels.{isInk}
-use Rattle.labelling.proofs.ExtractLaws.{block-still, block-told, told-room, block-long}
-use borrow.Author.Needs.{needs}
+use Rattle.labelling.proofs.ExtractLaws.{block-still, block-long}
 use Rattle.labelling.proofs.runs.scan_block.Statement.{statement}
 use Rattle.labelling.proofs.runs.scan_block.Tie as tie
 
@@ -21,7 +22,7 @@ part-ink-count-end : tie.Need-part-ink-count-end
 part-ink-count-end c = search needs
 
 ink-count-requires : tie.Need-ink-count-requires
-ink-count-requires c κs = search needs
+ink-count-requires c κs = omega (arith, block-long 32 ((c .before .before .before) .args .row .now) ((c .before .before .before) .args .from) ((c .before .before .before) .pre .high))
 
 cast-if1 : tie.Need-cast-if1
 cast-if1 c = search needs
@@ -30,37 +31,16 @@ mul-if1 : tie.Need-mul-if1
 mul-if1 c = search needs
 
 returns : tie.Need-returns
-returns c = block-still 32 (c .before .before .before .before .before .before .args .row .now) (c .before .before .before .before .before .before .args .from) (c .before .before .before .before .before .before .args .base) (c .before .before .before .before .before .before .args .words .now) (c .before .before .before .before .before .before .args .at) (c .before .ink-count .result) (c .before .before .before .before .before .before .pre .0) (c .before .ink-count .ensures ∙ ap (countIf (isInk (take (c .before .before .before .before .before .before .args .from + 32 - c .before .before .before .before .before .before .args .from) (drop (c .before .before .before .before .before .before .args .from) (c .before .before .before .before .before .before .args .row .now))))) (block-long 32 (c .before .before .before .before .before .before .args .row .now) (c .before .before .before .before .before .before .args .from) (c .before .before .before .before .before .before .pre .0 .high))) (c .if1 .taken)
+returns c = block-still 32 ((c .before .before .before .before .before) .args .row .now) ((c .before .before .before .before .before) .args .from) ((c .before .before .before .before .before) .args .base) ((c .before .before .before .before .before) .args .words .now) ((c .before .before .before .before .before) .args .at) ((c .before .ink-count) .result) ((c .before .before .before .before .before) .pre) ((c .before .ink-count) .ensures ∙ ap (countIf (isInk (take ((c .before .before .before .before .before) .args .from + 32 - (c .before .before .before .before .before) .args .from) (drop ((c .before .before .before .before .before) .args .from) ((c .before .before .before .before .before) .args .row .now))))) (block-long 32 ((c .before .before .before .before .before) .args .row .now) ((c .before .before .before .before .before) .args .from) ((c .before .before .before .before .before) .pre .high))) ((c .if1) .taken)
 
-sub-tell-turns : tie.Need-sub-tell-turns
-sub-tell-turns c = search needs
-
-part-tell-turns-start : tie.Need-part-tell-turns-start
-part-tell-turns-start c = search needs
-
-part-tell-turns-end : tie.Need-part-tell-turns-end
-part-tell-turns-end c = search needs
-
-cast-tell-turns : tie.Need-cast-tell-turns
-cast-tell-turns c = search needs
-
-tell-turns-requires : tie.Need-tell-turns-requires
-tell-turns-requires c κs = search needs
-
-add-write-turns : tie.Need-add-write-turns
-add-write-turns c = search needs
-
-write-turns-requires : tie.Need-write-turns-requires
-write-turns-requires c κs = told-room (c .before .before .before .before .before .before .before .before .before .before .before .before .before .args .row .now) (c .before .before .before .before .before .before .before .before .before .before .before .before .before .args .from) (c .before .before .before .before .before .before .before .before .before .before .before .before .before .args .base) (c .before .before .before .before .tell-turns .last .1 .1 .0) (c .before .before .before .before .before .before .before .before .before .before .before .before .before .args .words .now) (c .before .before .before .before .before .before .before .before .before .before .before .before .before .args .at) (c .before .before .before .before .before .before .before .before .before .before .before .before .before .args .at % 2) (take (c .before .before .before .before .before .before .before .before .before .before .before .before .before .args .from + 32 - c .before .before .before .before .before .before .before .before .before .before .before .before .before .args .from) (drop (c .before .before .before .before .before .before .before .before .before .before .before .before .before .args .from) (c .before .before .before .before .before .before .before .before .before .before .before .before .before .args .row .now))) (c .before .before .before .before .before .before .before .before .before .before .before .before .before .pre .0) (c .before .before .before .before .tell-turns .ensures)
+scan-requires : tie.Need-scan-requires
+scan-requires c κs = search needs
 
 same-length : tie.Need-same-length
 same-length c = search needs
 
-same-length-2 : tie.Need-same-length-2
-same-length-2 c = search needs
-
 returns-2 : tie.Need-returns-2
-returns-2 c = block-told (c .before .before .before .before .before .before .before .before .before .before .before .before .before .before .before .before .args .row .now) (c .before .before .before .before .before .before .before .before .before .before .before .before .before .before .before .before .args .from) (c .before .before .before .before .before .before .before .before .before .before .before .before .before .before .before .before .args .base) (c .before .before .before .before .before .before .before .tell-turns .last .1 .1 .0) (c .before .before .before .before .before .before .before .before .before .before .before .before .before .before .before .before .args .words .now) (c .before .before .write-turns .last .1 .1 .0) (c .before .before .before .before .before .before .before .before .before .before .before .before .before .before .before .before .args .at) (c .before .before .write-turns .result) (c .before .before .before .before .before .before .before .before .before .before .before .before .before .before .before .before .pre .0) (c .before .before .before .before .before .before .before .tell-turns .ensures) (c .before .before .write-turns .ensures)
+returns-2 c = (c .before .before .scan) .ensures
 
 pub scan-block-spec : {M : Type 1} → statement M
 scan-block-spec =
@@ -74,13 +54,6 @@ scan-block-spec =
     cast-if1
     mul-if1
     returns
-    sub-tell-turns
-    part-tell-turns-start
-    part-tell-turns-end
-    cast-tell-turns
-    tell-turns-requires
-    add-write-turns
-    write-turns-requires
+    scan-requires
     same-length
-    same-length-2
     returns-2)

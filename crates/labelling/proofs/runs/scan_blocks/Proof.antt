@@ -1,27 +1,26 @@
-use native.Mathlib.Nat.{le-refl}
-use mathlib.Core.Path.{_≡_, sym, _∙_}
-use Prim.Native.Nat.{_+_, _-_, _%_}
-use lib.ListN.{length}
-use Rattle.labelling.proofs.ExtractLaws.{ScanSweep, sweep-none, sweep-asks, sweep-read, sweep-done}
-use native.Mathlib.Omega.{arith}
 use borrow.Author.Needs.{needs}
+use native.Mathlib.Omega.{arith}
+use native.Mathlib.Nat.{le-refl}
+use mathlib.Core.Path.{_∙_}
+use Prim.Native.Nat.{_+_, _-_, _%_}
+use Rattle.labelling.proofs.ExtractLaws.{ScanSweep, sweep-none, sweep-asks, sweep-read, sweep-done}
 use Rattle.labelling.proofs.runs.scan_blocks.Statement.{statement}
 use Rattle.labelling.proofs.runs.scan_blocks.Tie as tie
 
 abbrev Inv-loop : tie.InvT-loop
-Inv-loop row from to base words₀ at told₀ k₀ x₀ words told k x = ScanSweep row from to base words₀ words at k (k % 2) x × (length told ≡ 32)
+Inv-loop row from to base words₀ at k₀ x₀ words k x = ScanSweep row from to base words₀ words at k (k % 2) x
 
 abbrev μ-loop : tie.MeasureT-loop
-μ-loop row from to base words₀ at told₀ k₀ x₀ words told k x = to - x
+μ-loop row from to base words₀ at k₀ x₀ words k x = to - x
 
 loop-holds : tie.Need-loop-holds Inv-loop μ-loop
-loop-holds c = (sweep-none (c .before .before .before .pre .0), c .before .before .before .pre .1)
+loop-holds c = sweep-none ((c .before .before) .pre)
 
 sub-loop : tie.Need-sub-loop Inv-loop μ-loop
 sub-loop c = search needs
 
 scan-block-requires : tie.Need-scan-block-requires Inv-loop μ-loop
-scan-block-requires c κs = (sweep-asks (c .before .before .before .loop .inv .0) (c .before .before .before .loop .x + 32) (omega arith) (omega (arith, c .before .before .loop-test .taken, c .before .before .before .loop .inv .0 .high)), c .before .before .before .loop .inv .1)
+scan-block-requires c κs = sweep-asks ((c .before .before .loop) .inv) ((c .before .before .loop) .x + 32) (omega arith) (omega (arith, (c .before .loop-test) .taken, (c .before .before .loop) .inv .high))
 
 add-x : tie.Need-add-x Inv-loop μ-loop
 add-x c = search needs
@@ -30,19 +29,16 @@ loop-less : tie.Need-loop-less Inv-loop μ-loop
 loop-less c = search needs
 
 loop-again : tie.Need-loop-again Inv-loop μ-loop
-loop-again c = (sweep-read (c .before .before .before .before .before .before .before .before .loop .inv .0) (c .before .before .before .before .before .before .before .before .loop .x + 32) (omega arith) (omega (arith, c .before .before .before .before .before .before .before .loop-test .taken, c .before .before .before .before .before .before .before .before .loop .inv .0 .high)) _ (c .before .before .before .before .scan-block .result) (c .before .before .before .before .scan-block .ensures), c .before .before .before .before .scan-block .kept .1 .1 .1 .1 .1 .0 ∙ c .before .before .before .before .before .before .before .before .loop .inv .1)
+loop-again c = sweep-read ((c .before .before .before .before .before .loop) .inv) ((c .before .before .before .before .before .loop) .x + 32) (omega arith) (omega (arith, (c .before .before .before .before .loop-test) .taken, (c .before .before .before .before .before .loop) .inv .high)) _ ((c .before .before .scan-block) .result) ((c .before .before .scan-block) .ensures)
 
 scan-requires : tie.Need-scan-requires Inv-loop μ-loop
-scan-requires c κs = sweep-asks (c .before .before .loop .inv .0) _ (c .before .before .loop .inv .0 .high) (le-refl _)
+scan-requires c κs = sweep-asks ((c .before .before .loop) .inv) _ ((c .before .before .loop) .inv .high) (le-refl _)
 
 same-length : tie.Need-same-length Inv-loop μ-loop
-same-length c = c .before .before .scan .ensures .len ∙ c .before .before .before .before .before .loop .inv .0 .len
-
-same-length-2 : tie.Need-same-length-2 Inv-loop μ-loop
-same-length-2 c = c .before .before .before .before .before .loop .inv .1 ∙ sym (c .before .before .before .before .before .before .before .before .before .pre .1)
+same-length c = (c .before .before .scan) .ensures .len ∙ (c .before .before .before .before .before .loop) .inv .len
 
 returns : tie.Need-returns Inv-loop μ-loop
-returns c = sweep-done (sweep-read (c .before .before .before .before .before .loop .inv .0) _ (c .before .before .before .before .before .loop .inv .0 .high) (le-refl _) _ (c .before .before .scan .result) (c .before .before .scan .ensures)) (le-refl _)
+returns c = sweep-done (sweep-read ((c .before .before .before .before .before .loop) .inv) _ ((c .before .before .before .before .before .loop) .inv .high) (le-refl _) _ ((c .before .before .scan) .result) ((c .before .before .scan) .ensures)) (le-refl _)
 
 pub scan-blocks-spec : {M : Type 1} → statement M
 scan-blocks-spec =
@@ -58,5 +54,4 @@ scan-blocks-spec =
     loop-again
     scan-requires
     same-length
-    same-length-2
     returns)

@@ -1,10 +1,11 @@
+use borrow.Author.Needs.{needs}
+use native.Mathlib.Omega.{arith}
 use mathlib.Core.Path.{ap, _∙_}
 use Prim.Native.Nat.{_+_, _-_}
 use lib.ListN.{take, drop}
 use Rattle.memory.specs.Lists.{countIf}
 use Rattle.labelling.specs.Labels.{isInk}
 use Rattle.labelling.proofs.ExtractLaws.{block-still, block-long}
-use borrow.Author.Needs.{needs}
 use Rattle.labelling.proofs.runs.scan_stretch.Statement.{statement}
 use Rattle.labelling.proofs.runs.scan_stretch.Tie as tie
 
@@ -21,7 +22,7 @@ part-ink-count-end : tie.Need-part-ink-count-end
 part-ink-count-end c = search needs
 
 ink-count-requires : tie.Need-ink-count-requires
-ink-count-requires c κs = search needs
+ink-count-requires c κs = omega (arith, block-long 128 ((c .before .before .before) .args .row .now) ((c .before .before .before) .args .from) ((c .before .before .before) .pre .high))
 
 cast-if1 : tie.Need-cast-if1
 cast-if1 c = search needs
@@ -30,7 +31,7 @@ mul-if1 : tie.Need-mul-if1
 mul-if1 c = search needs
 
 returns : tie.Need-returns
-returns c = block-still 128 (c .before .before .before .before .before .before .args .row .now) (c .before .before .before .before .before .before .args .from) (c .before .before .before .before .before .before .args .base) (c .before .before .before .before .before .before .args .words .now) (c .before .before .before .before .before .before .args .at) (c .before .ink-count .result) (c .before .before .before .before .before .before .pre .0) (c .before .ink-count .ensures ∙ ap (countIf (isInk (take (c .before .before .before .before .before .before .args .from + 128 - c .before .before .before .before .before .before .args .from) (drop (c .before .before .before .before .before .before .args .from) (c .before .before .before .before .before .before .args .row .now))))) (block-long 128 (c .before .before .before .before .before .before .args .row .now) (c .before .before .before .before .before .before .args .from) (c .before .before .before .before .before .before .pre .0 .high))) (c .if1 .taken)
+returns c = block-still 128 ((c .before .before .before .before .before) .args .row .now) ((c .before .before .before .before .before) .args .from) ((c .before .before .before .before .before) .args .base) ((c .before .before .before .before .before) .args .words .now) ((c .before .before .before .before .before) .args .at) ((c .before .ink-count) .result) ((c .before .before .before .before .before) .pre) ((c .before .ink-count) .ensures ∙ ap (countIf (isInk (take ((c .before .before .before .before .before) .args .from + 128 - (c .before .before .before .before .before) .args .from) (drop ((c .before .before .before .before .before) .args .from) ((c .before .before .before .before .before) .args .row .now))))) (block-long 128 ((c .before .before .before .before .before) .args .row .now) ((c .before .before .before .before .before) .args .from) ((c .before .before .before .before .before) .pre .high))) ((c .if1) .taken)
 
 scan-blocks-requires : tie.Need-scan-blocks-requires
 scan-blocks-requires c κs = search needs
@@ -38,11 +39,8 @@ scan-blocks-requires c κs = search needs
 same-length : tie.Need-same-length
 same-length c = search needs
 
-same-length-2 : tie.Need-same-length-2
-same-length-2 c = search needs
-
 returns-2 : tie.Need-returns-2
-returns-2 c = search needs
+returns-2 c = (c .before .before .scan-blocks) .ensures
 
 pub scan-stretch-spec : {M : Type 1} → statement M
 scan-stretch-spec =
@@ -58,5 +56,4 @@ scan-stretch-spec =
     returns
     scan-blocks-requires
     same-length
-    same-length-2
     returns-2)
