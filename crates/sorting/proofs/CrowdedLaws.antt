@@ -2,7 +2,7 @@
 use mathlib.Core.Path.{_≡_, refl, sym, ap, _∙_, subst}
 use mathlib.Core.Bool.{Bool, true, false, cond, not, _&&_, true≢false}
 use mathlib.Core.List.{List}
-use Prim.Native.Nat.{ℕ, zero, suc, _+_, _-_, _≤_, _<_, min}
+use Prim.Native.Nat.{_*_, ℕ, zero, suc, _+_, _-_, _≤_, _<_, min}
 use native.Mathlib.Nat.{le-refl}
 use native.Mathlib.Decide.{ℕ-discrete, decLt}
 use native.Mathlib.Omega.{arith}
@@ -18,7 +18,7 @@ use Rattle.sorting.specs.Extents.{behind, ahead, runThrough, extent}
 use Rattle.sorting.specs.Scans.{Starts, clear, blank, until, RowTo, RowParts, RowCounted, PartOfRow, noFour, shortExtent, singleDot}
 use Rattle.sorting.proofs.OverLaws.{until-below, until-from}
 use Rattle.sorting.proofs.RunLaws.{behind-on, behind-off, ahead-on, ahead-off, runThrough-on, runThrough-off, runThrough-next, runThrough-counted, starts-run}
-use Rattle.sorting.proofs.ExtentLaws.{ink-zero}
+use Rattle.sorting.proofs.ExtentLaws.{ink-zero, bit-times}
 
 -- Starts
 
@@ -342,13 +342,9 @@ side-small true true = le-refl 2
 side-small true false = omega arith
 side-small false far = omega arith
 
-pub short-code : (a b dot d e : Bool) → dot ≡ true → 1 + (boolByte b + boolByte (a && b)) + (boolByte d + boolByte (d && e)) ≡ shortExtent a b dot d e
-short-code a b dot d e q = (λ i. 1 + side-bits-turned a b i + side-bits d e i) ∙ ap (λ t. cond t (1 + cond b (cond a 2 1) 0 + cond d (cond e 2 1) 0) 0) (sym q)
+pub short-code : (a b dot d e : Bool) → boolByte dot * (1 + (boolByte b + boolByte (a && b)) + (boolByte d + boolByte (d && e))) ≡ shortExtent a b dot d e
+short-code a b dot d e = (λ i. boolByte dot * (1 + side-bits-turned a b i + side-bits d e i)) ∙ bit-times dot (1 + cond b (cond a 2 1) 0 + cond d (cond e 2 1) 0)
 
-pub short-none : (a b dot d e : Bool) → dot ≡ false → 0 ≡ shortExtent a b dot d e
-short-none a b dot d e q = ap (λ t. cond t (1 + cond b (cond a 2 1) 0 + cond d (cond e 2 1) 0) 0) (sym q)
-
--- a test that passes, as a number
-pub test-small : (t : Bool) → boolByte t ≤ 1
-test-small true = le-refl 1
-test-small false = omega arith
+pub short-small : (a b dot d e : Bool) → shortExtent a b dot d e ≤ 5
+short-small a b true d e = let u = side-small b a in let v = side-small d e in omega arith
+short-small a b false d e = omega arith

@@ -44,13 +44,14 @@ pub fn all_short(row: &[u8], x: usize, to: usize) -> bool
     short
 }
 
-// The extent of the third of five dots, in a run of at most three.
+// The extent of the third of five dots, in a run of at most three; without a branch, so that many dots are done at once.
 fn short_extent(a: u8, b: u8, dot: u8, d: u8, e: u8) -> u8
     ensures { λ r. ⌜ r ≡ shortExtent (ltb 0 a) (ltb 0 b) (ltb 0 dot) (ltb 0 d) (ltb 0 e) ⌝ }
 {
     let before = (0 < b) as u8 + ((0 < a) & (0 < b)) as u8;
     let after = (0 < d) as u8 + ((0 < d) & (0 < e)) as u8;
-    if 0 < dot { 1 + before + after } else { 0 }
+    let ink = (0 < dot) as u8;
+    ink * (1 + before + after)
 }
 
 // The extents from the start x up to the start `to`, where no run has more than three dots.
