@@ -18,7 +18,7 @@ use Rattle.sorting.specs.Extents.{behind, ahead, runThrough, extent}
 use Rattle.sorting.specs.Scans.{Starts, clear, blank, until, RowTo, RowParts, RowCounted, PartOfRow, noFour, shortExtent, singleDot}
 use Rattle.sorting.proofs.OverLaws.{until-below, until-from}
 use Rattle.sorting.proofs.RunLaws.{behind-on, behind-off, ahead-on, ahead-off, runThrough-on, runThrough-off, runThrough-next, runThrough-counted, starts-run}
-use Rattle.sorting.proofs.ExtentLaws.{ink-zero, bit-times}
+use Rattle.sorting.proofs.ExtentLaws.{ink-zero, bit-times, row-size}
 
 -- Starts
 
@@ -33,9 +33,6 @@ starts-after row r l e =
 -- Parts of a row
 
 module _ {row : List ℕ} {x : ℕ} {e : List ℕ} (R : RowTo row x e) where
-  pub row-size : length e ≡ length row
-  row-size = ap length (R .held) ∙ length-table _ (length row)
-
   row-below : (k : ℕ) → k < x → getD e k 0 ≡ extent (isInk row) (length row) k
   row-below k l = ap (λ z. getD z k 0) (R .held) ∙ (getD-table _ (length row) k 0 (let h = R .inside in omega arith) ∙ until-below x (extent (isInk row) (length row)) (singleDot row) k l)
 
@@ -45,7 +42,7 @@ module _ {row : List ℕ} {x : ℕ} {e : List ℕ} (R : RowTo row x e) where
   pub parts-none : (to : ℕ) (f : ℕ → ℕ) → x ≤ to → to ≤ length row → RowParts row x x to f (singleDot row) e
   parts-none to f l h =
       record {
-        size = row-size;
+        size = row-size row x e R;
         below = row-below;
         first = λ k a b. absurd (omega arith);
         second = λ k a b. row-above k a (omega arith);

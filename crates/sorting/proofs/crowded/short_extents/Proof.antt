@@ -1,5 +1,6 @@
+use Rattle.sorting.proofs.ExtentLaws.{row-size}
 use mathlib.Core.Path.{_∙_}
-use Rattle.sorting.proofs.CrowdedLaws.{row-size, parts-none, parts-more, parts-first, short-bytes}
+use Rattle.sorting.proofs.CrowdedLaws.{parts-none, parts-more, parts-first, short-bytes}
 use Prim.Native.Nat.{_-_, _≤_}
 use lib.ListN.{length}
 use Rattle.labelling.specs.Labels.{isInk}
@@ -53,7 +54,7 @@ cast-extents : tie.Need-cast-extents Inv-loop μ-loop
 cast-extents c = omega arith
 
 mul-extents : tie.Need-mul-extents Inv-loop μ-loop
-mul-extents c = let a = c .before .before .before .before .before .before .before .loop .inv .2 .size in let b = row-size (c .before .before .before .before .before .before .before .before .before .before .pre .1) in let h = c .before .before .before .before .before .before .before .before .before .before .pre .0 .inside in omega arith
+mul-extents c = let a = c .before .before .before .before .before .before .before .loop .inv .2 .size in let b = row-size (c .before .before .before .before .before .before .before .before .before .before .args .row .now) (c .before .before .before .before .before .before .before .before .before .before .args .x) (c .before .before .before .before .before .before .before .before .before .before .args .extents .now) (c .before .before .before .before .before .before .before .before .before .before .pre .1) in let h = c .before .before .before .before .before .before .before .before .before .before .pre .0 .inside in omega arith
 
 slice-write-extents : tie.Need-slice-write-extents Inv-loop μ-loop
 slice-write-extents c = omega (arith, c .before .before .before .before .before .before .before .loop .inv .2 .size, c .before .before .before .before .before .before .before .before .before .before .pre .0 .inside)
@@ -68,7 +69,7 @@ loop-again : tie.Need-loop-again Inv-loop μ-loop
 loop-again c = (omega arith, omega arith, parts-more (c .before .before .before .before .before .before .before .loop .inv .2) (c .before .before .before .before .before .before .before .loop .inv .0) (c .before .before .before .before .before .before .loop-test .taken) (let h = c .before .before .before .before .before .before .before .before .before .before .pre .0 .inside in omega arith) (c .short-extent .result) (c .short-extent .ensures ∙ short-bytes (c .before .before .before .before .before .before .before .before .before .before .args .row .now) (c .before .before .before .before .before .before .before .before .before .before .args .x) (c .before .before .before .before .before .before .before .before .before .before .args .to) (c .before .before .before .before .before .before .before .before .before .before .pre .0 .from) (c .before .before .before .before .before .before .before .before .before .before .pre .3) (c .before .before .before .before .before .before .before .before .before .before .pre .4) (c .before .before .before .before .before .before .before .loop .i) (c .before .before .before .before .before .before .before .before .before .before .pre .2) (c .before .before .before .before .before .before .before .loop .inv .0) (c .before .before .before .before .before .before .loop-test .taken)))
 
 same-length : tie.Need-same-length Inv-loop μ-loop
-same-length c = let a = c .before .loop .inv .2 .size in let b = row-size (c .before .before .before .before .pre .1) in omega arith
+same-length c = let a = c .before .loop .inv .2 .size in let b = row-size (c .before .before .before .before .args .row .now) (c .before .before .before .before .args .x) (c .before .before .before .before .args .extents .now) (c .before .before .before .before .pre .1) in omega arith
 
 returns : tie.Need-returns Inv-loop μ-loop
 returns c = parts-first (c .before .before .before .before .args .row .now) (c .before .before .before .before .args .x) (c .before .loop .i) (c .before .before .before .before .args .to) (singleDot (c .before .before .before .before .args .row .now)) (c .before .loop .extents) (c .before .loop .inv .2) (c .loop-test .left) (c .before .loop .inv .1) (c .before .before .before .before .pre .0)
