@@ -15,7 +15,7 @@ use crate::rulings::is_widened;
 use crate::rulings::run_start;
 use crate::rulings::spot;
 
-// Down every column, a stretch of columns at a time.
+// Down every column, some stretches of columns at a time.
 pub fn mark_columns(
     ink: &[u8],
     words: &mut [u32],
@@ -30,29 +30,49 @@ pub fn mark_columns(
     let outer = g.outer;
     let mut a: usize = 0;
     while a < outer {
-        let b = stretch_end(a, outer);
-        mark_stretch(ink, words, marks, g, a, b, run_min, thick_max);
-        a = b;
+        a = mark_stretches(ink, words, marks, g, a, run_min, thick_max);
     }
 }
 
-// A stretch of columns, the rows of which are walked only where a column has a long run.
-fn mark_stretch(
+// The stretch from column a on, and those behind it that have a long run as it has: their rows are walked at once, dot after dot.
+// Without a long run no row is walked. Answers where the next stretch starts.
+fn mark_stretches(
     ink: &[u8],
     words: &mut [u32],
     marks: usize,
     g: Sweep,
     a: usize,
-    b: usize,
     run_min: u32,
     thick_max: u32,
-)
-    requires { ⌜ (Laid g (length (now ink))) × (g .across ≡ 1) × (a < b) × (b ≤ g .outer) × (0 < «run_min») × (UpTo g (length (now ink)) (drop marks (now words)) 4) × (g .outer ≤ marks) × (marks ≤ length (now words)) ⌝ }
-    ensures { λ _. ⌜ Risen g (now (ink .entry)) «run_min» «thick_max» a b 0 (g .inner) (drop marks (now (words .entry))) (drop marks (now (words .exit))) ⌝ }
+) -> usize
+    requires { ⌜ (Laid g (length (now ink))) × (g .across ≡ 1) × (a < g .outer) × (0 < «run_min») × (UpTo g (length (now ink)) (drop marks (now words)) 4) × (g .outer ≤ marks) × (marks ≤ length (now words)) ⌝ }
+    ensures { λ r. ⌜ (a < r) × (r ≤ g .outer) × (Risen g (now (ink .entry)) «run_min» «thick_max» a r 0 (g .inner) (drop marks (now (words .entry))) (drop marks (now (words .exit)))) ⌝ }
 {
-    if any_long_run(ink, g, a, b, run_min as usize) {
-        mark_rows(ink, words, marks, g, a, b, run_min, thick_max);
+    let least = run_min as usize;
+    let b = stretch_end(a, g.outer);
+    if !any_long_run(ink, g, a, b, least) {
+        return b;
     }
+    let end = long_end(ink, g, b, least);
+    mark_rows(ink, words, marks, g, a, end, run_min, thick_max);
+    end
+}
+
+// Where the stretches from column `from` on end that have a long run each.
+fn long_end(ink: &[u8], g: Sweep, from: usize, run_min: usize) -> usize
+    requires { ⌜ (Laid g (length (now ink))) × (from ≤ g .outer) × (0 < «run_min») × («run_min» ≤ 4294967295) ⌝ }
+    ensures { λ r. ⌜ (from ≤ r) × (r ≤ g .outer) ⌝ }
+{
+    let outer = g.outer;
+    let mut b = from;
+    while b < outer {
+        let next = stretch_end(b, outer);
+        if !any_long_run(ink, g, b, next, run_min) {
+            return b;
+        }
+        b = next;
+    }
+    b
 }
 
 // Row by row; the counter of a column is the word of its number.
@@ -121,7 +141,7 @@ fn mark_reached(
     }
 }
 
-// One column in row y: its run gets long here, or goes on, or is not long.
+// One column in row y: its run is long and goes on, or gets long here, so that all of it is marked, or is not long.
 fn mark_place(
     ink: &[u8],
     words: &mut [u32],
@@ -136,21 +156,13 @@ fn mark_place(
     ensures { λ _. ⌜ (Risen g (now (ink .entry)) «run_min» «thick_max» o (o + 1) y (y + 1) (drop marks (now (words .entry))) (drop marks (now (words .exit)))) × (take marks (now (words .exit)) ≡ take marks (now (words .entry))) ⌝ }
 {
     let since = words[o];
-    if run_min <= since {
-        let from = first_unmarked(y, since, run_min);
-        cut_places(ink, words, marks, g, o, from, y + 1, thick_max);
+    if run_min < since {
+        cut_places(ink, words, marks, g, o, y, y + 1, thick_max);
+        return;
     }
-}
-
-// The first place that is not marked yet of a long run up to place y: all of it where it has just got long.
-fn first_unmarked(y: usize, since: u32, run_min: u32) -> usize
-    requires { ⌜ («run_min» ≤ since) × (since ≤ y + 1) × (0 < «run_min») × (y < 4294967295) ⌝ }
-    ensures { λ r. ⌜ (r ≤ y) × (since ≡ «run_min» → r + «run_min» ≡ y + 1) × («run_min» < since → r ≡ y) ⌝ }
-{
     if since == run_min {
-        y + 1 - run_min as usize
-    } else {
-        y
+        let from = y + 1 - run_min as usize;
+        cut_places(ink, words, marks, g, o, from, y + 1, thick_max);
     }
 }
 

@@ -16,26 +16,22 @@ abbrev μ-loop : tie.MeasureT-loop
 loop-holds : tie.Need-loop-holds Inv-loop μ-loop
 loop-holds c = let a = c .before .before .args in (omega arith, risen-short (a .g) (a .ink .now) (a .run-min) (a .thick-max) 0 0 (drop (a .marks) (a .words .now)) (λ o i x y z. absurd (omega arith)), refl)
 
-stretch-end-requires : tie.Need-stretch-end-requires Inv-loop μ-loop
-stretch-end-requires c κs = omega arith
-
-mark-stretch-requires : tie.Need-mark-stretch-requires Inv-loop μ-loop
-mark-stretch-requires c κs =
-    let a = c .before .before .before .before .before .before .args in
-    let p = c .before .before .before .before .before .before .pre in
-    let l = c .before .before .before .loop in
-    let b = c .before .stretch-end .ensures in
-    (p .0, p .1, b .0, b .1, p .2, risen-small (a .g) (a .ink .now) (a .run-min) (a .thick-max) 0 (l .a) 0 (a .g .inner) 2 (drop (a .marks) (a .words .now)) (drop (a .marks) (l .words)) (l .inv .1) (p .3), p .4, omega (arith, l .inv .2, p .5))
+mark-stretches-requires : tie.Need-mark-stretches-requires Inv-loop μ-loop
+mark-stretches-requires c κs =
+    let a = c .before .before .before .before .before .args in
+    let p = c .before .before .before .before .before .pre in
+    let l = c .before .before .loop in
+    (p .0, p .1, omega arith, p .2, risen-small (a .g) (a .ink .now) (a .run-min) (a .thick-max) 0 (l .a) 0 (a .g .inner) 2 (drop (a .marks) (a .words .now)) (drop (a .marks) (l .words)) (l .inv .1) (p .3), p .4, omega (arith, l .inv .2, p .5))
 
 loop-less : tie.Need-loop-less Inv-loop μ-loop
-loop-less c = let b = c .before .before .before .before .stretch-end .ensures in omega arith
+loop-less c = let e = c .before .before .mark-stretches .ensures in omega (arith, e .0, e .1)
 
 loop-again : tie.Need-loop-again Inv-loop μ-loop
 loop-again c =
-    let a = c .before .before .before .before .before .before .before .before .before .args in
-    let l = c .before .before .before .before .before .before .loop in
-    let b = c .before .before .before .before .stretch-end .ensures in
-    (b .1, risen-lines (a .g) (a .ink .now) (a .run-min) (a .thick-max) 0 (l .a) (c .before .before .before .before .stretch-end .result) 0 (a .g .inner) (drop (a .marks) (a .words .now)) (drop (a .marks) (l .words)) _ (omega arith) (omega arith) (l .inv .1) (c .before .before .mark-stretch .ensures), omega arith)
+    let a = c .before .before .before .before .before .before .before .before .args in
+    let l = c .before .before .before .before .before .loop in
+    let e = c .before .before .mark-stretches .ensures in
+    (e .1, risen-lines (a .g) (a .ink .now) (a .run-min) (a .thick-max) 0 (l .a) (c .before .before .mark-stretches .result) 0 (a .g .inner) (drop (a .marks) (a .words .now)) (drop (a .marks) (l .words)) _ (omega arith) (omega arith) (l .inv .1) (e .2), omega arith)
 
 same-length : tie.Need-same-length Inv-loop μ-loop
 same-length c = omega arith
@@ -54,8 +50,7 @@ mark-columns-spec =
     Inv-loop
     μ-loop
     loop-holds
-    stretch-end-requires
-    mark-stretch-requires
+    mark-stretches-requires
     loop-less
     loop-again
     same-length
