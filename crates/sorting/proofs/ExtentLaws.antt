@@ -1,4 +1,4 @@
--- Extents as loops find them: run by run along a row, by counts down and up the columns.
+-- Extents as loops find them, run by run along a row.
 use mathlib.Core.Path.{_≡_, refl, sym, ap, _∙_}
 use mathlib.Core.Bool.{Bool, true, false, cond, _&&_, _||_, true≢false}
 use mathlib.Core.List.{List, _++_}
@@ -19,7 +19,7 @@ use Rattle.labelling.specs.Labels.{isInk}
 use Rattle.sorting.specs.Extents.{inkAt, behind, runThrough, extent}
 use Rattle.sorting.specs.Scans.{ScannedTo, Starts, clear, blank, RowTo, singleDot, TakesUp, countDown, cappedCount, columnExtent, rowExtent}
 use Rattle.sorting.proofs.MaskLaws.{inkAt-dot, dot-column, dot-row}
-use Rattle.sorting.proofs.OverLaws.{until-below, until-from, getD-part, length-part, length-over, over-at, over-unique, over-up, over-down, over-part, over-ended, over-whole}
+use Rattle.sorting.proofs.OverLaws.{until-below, until-from, getD-part, length-part, length-over, over-part, over-whole}
 use Rattle.sorting.specs.Scans.{until}
 use Rattle.sorting.proofs.RunLaws.{behind-off, behind-le, ahead-off, runThrough-ends, runThrough-off, runThrough-next, runThrough-counted, starts-run, starts-zero}
 
@@ -37,7 +37,7 @@ ink-nonzero m i n = lt-ltb 0 (getD m i 0) (omega arith)
 pub ink-past : (m : List ℕ) (i : ℕ) → length m ≤ i → isInk m i ≡ false
 ink-past m i l = ink-zero m i (List·getD-eq-default m 0 l)
 
-ink-inside : (m : List ℕ) (i : ℕ) → isInk m i ≡ true → i < length m
+pub ink-inside : (m : List ℕ) (i : ℕ) → isInk m i ≡ true → i < length m
 ink-inside m i e = go (decLt i (length m))
   where
     go : Dec (i < length m) → i < length m
@@ -130,73 +130,13 @@ row-part w y m l h k u =
             let z : length (take (y * w + w - y * w) (drop (y * w) m)) ≤ x = (let q = length-part (y * w) (y * w + w) m (omega arith) h in omega arith) in
             rw (le-ltb x w (omega arith)) (ap (ltb 0) (List·getD-eq-default (take (y * w + w - y * w) (drop (y * w) m)) 0 z))
 
--- Columns, by counts
-
-module _ (w : ℕ) (m : List ℕ) (wide : 0 < w) where
-  -- what ends at dot i, from what ends at the dot above
-  pub count-step : (i : ℕ) → countDown w m i ≡ cond (isInk m i) (cond (ltb i w) 0 (countDown w m (i - w)) + 1) 0
-  unfolding behind
-  count-step i = ap (λ b. cond b (suc (behind (inkAt w m (i % w)) (i / w))) 0) (inkAt-dot w m i wide) ∙ ap (λ c. cond (isInk m i) c 0) (go (decLt i w))
-    where
-      go : Dec (i < w) → suc (behind (inkAt w m (i % w)) (i / w)) ≡ cond (ltb i w) 0 (countDown w m (i - w)) + 1
-      go (yes l) = rw (lt-ltb i w l) (let e : i / w ≡ 0 = div-eq-of-lt l in rw e refl)
-      go (no l) =
-          let a : i % w ≡ (i - w) % w = mod-eq-sub-mod (omega arith) in
-          let b : i / w ≡ (i - w) / w + 1 = div-eq-sub-div wide (omega arith) in
-          let d : i / w ≡ suc ((i - w) / w) = omega arith in
-          rw (le-ltb i w (omega arith)) ((λ j. suc (behind (inkAt w m (a j)) (d j))) ∙ (let e : suc (countDown w m (i - w)) ≡ countDown w m (i - w) + 1 = omega arith in e))
-
-  pub count-le : (i : ℕ) → countDown w m i ≤ suc (i / w)
-  count-le i = behind-le (inkAt w m (i % w)) (suc (i / w))
-
-  below : (i : ℕ) → inkAt w m (i % w) (suc (i / w)) ≡ isInk m (i + w)
-  below i =
-      let a : (i + w) % w ≡ i % w = add-mod-right i w in
-      let b : (i + w) / w ≡ suc (i / w) = (let q = add-div-right i wide in omega arith) in
-      sym (λ j. inkAt w m (a j) (b j)) ∙ inkAt-dot w m (i + w) wide
-
-  -- the extent of dot i, from its count and the extent of the dot below
-  pub extent-step : (h : ℕ) → length m ≡ w * h → (i : ℕ) → i < w * h
-      → columnExtent w h m i ≡ cond (isInk m i) (cond (isInk m (i + w)) (columnExtent w h m (i + w)) (min (countDown w m i) maxExtent)) 0
-  unfolding extent
-  extent-step h q i l = go (isInk m i) refl (isInk m (i + w)) refl
-    where
-      row : i / w < h
-      row = div-lt-iff-lt-mul wide .1 (let z = mul-comm w h in omega arith)
-
-      go : (a : Bool) → isInk m i ≡ a → (b : Bool) → isInk m (i + w) ≡ b → columnExtent w h m i ≡ cond a (cond b (columnExtent w h m (i + w)) (min (countDown w m i) maxExtent)) 0
-      go false e b f = ap (λ r. min r maxExtent) (runThrough-off (inkAt w m (i % w)) h (i / w) (inkAt-dot w m i wide ∙ e))
-      go true e true f =
-          let a : (i + w) % w ≡ i % w = add-mod-right i w in
-          let b : (i + w) / w ≡ suc (i / w) = (let q = add-div-right i wide in omega arith) in
-          let u : i + w < w * h = (let z = ink-inside m (i + w) f in omega arith) in
-          let v : suc (i / w) < h = (let z : (i + w) / w < h = div-lt-iff-lt-mul wide .1 (let z = mul-comm w h in omega arith) in omega arith) in
-          ap (λ r. min r maxExtent)
-          (runThrough-next (inkAt w m (i % w)) h (i / w) v (inkAt-dot w m i wide ∙ e) (below i ∙ f)
-          ∙ sym (λ j. runThrough (inkAt w m (a j)) h (b j)))
-      go true e false f = ap (λ r. min r maxExtent) (runThrough-counted (inkAt w m (i % w)) h (i / w) row (below i ∙ f))
-
-  -- the same with what a dot counts capped
-  pub capped-step : (i : ℕ) → cappedCount w m i ≡ cond (isInk m i) (min (cond (ltb i w) 0 (cappedCount w m (i - w)) + 1) maxExtent) 0
-  capped-step i = ap (λ c. min c maxExtent) (count-step i) ∙ go (isInk m i) (ltb i w)
-    where
-      go : (a b : Bool) → min (cond a (cond b 0 (countDown w m (i - w)) + 1) 0) maxExtent ≡ cond a (min (cond b 0 (cappedCount w m (i - w)) + 1) maxExtent) 0
-      go true true = refl
-      go true false = omega arith
-      go false b = omega arith
-
-  -- the extent of dot i is that of the dot below where both are ink, else its count
-  pub extent-taken : (h : ℕ) → length m ≡ w * h → (i : ℕ) → i < w * h → columnExtent w h m i ≡ cond (isInk m i && isInk m (i + w)) (columnExtent w h m (i + w)) (cappedCount w m i)
-  extent-taken h q i l = extent-step h q i l ∙ go (isInk m i) refl (isInk m (i + w))
-    where
-      go : (a : Bool) → isInk m i ≡ a → (b : Bool) → cond a (cond b (columnExtent w h m (i + w)) (cappedCount w m i)) 0 ≡ cond (a && b) (columnExtent w h m (i + w)) (cappedCount w m i)
-      go true e b = refl
-      go false e b = sym (capped-step i ∙ ap (λ t. cond t (min (cond (ltb i w) 0 (cappedCount w m (i - w)) + 1) maxExtent) 0) e)
-
 -- Rows of a plane
 
+pub row-upto : (w e y : ℕ) → y < e → y * w + w ≤ e * w
+row-upto w e y l = let a : suc y * w ≤ e * w = mul-le-mul-right w l in let b : suc y * w ≡ y * w + w = suc-mul y w in omega arith
+
 pub row-inside : (w h y : ℕ) → y < h → y * w + w ≤ w * h
-row-inside w h y l = let a : suc y * w ≤ h * w = mul-le-mul-right w l in let b : suc y * w ≡ y * w + w = suc-mul y w in let c = mul-comm h w in omega arith
+row-inside w h y l = let a = row-upto w h y l in let c = mul-comm h w in omega arith
 
 pub row-next : (w y : ℕ) → y * w + w ≡ (y + 1) * w
 row-next w y = let b : suc y * w ≡ y * w + w = suc-mul y w in sym b ∙ ap (λ k. k * w) (let e : suc y ≡ y + 1 = omega arith in e)
@@ -206,13 +146,6 @@ row-from w y l = let a : 1 * w ≤ y * w = mul-le-mul-right w l in omega arith
 
 pub row-before : (w y : ℕ) → 0 < y → (y - 1) * w + w ≡ y * w
 row-before w y l = row-next w (y - 1) ∙ ap (λ k. k * w) (let z : y - 1 + 1 ≡ y = omega arith in z)
-
--- what a plane holds while it is filled
-pub held-below : (f g : ℕ → ℕ) (n b : ℕ) (s e : List ℕ) → e ≡ over (table (until b f g) n) s → b ≤ n → (k : ℕ) → k < b → getD e k 0 ≡ f k
-held-below f g n b s e held h k l = ap (λ t. getD t k 0) held ∙ (over-at (until b f g) n s k (omega arith) ∙ until-below b f g k l)
-
-pub held-from : (f g : ℕ → ℕ) (n b : ℕ) (s e : List ℕ) → e ≡ over (table (until b f g) n) s → (k : ℕ) → b ≤ k → k < n → getD e k 0 ≡ g k
-held-from f g n b s e held k l h = ap (λ t. getD t k 0) held ∙ (over-at (until b f g) n s k h ∙ until-from b f g k l)
 
 -- Loops
 
@@ -236,113 +169,6 @@ rest-times-le false a = omega arith
 pub bit-choice : (t : Bool) (a b : ℕ) → boolByte t * a + (1 - boolByte t) * b ≡ cond t a b
 bit-choice true a b = omega arith
 bit-choice false a b = omega arith
-
--- one more, up to the greatest extent
-pub capped-more : (a : ℕ) → a ≤ maxExtent → a + boolByte (ltb a maxExtent) ≡ min (a + 1) maxExtent
-capped-more a l = go (decLt a maxExtent)
-  where
-    go : Dec (a < maxExtent) → a + boolByte (ltb a maxExtent) ≡ min (a + 1) maxExtent
-    go (yes h) = rw (lt-ltb a maxExtent h) (omega arith)
-    go (no h) = rw (le-ltb a maxExtent (omega arith)) (omega arith)
-
-module _ (w : ℕ) (m s e : List ℕ) (i : ℕ) (wide : 0 < w) (inside : i < length m) (room : length m ≤ length s)
-    (held : e ≡ over (table (until i (cappedCount w m) (λ k. getD s k 0)) (length m)) s) where
-  above : w ≤ i → getD e (i - w) 0 ≡ cappedCount w m (i - w)
-  above l =
-      ap (λ t. getD t (i - w) 0) held
-      ∙ (over-at (until i (cappedCount w m) (λ k. getD s k 0)) (length m) s (i - w) (omega arith) ∙ until-below i (cappedCount w m) (λ k. getD s k 0) (i - w) (omega arith))
-
-  pub count-bound : w ≤ i → getD e (i - w) 0 ≤ maxExtent
-  count-bound l = let a = above l in omega arith
-
-  -- one dot more, going down
-  pub count-loop : (c v : ℕ) → c ≡ cond (ltb i w) 0 (getD e (i - w) 0) → v ≡ cond (ltb 0 (getD m i 0)) (min (c + 1) maxExtent) 0
-      → set e i v ≡ over (table (until (i + 1) (cappedCount w m) (λ k. getD s k 0)) (length m)) s
-  unfolding isInk
-  count-loop c v z q =
-      ap (λ t. set t i v) held
-      ∙ over-up (cappedCount w m) (λ k. getD s k 0) (length m) s i v room inside (q ∙ (ap (λ c. cond (isInk m i) (min (c + 1) maxExtent) 0) (z ∙ go (decLt i w)) ∙ sym (capped-step w m wide i)))
-    where
-      go : Dec (i < w) → cond (ltb i w) 0 (getD e (i - w) 0) ≡ cond (ltb i w) 0 (cappedCount w m (i - w))
-      go (yes l) = rw (lt-ltb i w l)
-      go (no l) = rw (le-ltb i w (omega arith)) (above (omega arith))
-
-pub column-extent-le : (w h : ℕ) (m : List ℕ) (i : ℕ) → columnExtent w h m i ≤ maxExtent
-unfolding extent
-column-extent-le w h m i = omega arith
-
--- the last row, below which nothing lies
-last-row : (w h : ℕ) (m : List ℕ) → 0 < w → length m ≡ w * h → (i : ℕ) → i < w * h → w * h ≤ i + w → cappedCount w m i ≡ columnExtent w h m i
-last-row w h m wide q i l k = sym (extent-taken w m wide h q i l ∙ ap (λ t. cond t (columnExtent w h m (i + w)) (cappedCount w m i)) (and-off (isInk m i) (isInk m (i + w)) (ink-past m (i + w) (omega arith))))
-  where
-    and-off : (a b : Bool) → b ≡ false → (a && b) ≡ false
-    and-off true b e = e
-    and-off false b e = refl
-
-module _ (w h : ℕ) (m : List ℕ) (from to : ℕ) (s : List ℕ) (U : TakesUp w h m from to s) where
-  -- one dot more of a stretch, going up
-  module _ (e : List ℕ) (i : ℕ) (low : from < i) (high : i ≤ to) (held : e ≡ over (table (until i (λ k. getD s k 0) (columnExtent w h m)) (w * h)) s) where
-    at-place : (k : ℕ) → k < w * h → getD e k 0 ≡ until i (λ k. getD s k 0) (columnExtent w h m) k
-    at-place k c = ap (λ t. getD t k 0) held ∙ over-at (until i (λ k. getD s k 0) (columnExtent w h m)) (w * h) s k c
-
-    below-has : getD e (i - 1 + w) 0 ≡ columnExtent w h m (i - 1 + w)
-    below-has = let a = U .above in let b = U .wide in at-place (i - 1 + w) (omega arith) ∙ until-from i (λ k. getD s k 0) (columnExtent w h m) (i - 1 + w) (omega arith)
-
-    own-has : getD e (i - 1) 0 ≡ cappedCount w m (i - 1)
-    own-has =
-        let a = U .above in
-        at-place (i - 1) (omega arith) ∙ (until-below i (λ k. getD s k 0) (columnExtent w h m) (i - 1) (omega arith) ∙ U .counts (i - 1) (omega arith) (omega arith))
-
-    pub take-bounds : (getD e (i - 1) 0 ≤ maxExtent) × (getD e (i - 1 + w) 0 ≤ maxExtent)
-    take-bounds = let a = own-has in let b = below-has in let c = column-extent-le w h m (i - 1 + w) in (omega arith, omega arith)
-
-    pub take-loop : (v : ℕ) → v ≡ cond (ltb 0 (getD m (i - 1) 0) && ltb 0 (getD m (i - 1 + w) 0)) (getD e (i - 1 + w) 0) (getD e (i - 1) 0)
-        → set e (i - 1) v ≡ over (table (until (i - 1) (λ k. getD s k 0) (columnExtent w h m)) (w * h)) s
-    unfolding isInk
-    take-loop v r =
-        let z : i - 1 + 1 ≡ i = omega arith in
-        let a = U .above in
-        ap (λ t. set t (i - 1) v) (held ∙ ap (λ k. over (table (until k (λ k. getD s k 0) (columnExtent w h m)) (w * h)) s) (sym z))
-        ∙ over-down (λ k. getD s k 0) (columnExtent w h m) (w * h) s (i - 1) v (U .room) (omega arith)
-        (r ∙ ((λ j. cond (isInk m (i - 1) && isInk m (i - 1 + w)) (below-has j) (own-has j)) ∙ sym (extent-taken w m (U .wide) h (U .size) (i - 1) (omega arith))))
-
-  -- a stretch that nowhere goes on below is as it is to be
-  pub stretch-done : ((k : ℕ) → from ≤ k → k < to → (isInk m k && isInk m (k + w)) ≡ false) → s ≡ over (table (until from (λ k. getD s k 0) (columnExtent w h m)) (w * h)) s
-  stretch-done none = over-ended (columnExtent w h m) (w * h) from s (U .room) (λ k a b. go k a b (decLt k to))
-    where
-      go : (k : ℕ) → from ≤ k → k < w * h → Dec (k < to) → getD s k 0 ≡ columnExtent w h m k
-      go k a b (yes c) =
-          U .counts k a c
-          ∙ sym (extent-taken w m (U .wide) h (U .size) k b ∙ ap (λ t. cond t (columnExtent w h m (k + w)) (cappedCount w m k)) (none k a c))
-      go k a b (no c) = U .final k (omega arith) b
-
-  -- one stretch more of it
-  pub stretch-next : (a b : ℕ) (e : List ℕ) → from ≤ a → a ≤ b → b ≤ to → e ≡ over (table (until b (λ k. getD s k 0) (columnExtent w h m)) (w * h)) s → TakesUp w h m a b e
-  stretch-next a b e x y z held =
-      let up = U .above in
-      record {
-        wide = U .wide;
-        few = U .few;
-        size = U .size;
-        order = y;
-        above = omega arith;
-        room = let r = U .room in omega (arith, ap length held ∙ length-over (until b (λ k. getD s k 0) (columnExtent w h m)) (w * h) s r);
-        counts = λ k l u. held-below (λ k. getD s k 0) (columnExtent w h m) (w * h) b s e held (omega arith) k u ∙ U .counts k (omega arith) (omega arith);
-        final = λ k l u. held-from (λ k. getD s k 0) (columnExtent w h m) (w * h) b s e held k l u;
-      }
-
--- the last row has its extents
-pub last-final : (w h : ℕ) (m s : List ℕ) → 0 < w → 0 < h → length m ≡ w * h → w * h ≤ length s → ((k : ℕ) → k < w * h → getD s k 0 ≡ cappedCount w m k)
-    → s ≡ over (table (until ((h - 1) * w) (cappedCount w m) (columnExtent w h m)) (w * h)) s
-last-final w h m s wide high q room counts =
-    over-unique (until ((h - 1) * w) (cappedCount w m) (columnExtent w h m)) (w * h) s s room refl (λ k l. go k l (decLt k ((h - 1) * w))) (λ k l. refl)
-  where
-    bottom : (h - 1) * w + w ≡ w * h
-    bottom = row-before w h high ∙ mul-comm h w
-
-    go : (k : ℕ) → k < w * h → Dec (k < (h - 1) * w) → getD s k 0 ≡ until ((h - 1) * w) (cappedCount w m) (columnExtent w h m) k
-    go k l (yes b) = counts k l ∙ sym (until-below ((h - 1) * w) (cappedCount w m) (columnExtent w h m) k b)
-    go k l (no b) = counts k l ∙ (last-row w h m wide q k l (omega (arith, bottom)) ∙ sym (until-from ((h - 1) * w) (cappedCount w m) (columnExtent w h m) k (omega arith)))
 
 -- one stretch of a row with one value
 pub stretch-filled : (f g : ℕ → ℕ) (n : ℕ) (s e t : List ℕ) (x y v : ℕ) → n ≤ length s → x ≤ y → y ≤ n → e ≡ over (table (until x f g) n) s

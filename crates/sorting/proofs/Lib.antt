@@ -6,8 +6,12 @@ pub mod MaskLaws
 pub mod OverLaws
 -- runs of places that pass a test
 pub mod RunLaws
--- extents, run by run along a row, by counts down and up the columns
+-- extents, run by run along a row
 pub mod ExtentLaws
+-- entries of a function put into a part of a list
+pub mod PutLaws
+-- extents along columns, by counts down and up, band by band
+pub mod BandLaws
 pub mod CrowdedLaws
 -- run extents called by themselves: refused, or done
 pub mod AnswerLaws

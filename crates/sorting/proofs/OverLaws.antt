@@ -66,33 +66,6 @@ over-none f n s l = over-unique _ n s s l refl (λ i b. sym (until-from 0 f (λ 
 pub over-all : (f g : ℕ → ℕ) (n : ℕ) (s : List ℕ) → n ≤ length s → over (table (until n f g) n) s ≡ over (table f n) s
 over-all f g n s l = over-ext (until n f g) f n s l (λ i b. until-below n f g i b)
 
--- one entry is stored
-pub over-set : (f g : ℕ → ℕ) (n : ℕ) (s : List ℕ) (i v : ℕ) → n ≤ length s → i < n → v ≡ g i → ((k : ℕ) → k < n → (k ≡ i → ⊥) → g k ≡ f k)
-    → set (over (table f n) s) i v ≡ over (table g n) s
-over-set f g n s i v l b e h =
-    over-unique g n s (set (over (table f n) s) i v) l (length-set (over (table f n) s) i v ∙ length-over f n s l) (λ k c. go k c (ℕ-discrete k i))
-    (λ k c. getD-set-other (over (table f n) s) i k v 0 (λ d. omega arith) ∙ over-past f n s k c)
-  where
-    go : (k : ℕ) → k < n → Dec (k ≡ i) → getD (set (over (table f n) s) i v) k 0 ≡ g k
-    go k c (yes d) =
-        ap (λ j. getD (set (over (table f n) s) i v) j 0) d
-        ∙ (getD-set-same (over (table f n) s) i v 0 (let q = length-over f n s l in omega arith) ∙ (e ∙ ap g (sym d)))
-    go k c (no d) = getD-set-other (over (table f n) s) i k v 0 d ∙ (over-at f n s k c ∙ sym (h k c d))
-
--- the next entry is stored, going up
-pub over-up : (f g : ℕ → ℕ) (n : ℕ) (s : List ℕ) (i v : ℕ) → n ≤ length s → i < n → v ≡ f i
-    → set (over (table (until i f g) n) s) i v ≡ over (table (until (i + 1) f g) n) s
-over-up f g n s i v l b e =
-    over-set (until i f g) (until (i + 1) f g) n s i v l b (e ∙ sym (until-below (i + 1) f g i (omega arith)))
-    (λ k c d. until-same i (i + 1) f g k (omega arith) (λ x. omega arith))
-
--- and going down
-pub over-down : (f g : ℕ → ℕ) (n : ℕ) (s : List ℕ) (i v : ℕ) → n ≤ length s → i < n → v ≡ g i
-    → set (over (table (until (i + 1) f g) n) s) i v ≡ over (table (until i f g) n) s
-over-down f g n s i v l b e =
-    over-set (until (i + 1) f g) (until i f g) n s i v l b (e ∙ sym (until-from i f g i (omega arith)))
-    (λ k c d. sym (until-same i (i + 1) f g k (omega arith) (λ x. omega arith)))
-
 -- Parts
 
 pub getD-part : (a k : ℕ) (s : List ℕ) (i : ℕ) → i < k → getD (take k (drop a s)) i 0 ≡ getD s (a + i) 0
@@ -101,7 +74,7 @@ getD-part a k s i l = getD-take k (drop a s) i 0 l ∙ getD-drop a s i 0
 pub length-part : (a e : ℕ) (s : List ℕ) → a ≤ e → e ≤ length s → length (take (e - a) (drop a s)) ≡ e - a
 length-part a e s l h = length-take-le (e - a) (drop a s) (let q = length-drop a s in omega arith)
 
-length-put : (a e : ℕ) (s t : List ℕ) → a ≤ e → e ≤ length s → length t ≡ e - a → length (putMid a (e - a) s t) ≡ length s
+pub length-put : (a e : ℕ) (s t : List ℕ) → a ≤ e → e ≤ length s → length t ≡ e - a → length (putMid a (e - a) s t) ≡ length s
 length-put a e s t l h q =
     length-append (take a s) (t ++ drop (e - a) (drop a s))
     ∙ (let x = length-append t (drop (e - a) (drop a s)) in
@@ -109,7 +82,7 @@ length-put a e s t l h q =
     let z = length-drop a s in
     let r = length-take-le a s (let u : a ≤ length s = omega arith in u) in omega arith)
 
-getD-put : (a e : ℕ) (s t : List ℕ) → a ≤ e → e ≤ length s → length t ≡ e - a → (k : ℕ)
+pub getD-put : (a e : ℕ) (s t : List ℕ) → a ≤ e → e ≤ length s → length t ≡ e - a → (k : ℕ)
     → (k < a → getD (putMid a (e - a) s t) k 0 ≡ getD s k 0) × (a ≤ k → k < e → getD (putMid a (e - a) s t) k 0 ≡ getD t (k - a) 0) × (e ≤ k → getD (putMid a (e - a) s t) k 0 ≡ getD s k 0)
 getD-put a e s t l h q k = (before, inside, after)
   where
@@ -160,13 +133,6 @@ over-part f g n s a e t l b c q h =
         P i .1 (omega arith) y ∙ (h (i - a) (omega arith) ∙ (ap f u ∙ sym (until-below e f g i y)))
     go i d (no x) (no y) = P i .2 (omega arith) ∙ (over-at (until a f g) n s i d ∙ sym (until-same a e f g i b (λ w. omega arith)))
 
--- a table over another of its length
-pub over-over : (f g : ℕ → ℕ) (n : ℕ) (s t : List ℕ) → n ≤ length s → t ≡ over (table g n) s → over (table f n) t ≡ over (table f n) s
-over-over f g n s t l e =
-    let z : length t ≡ length s = ap length e ∙ length-over g n s l in
-    over-unique f n s (over (table f n) t) l (length-over f n t (omega arith) ∙ z) (λ i b. over-at f n t i b)
-    (λ i b. over-past f n t i b ∙ (ap (λ o. getD o i 0) e ∙ over-past g n s i b))
-
 -- a table over all of a list
 pub over-whole : (f : ℕ → ℕ) (n : ℕ) (s : List ℕ) → n ≡ length s → over (table f n) s ≡ table f n
 over-whole f n s e = ap (λ k. table f n ++ drop k s) (length-table f n ∙ e) ∙ (ap (λ r. table f n ++ r) (drop-length s) ∙ append-nil (table f n))
@@ -206,45 +172,3 @@ pub behind-same : (n b : ℕ) (s t : List ℕ) → n ≤ b → length t ≡ leng
 behind-same n b s t l e h =
     ext-getD 0 (drop b t) (drop b s) (length-drop b t ∙ (ap (λ k. k - b) e ∙ sym (length-drop b s)))
     (λ i c. getD-drop b t i 0 ∙ (h (b + i) (omega arith) ∙ sym (getD-drop b s i 0)))
-
--- the first a entries are stored already
-pub over-begun : (f : ℕ → ℕ) (n a : ℕ) (s : List ℕ) → n ≤ length s → ((k : ℕ) → k < a → getD s k 0 ≡ f k) → s ≡ over (table (until a f (λ k. getD s k 0)) n) s
-over-begun f n a s l h = over-unique (until a f (λ k. getD s k 0)) n s s l refl (λ i b. go i (decLt i a)) (λ i b. refl)
-  where
-    go : (i : ℕ) → Dec (i < a) → getD s i 0 ≡ until a f (λ k. getD s k 0) i
-    go i (yes b) = h i b ∙ sym (until-below a f (λ k. getD s k 0) i b)
-    go i (no b) = sym (until-from a f (λ k. getD s k 0) i (omega arith))
-
--- or those from a on
-pub over-ended : (g : ℕ → ℕ) (n a : ℕ) (s : List ℕ) → n ≤ length s → ((k : ℕ) → a ≤ k → k < n → getD s k 0 ≡ g k) → s ≡ over (table (until a (λ k. getD s k 0) g) n) s
-over-ended g n a s l h = over-unique (until a (λ k. getD s k 0) g) n s s l refl (λ i b. go i b (decLt i a)) (λ i b. refl)
-  where
-    go : (i : ℕ) → i < n → Dec (i < a) → getD s i 0 ≡ until a (λ k. getD s k 0) g i
-    go i b (yes c) = sym (until-below a (λ k. getD s k 0) g i c)
-    go i b (no c) = h i (omega arith) b ∙ sym (until-from a (λ k. getD s k 0) g i (omega arith))
-
--- up to a, then on to b
-pub over-chain : (f : ℕ → ℕ) (n a b : ℕ) (s e : List ℕ) → n ≤ length s → a ≤ b → e ≡ over (table (until a f (λ k. getD s k 0)) n) s
-    → over (table (until b f (λ k. getD e k 0)) n) e ≡ over (table (until b f (λ k. getD s k 0)) n) s
-over-chain f n a b s e l h held =
-    over-over (until b f (λ k. getD e k 0)) (until a f (λ k. getD s k 0)) n s e l held
-    ∙ over-ext (until b f (λ k. getD e k 0)) (until b f (λ k. getD s k 0)) n s l (λ i c. go i c (decLt i b))
-  where
-    go : (i : ℕ) → i < n → Dec (i < b) → until b f (λ k. getD e k 0) i ≡ until b f (λ k. getD s k 0) i
-    go i c (yes d) = until-below b f (λ k. getD e k 0) i d ∙ sym (until-below b f (λ k. getD s k 0) i d)
-    go i c (no d) =
-        until-from b f (λ k. getD e k 0) i (omega arith)
-        ∙ (ap (λ t. getD t i 0) held
-        ∙ (over-at (until a f (λ k. getD s k 0)) n s i c ∙ (until-from a f (λ k. getD s k 0) i (omega arith) ∙ sym (until-from b f (λ k. getD s k 0) i (omega arith)))))
-
--- from b on, then from a on
-pub over-chain-down : (f g : ℕ → ℕ) (n a b : ℕ) (s e : List ℕ) → n ≤ length s → a ≤ b → e ≡ over (table (until b f g) n) s
-    → over (table (until a (λ k. getD e k 0) g) n) e ≡ over (table (until a f g) n) s
-over-chain-down f g n a b s e l h held =
-    over-over (until a (λ k. getD e k 0) g) (until b f g) n s e l held ∙ over-ext (until a (λ k. getD e k 0) g) (until a f g) n s l (λ i c. go i c (decLt i a))
-  where
-    go : (i : ℕ) → i < n → Dec (i < a) → until a (λ k. getD e k 0) g i ≡ until a f g i
-    go i c (yes d) =
-        until-below a (λ k. getD e k 0) g i d
-        ∙ (ap (λ t. getD t i 0) held ∙ (over-at (until b f g) n s i c ∙ (until-below b f g i (omega arith) ∙ sym (until-below a f g i d))))
-    go i c (no d) = until-from a (λ k. getD e k 0) g i (omega arith) ∙ sym (until-from a f g i (omega arith))

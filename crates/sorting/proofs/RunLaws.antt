@@ -5,6 +5,7 @@ use Prim.Native.Nat.{ℕ, zero, suc, _+_, _-_, _≤_, _<_}
 use native.Mathlib.Nat.{le-refl}
 use native.Mathlib.Decide.{decLt, decLe}
 use native.Mathlib.Omega.{arith}
+use lib.Dec.{eqb, eqb·suc-suc, eqb·zero-suc}
 use Rattle.sorting.specs.Extents.{behind, ahead, runThrough}
 use Rattle.sorting.specs.Scans.{Starts, clear, blank}
 
@@ -51,6 +52,20 @@ runThrough-on p n x e = rw e
 pub runThrough-off : (p : ℕ → Bool) (n x : ℕ) → p x ≡ false → runThrough p n x ≡ 0
 unfolding runThrough
 runThrough-off p n x e = rw e
+
+-- a count that begins at a, and goes on before it where all from a on pass
+pub behind-from : (p : ℕ → Bool) (a n : ℕ) → behind p (a + n) ≡ behind (λ j. p (a + j)) n + cond (eqb (behind (λ j. p (a + j)) n) n) (behind p a) 0
+unfolding behind
+behind-from p a zero = ap (behind p) (let z : a + 0 ≡ a = omega arith in z) ∙ (let z : behind p a ≡ 0 + behind p a = omega arith in z)
+behind-from p a (suc n) = ap (behind p) (let z : a + suc n ≡ suc (a + n) = omega arith in z) ∙ go (p (a + n)) (behind-from p a n)
+  where
+    q : ℕ
+    q = behind (λ j. p (a + j)) n
+
+    go : (b : Bool) → behind p (a + n) ≡ q + cond (eqb q n) (behind p a) 0
+        → cond b (suc (behind p (a + n))) 0 ≡ cond b (suc q) 0 + cond (eqb (cond b (suc q) 0) (suc n)) (behind p a) 0
+    go true h = rw (eqb·suc-suc q n) (omega arith)
+    go false h = rw (eqb·zero-suc n) refl
 
 -- Runs from their ends
 

@@ -20,5 +20,7 @@ pub mod Sortings
 pub mod Measures
 -- what the functions hand on to each other
 pub mod Scans
+-- columns in bands of rows
+pub mod Bands
 -- rows or columns walked alike
 pub mod Sweeps

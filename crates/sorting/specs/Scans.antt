@@ -90,13 +90,13 @@ pub record PlaneFits (w h mask-length words : ℕ) : Type 0 where
   pub dots : mask-length ≡ w * h
   pub room : w * h ≤ words
 
--- the dots from `from` up to `to` have their counts and all that follow their extents, along the columns; a row lies below
+-- the dots from `from` up to `to` have their counts and all that follow their extents, along the columns
 pub record TakesUp (w h : ℕ) (m : List ℕ) (from to : ℕ) (extents : List ℕ) : Type 0 where
   pub wide : 0 < w
   pub few : w * h ≤ maxMaskDots
   pub size : length m ≡ w * h
   pub order : from ≤ to
-  pub above : to + w ≤ w * h
+  pub inside : to ≤ w * h
   pub room : w * h ≤ length extents
   pub counts : (k : ℕ) → from ≤ k → k < to → getD extents k 0 ≡ cappedCount w m k
   pub final : (k : ℕ) → to ≤ k → k < w * h → getD extents k 0 ≡ columnExtent w h m k

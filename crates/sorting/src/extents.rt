@@ -11,6 +11,7 @@ ghost use Rattle.labelling.specs.Labels.{isInk};
 ghost use Rattle.sorting.specs.Extents.{extent, rowExtents, columnExtents};
 ghost use Rattle.sorting.specs.Answers.{extentsRefusal, isMaskSide, extentsOutcome, runExtents};
 ghost use Rattle.sorting.specs.Scans.{ScannedTo, PlaneFits, RowTo, noFour, singleDot, TakesUp, cappedCount, columnExtent, until};
+use crate::bands::column_extents;
 use crate::crowded::all_short;
 use crate::crowded::counted_extents;
 use crate::crowded::is_crowded;
@@ -176,6 +177,20 @@ pub fn stretch_end(x: usize, end: usize) -> usize
     if 64 < end - x { x + 64 } else { end }
 }
 
+// Whether a dot of the stretch and the dot w behind it are ink.
+fn goes_on(mask: &[u8], w: usize, from: usize, to: usize) -> bool
+    requires { ⌜ (from ≤ to) × (to + w ≤ length (now mask)) ⌝ }
+    ensures { λ r. ⌜ (r ≡ false → (k : ℕ) → from ≤ k → k < to → (isInk (now (mask .entry)) k && isInk (now (mask .entry)) (k + w)) ≡ false) ⌝ }
+{
+    let mut found = false;
+    let mut i = from;
+    while i < to {
+        found = found | ((0 < mask[i]) & (0 < mask[i + w]));
+        i += 1;
+    }
+    found
+}
+
 // Run by run, until one ends at `to` or past it.
 fn extents_of_runs(row: &[u8], x: usize, to: usize, extents: &mut [u32]) -> usize
     requires { ⌜ (x < to) × (to ≤ length (now row)) × (RowTo (now row) x (now extents)) ⌝ }
@@ -249,139 +264,4 @@ pub fn fill(words: &mut [u32], v: u32)
         words[i] = v;
         i += 1;
     }
-}
-
-// Along the columns: down, each dot counts the ink that ends at it; up again, each dot that goes on below takes what the dot below
-// has. Row by row, so that a row's dots are independent.
-fn column_extents(mask: &[u8], width: u32, height: u32, extents: &mut [u32])
-    requires { ⌜ PlaneFits width height (length (now mask)) (length (now extents)) ⌝ }
-    ensures { λ _. ⌜ now (extents .exit) ≡ over (columnExtents width height (now (mask .entry))) (now (extents .entry)) ⌝ }
-{
-    let w = width as usize;
-    let h = height as usize;
-    count_down(mask, w, h, extents);
-    take_up(mask, w, h, extents);
-}
-
-fn count_down(mask: &[u8], w: usize, h: usize, extents: &mut [u32])
-    requires { ⌜ PlaneFits w h (length (now mask)) (length (now extents)) ⌝ }
-    ensures { λ _. ⌜ now (extents .exit) ≡ over (table (cappedCount w (now (mask .entry))) (w * h)) (now (extents .entry)) ⌝ }
-{
-    count_first_row(mask, w, extents);
-    let mut y: usize = 1;
-    while y < h {
-        count_row(mask, w, y * w, extents);
-        y += 1;
-    }
-}
-
-fn count_first_row(mask: &[u8], w: usize, extents: &mut [u32])
-    requires { ⌜ (0 < w) × (w ≤ length (now mask)) × (length (now mask) ≤ length (now extents)) ⌝ }
-    ensures { λ _. ⌜ now (extents .exit) ≡ over (table (until w (cappedCount w (now (mask .entry))) (λ k. getD (now (extents .entry)) k 0)) (length (now (mask .entry)))) (now (extents .entry)) ⌝ }
-{
-    let mut i: usize = 0;
-    while i < w {
-        extents[i] = count_on(mask[i], 0);
-        i += 1;
-    }
-}
-
-// The row at `at`, from the row above.
-fn count_row(mask: &[u8], w: usize, at: usize, extents: &mut [u32])
-    requires { ⌜ (0 < w) × (w ≤ at) × (at + w ≤ length (now mask)) × (length (now mask) ≤ length (now extents)) × ((k : ℕ) → k < at → getD (now extents) k 0 ≡ cappedCount w (now mask) k) ⌝ }
-    ensures { λ _. ⌜ now (extents .exit) ≡ over (table (until (at + w) (cappedCount w (now (mask .entry))) (λ k. getD (now (extents .entry)) k 0)) (length (now (mask .entry)))) (now (extents .entry)) ⌝ }
-{
-    let end = at + w;
-    let mut i = at;
-    while i < end {
-        extents[i] = count_on(mask[i], extents[i - w]);
-        i += 1;
-    }
-}
-
-// One more where there is ink, up to the greatest extent, else none; without a branch, so that a row goes many dots at a time.
-fn count_on(b: u8, above: u32) -> u32
-    requires { ⌜ above ≤ maxExtent ⌝ }
-    ensures { λ r. ⌜ r ≡ cond (ltb 0 b) (min (above + 1) maxExtent) 0 ⌝ }
-{
-    let ink = (0 < b) as u32;
-    let more = (above < MAX_EXTENT) as u32;
-    ink * (above + more)
-}
-
-// From the last row, which has its extents, up.
-fn take_up(mask: &[u8], w: usize, h: usize, extents: &mut [u32])
-    requires { ⌜ (PlaneFits w h (length (now mask)) (length (now extents))) × ((k : ℕ) → k < w * h → getD (now extents) k 0 ≡ cappedCount w (now mask) k) ⌝ }
-    ensures { λ _. ⌜ now (extents .exit) ≡ over (table (columnExtent w h (now (mask .entry))) (w * h)) (now (extents .entry)) ⌝ }
-{
-    let mut y = h - 1;
-    while 0 < y {
-        y -= 1;
-        take_row(mask, w, h, y * w, extents);
-    }
-}
-
-// The row at `at`, from the row below, a stretch at a time.
-fn take_row(mask: &[u8], w: usize, h: usize, at: usize, extents: &mut [u32])
-    requires { ⌜ TakesUp w h (now mask) at (at + w) (now extents) ⌝ }
-    ensures { λ _. ⌜ now (extents .exit) ≡ over (table (until at (λ k. getD (now (extents .entry)) k 0) (columnExtent w h (now (mask .entry)))) (w * h)) (now (extents .entry)) ⌝ }
-{
-    let mut to = at + w;
-    while at < to {
-        let from = stretch_start(at, to);
-        take_stretch(mask, w, h, from, to, extents);
-        to = from;
-    }
-}
-
-// Where the stretch that ends before `to` starts: at most 128 dots, none before `at`.
-fn stretch_start(at: usize, to: usize) -> usize
-    requires { ⌜ (at < to) × (to ≤ 1073741824) ⌝ }
-    ensures { λ r. ⌜ (at ≤ r) × (r < to) ⌝ }
-{
-    if at + 128 < to { to - 128 } else { at }
-}
-
-// A stretch of a row: where no dot goes on below, the counts are the extents.
-fn take_stretch(mask: &[u8], w: usize, h: usize, from: usize, to: usize, extents: &mut [u32])
-    requires { ⌜ TakesUp w h (now mask) from to (now extents) ⌝ }
-    ensures { λ _. ⌜ now (extents .exit) ≡ over (table (until from (λ k. getD (now (extents .entry)) k 0) (columnExtent w h (now (mask .entry)))) (w * h)) (now (extents .entry)) ⌝ }
-{
-    if goes_on(mask, w, from, to) {
-        take_dots(mask, w, h, from, to, extents);
-    }
-}
-
-// Whether a dot of the stretch and the dot below it are ink.
-fn goes_on(mask: &[u8], w: usize, from: usize, to: usize) -> bool
-    requires { ⌜ (from ≤ to) × (to + w ≤ length (now mask)) ⌝ }
-    ensures { λ r. ⌜ (r ≡ false → (k : ℕ) → from ≤ k → k < to → (isInk (now (mask .entry)) k && isInk (now (mask .entry)) (k + w)) ≡ false) ⌝ }
-{
-    let mut found = false;
-    let mut i = from;
-    while i < to {
-        found = found | ((0 < mask[i]) & (0 < mask[i + w]));
-        i += 1;
-    }
-    found
-}
-
-fn take_dots(mask: &[u8], w: usize, h: usize, from: usize, to: usize, extents: &mut [u32])
-    requires { ⌜ TakesUp w h (now mask) from to (now extents) ⌝ }
-    ensures { λ _. ⌜ now (extents .exit) ≡ over (table (until from (λ k. getD (now (extents .entry)) k 0) (columnExtent w h (now (mask .entry)))) (w * h)) (now (extents .entry)) ⌝ }
-{
-    let mut i = to;
-    while from < i {
-        i -= 1;
-        extents[i] = take_on(mask[i], mask[i + w], extents[i], extents[i + w]);
-    }
-}
-
-// The extent of a dot: that of the dot below where both are ink, else its count; without a branch.
-fn take_on(b: u8, below: u8, own: u32, lower: u32) -> u32
-    requires { ⌜ (own ≤ maxExtent) × (lower ≤ maxExtent) ⌝ }
-    ensures { λ r. ⌜ r ≡ cond (ltb 0 b && ltb 0 below) lower own ⌝ }
-{
-    let more = ((0 < b) & (0 < below)) as u32;
-    more * lower + (1 - more) * own
 }

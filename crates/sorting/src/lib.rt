@@ -4,6 +4,7 @@
 ghost use mathlib.Core.Path.{_≡_};
 ghost use Rattle.sorting.specs.Units.{unitValue};
 
+mod bands;
 mod columns;
 mod crowded;
 mod extents;

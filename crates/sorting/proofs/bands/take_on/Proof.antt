@@ -3,8 +3,8 @@ use mathlib.Core.Bool.{_&&_}
 use lib.Dec.{ltb}
 use Rattle.sorting.proofs.ExtentLaws.{bit-times-le, rest-times-le, bit-le, bit-choice}
 use borrow.Author.Needs.{needs}
-use Rattle.sorting.proofs.extents.take_on.Statement.{statement}
-use Rattle.sorting.proofs.extents.take_on.Tie as tie
+use Rattle.sorting.proofs.bands.take_on.Statement.{statement}
+use Rattle.sorting.proofs.bands.take_on.Tie as tie
 
 cast-more : tie.Need-cast-more
 cast-more c = search needs

@@ -5,10 +5,11 @@ use Prim.Native.Nat.{_+_}
 use mir.Val.{boolByte}
 use lib.Dec.{ltb}
 use Rattle.memory.specs.Limits.{maxExtent}
-use Rattle.sorting.proofs.ExtentLaws.{bit-times, bit-times-le, bit-le, capped-more}
+use Rattle.sorting.proofs.ExtentLaws.{bit-times, bit-times-le, bit-le}
+use Rattle.sorting.proofs.BandLaws.{capped-more}
 use borrow.Author.Needs.{needs}
-use Rattle.sorting.proofs.extents.count_on.Statement.{statement}
-use Rattle.sorting.proofs.extents.count_on.Tie as tie
+use Rattle.sorting.proofs.bands.count_on.Statement.{statement}
+use Rattle.sorting.proofs.bands.count_on.Tie as tie
 
 cast-ink : tie.Need-cast-ink
 cast-ink c = search needs
