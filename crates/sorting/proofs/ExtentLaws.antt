@@ -2,12 +2,12 @@
 use mathlib.Core.Path.{_≡_, refl, sym, ap, _∙_}
 use mathlib.Core.Bool.{Bool, true, false, cond, _&&_, _||_, true≢false}
 use mathlib.Core.List.{List, _++_}
-use Prim.Native.Nat.{ℕ, zero, suc, _+_, _-_, _*_, _/_, _%_, _^_, _≤_, _<_, min}
-use native.Mathlib.Nat.{le-refl, mod-eq-sub-mod, div-eq-of-lt, div-eq-sub-div, add-mod-right, add-div-right, div-lt-iff-lt-mul, div-le-self, mul-comm, mul-suc, suc-mul, mul-le-mul-right, lt-of-le-of-lt, mul-le-mul, le-pred-of-lt}
+use Prim.Native.Nat.{ℕ, suc, _+_, _-_, _*_, _^_, _≤_, _<_, min}
+use native.Mathlib.Nat.{le-refl, mul-comm, suc-mul, mul-le-mul-right, lt-of-le-of-lt, mul-le-mul, le-pred-of-lt}
 use native.Mathlib.Decide.{decLt}
 use native.Mathlib.Omega.{arith}
 use borrow.Author.Tests.{lt-ltb, le-ltb}
-use lib.ListN.{length, getD, take, drop, set, replicate, length-replicate, getD-replicate, List·getD-eq-default}
+use lib.ListN.{length, getD, take, drop, replicate, length-replicate, getD-replicate, List·getD-eq-default}
 use lib.Dec.{ltb, lit<}
 use borrow.Rule.Slice.PartMut.{putMid}
 use mir.Val.{boolByte}
@@ -17,11 +17,11 @@ use Rattle.memory.proofs.TableLaws.{length-table, getD-table, table-ext}
 use Rattle.memory.specs.Limits.{maxExtent}
 use Rattle.labelling.specs.Labels.{isInk}
 use Rattle.sorting.specs.Extents.{inkAt, behind, runThrough, extent}
-use Rattle.sorting.specs.Scans.{ScannedTo, Starts, clear, blank, RowTo, singleDot, TakesUp, countDown, cappedCount, columnExtent, rowExtent}
-use Rattle.sorting.proofs.MaskLaws.{inkAt-dot, dot-column, dot-row}
+use Rattle.sorting.specs.Scans.{ScannedTo, Starts, clear, blank, RowTo, singleDot, rowExtent}
+use Rattle.sorting.proofs.MaskLaws.{dot-column, dot-row}
 use Rattle.sorting.proofs.OverLaws.{until-below, until-from, getD-part, length-part, length-over, over-part, over-whole}
 use Rattle.sorting.specs.Scans.{until}
-use Rattle.sorting.proofs.RunLaws.{behind-off, behind-le, ahead-off, runThrough-ends, runThrough-off, runThrough-next, runThrough-counted, starts-run, starts-zero}
+use Rattle.sorting.proofs.RunLaws.{behind-off, ahead-off, runThrough-ends, runThrough-off, starts-run, starts-zero}
 
 pub product-fits : (a b : ℕ) → a < 2 ^ 32 → b < 2 ^ 32 → a * b < 2 ^ 64
 product-fits a b ha hb = lt-of-le-of-lt (mul-le-mul (le-pred-of-lt ha) (le-pred-of-lt hb)) (lit< tt)
@@ -181,10 +181,6 @@ stretch-filled f g n s e t x y v l a b held q h =
     ap (λ o. putMid x (y - x) o t) held
     ∙ over-part f g n s x y t l a b (ap length r ∙ length-replicate (y - x) v)
     (λ k u. ap (λ o. getD o k 0) r ∙ (getD-replicate (y - x) k v 0 u ∙ sym (h (x + k) (omega arith) (omega arith))))
-
-pub side-le : (w h : ℕ) → 0 < w * h → w ≤ w * h
-side-le w zero l = let e : w * 0 ≡ 0 = omega arith in omega arith
-side-le w (suc h) l = let e : w * suc h ≡ w * h + w = mul-suc w h in omega arith
 
 -- the first entries of a table, none yet
 pub table-begun : (f : ℕ → ℕ) (s : List ℕ) → s ≡ table f 0 ++ drop 0 s

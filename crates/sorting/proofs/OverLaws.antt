@@ -2,12 +2,12 @@
 use mathlib.Core.Path.{_≡_, refl, sym, ap, _∙_}
 use mathlib.Core.List.{List, _++_, append-nil}
 use Prim.Native.Nat.{ℕ, _+_, _-_, _≤_, _<_}
-use native.Mathlib.Decide.{ℕ-discrete, decLt}
+use native.Mathlib.Decide.{decLt}
 use native.Mathlib.Omega.{arith}
 use borrow.Author.Tests.{lt-ltb, le-ltb}
 use borrow.Rule.Slice.PartMut.{putMid}
-use lib.ListN.{length, getD, take, drop, set, replicate, length-replicate, getD-replicate, length-set, length-append, length-drop, List·getD-append}
-use lib.Seq.{take-at, drop-at, take-set-le, drop-set-add, getD-set-same, getD-set-other, getD-append-add, getD-take, getD-drop, ext-getD, length-take-le, drop-length}
+use lib.ListN.{length, getD, take, drop, set, replicate, length-replicate, getD-replicate, length-append, length-drop, List·getD-append}
+use lib.Seq.{take-at, drop-at, take-set-le, drop-set-add, getD-append-add, getD-take, getD-drop, ext-getD, length-take-le, drop-length}
 use Rattle.memory.specs.Lists.{table}
 use Rattle.memory.specs.Words.{over}
 use Rattle.sorting.specs.Scans.{until}

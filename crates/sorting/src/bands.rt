@@ -1,16 +1,17 @@
-// Run extents along columns. The plane is worked through in bands of rows, from the last up, so that a band is still near at hand
-// when its extents are taken up: what costs is the way to the memory.
+// Run extents along columns. The plane is worked through in bands of rows, from the last up, so that a band is still in cache when
+// its extents are taken up: memory traffic is what costs.
 ghost use mathlib.Core.Path.{_≡_};
 ghost use mathlib.Core.Bool.{cond, true, false, _&&_};
 ghost use Prim.Native.Nat.{ℕ, _+_, _-_, _*_, _≤_, _<_, min};
 ghost use lib.ListN.{length, getD};
-ghost use lib.Dec.{ltb, eqb};
+ghost use lib.Dec.{ltb};
 ghost use Rattle.memory.specs.Words.{over};
 ghost use Rattle.memory.specs.Limits.{maxExtent};
 ghost use Rattle.labelling.specs.Labels.{isInk};
 ghost use Rattle.sorting.specs.Extents.{columnExtents};
 ghost use Rattle.sorting.specs.Scans.{PlaneFits, TakesUp, cappedCount, columnExtent};
 ghost use Rattle.sorting.specs.Bands.{Put, Counts, BandsCounted, countFrom, bandCount};
+use crate::extents::MAX_EXTENT;
 use crate::extents::fill;
 
 // The rows of a band.
@@ -23,9 +24,6 @@ const TAKEN: usize = 32;
 
 // All rows of a band, as a column counts them.
 const ALL: u8 = 32;
-
-// The greatest extent told.
-const MAX_EXTENT: u32 = 65534;
 
 // Along the columns: down, each dot counts the ink that ends at it; up again, each dot that goes on below takes what the dot below
 // has. Row by row, so that a row's dots are independent.
@@ -99,7 +97,7 @@ fn count_columns(mask: &[u8], w: usize, y: usize, x: usize, n: usize, counts: &m
     }
 }
 
-// One row more: without a branch.
+// One row more; without a branch.
 fn count_more(dots: &[u8], counts: &mut [u8])
     requires { ⌜ (length (now dots) ≤ length (now counts)) × ((k : ℕ) → k < length (now dots) → getD (now counts) k 0 < 32) ⌝ }
     ensures { λ _. ⌜ Put (λ k. cond (isInk (now (dots .entry)) k) (getD (now (counts .entry)) k 0 + 1) 0) 0 (length (now (dots .entry))) (now (counts .entry)) (now (counts .exit)) ⌝ }
@@ -177,6 +175,7 @@ fn count_row(mask: &[u8], w: usize, y: usize, extents: &mut [u32])
     count_dots(mask, w, i, end, extents);
 }
 
+// Nothing lies above the first row.
 fn count_first_row(mask: &[u8], w: usize, extents: &mut [u32])
     requires { ⌜ (0 < w) × (w ≤ length (now mask)) × (length (now mask) ≤ length (now extents)) ⌝ }
     ensures { λ _. ⌜ Put (cappedCount w (now (mask .entry))) 0 w (now (extents .entry)) (now (extents .exit)) ⌝ }
@@ -294,6 +293,7 @@ fn joins(dots: &[u8], below: &[u8]) -> bool
     found
 }
 
+// From the dots below.
 fn take_dots(mask: &[u8], w: usize, h: usize, from: usize, to: usize, extents: &mut [u32])
     requires { ⌜ (TakesUp w h (now mask) from to (now extents)) × (to + w ≤ w * h) ⌝ }
     ensures { λ _. ⌜ Put (columnExtent w h (now (mask .entry))) from to (now (extents .entry)) (now (extents .exit)) ⌝ }

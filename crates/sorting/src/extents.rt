@@ -1,16 +1,15 @@
 // Run extents: for each ink dot the length of the run through it, along its row or its column (layout.rs, extent_through).
 ghost use mathlib.Core.Path.{_≡_};
-ghost use mathlib.Core.Bool.{cond, true, false, _&&_};
+ghost use mathlib.Core.Bool.{true, false, _&&_};
 ghost use Prim.Native.Nat.{ℕ, _+_, _-_, _*_, _≤_, _<_, min};
-ghost use lib.ListN.{length, getD, replicate};
-ghost use lib.Dec.{ltb};
+ghost use lib.ListN.{length, replicate};
 ghost use Rattle.memory.specs.Lists.{table};
 ghost use Rattle.memory.specs.Words.{over};
 ghost use Rattle.memory.specs.Limits.{maxExtent};
 ghost use Rattle.labelling.specs.Labels.{isInk};
-ghost use Rattle.sorting.specs.Extents.{extent, rowExtents, columnExtents};
+ghost use Rattle.sorting.specs.Extents.{extent, rowExtents};
 ghost use Rattle.sorting.specs.Answers.{extentsRefusal, isMaskSide, extentsOutcome, runExtents};
-ghost use Rattle.sorting.specs.Scans.{ScannedTo, PlaneFits, RowTo, noFour, singleDot, TakesUp, cappedCount, columnExtent, until};
+ghost use Rattle.sorting.specs.Scans.{ScannedTo, PlaneFits, RowTo, noFour, singleDot};
 use crate::bands::column_extents;
 use crate::crowded::all_short;
 use crate::crowded::counted_extents;
@@ -24,7 +23,7 @@ const MAX_MASK_SIDE: u32 = 131072;
 
 const MAX_MASK_DOTS: usize = 1073741824;
 
-const MAX_EXTENT: u32 = 65534;
+pub const MAX_EXTENT: u32 = 65534;
 
 // Which runs are asked for.
 pub enum Along {

@@ -14,7 +14,9 @@ abbrev μ-loop : tie.MeasureT-loop
 μ-loop counts n above at extents₀ i₀ extents i = n - i
 
 loop-holds : tie.Need-loop-holds Inv-loop μ-loop
-loop-holds c = let a = c .before .before .args in (omega arith, put-ends (put-none (a .at) (a .extents .now)) refl (omega arith))
+loop-holds c =
+    let a = c .before .before .args in
+    (omega arith, put-ends (put-none (a .at) (a .extents .now)) refl (omega arith))
 
 shared-slice-read-count-through : tie.Need-shared-slice-read-count-through Inv-loop μ-loop
 shared-slice-read-count-through c = omega arith
@@ -29,7 +31,13 @@ slice-read-count-through : tie.Need-slice-read-count-through Inv-loop μ-loop
 slice-read-count-through c = let l = c .before .before .before .loop in omega (arith, l .inv .1 .size)
 
 count-through-requires : tie.Need-count-through-requires Inv-loop μ-loop
-count-through-requires c κs = let a = c .before .before .before .before .before .before .args in let p = c .before .before .before .before .before .before .pre in let l = c .before .before .before .loop in let z = l .inv .1 .lower (a .above + l .i) (omega arith) in let y = p .3 (l .i) (omega arith) in omega arith
+count-through-requires c κs =
+    let a = c .before .before .before .before .before .before .args in
+    let p = c .before .before .before .before .before .before .pre in
+    let l = c .before .before .before .loop in
+    let z = l .inv .1 .lower (a .above + l .i) (omega arith) in
+    let y = p .3 (l .i) (omega arith) in
+    omega arith
 
 add-extents : tie.Need-add-extents Inv-loop μ-loop
 add-extents c = omega arith
@@ -47,7 +55,11 @@ loop-less : tie.Need-loop-less Inv-loop μ-loop
 loop-less c = omega arith
 
 loop-again : tie.Need-loop-again Inv-loop μ-loop
-loop-again c = let a = c .before .before .before .before .before .before .before .args in let l = c .before .before .before .before .loop in let z : l .i ≡ a .at + l .i - a .at = omega arith in (omega arith, put-ends (put-up _ (l .inv .1) (omega arith) (omega arith) ((c .count-through) .ensures ∙ (ap (bandCount (getD (a .counts .now) (l .i) 0)) (l .inv .1 .lower (a .above + l .i) (omega arith)) ∙ ap (λ j. bandCount (getD (a .counts .now) j 0) (getD (a .extents .now) (a .above + j) 0)) z))) refl (omega arith))
+loop-again c =
+    let a = c .before .before .before .before .before .before .before .args in
+    let l = c .before .before .before .before .loop in
+    let z : l .i ≡ a .at + l .i - a .at = omega arith in
+    (omega arith, put-ends (put-up _ (l .inv .1) (omega arith) (omega arith) (c .count-through .ensures ∙ (ap (bandCount (getD (a .counts .now) (l .i) 0)) (l .inv .1 .lower (a .above + l .i) (omega arith)) ∙ ap (λ j. bandCount (getD (a .counts .now) j 0) (getD (a .extents .now) (a .above + j) 0)) z))) refl (omega arith))
 
 same-length : tie.Need-same-length Inv-loop μ-loop
 same-length c = let l = c .before .loop in l .inv .1 .size

@@ -23,25 +23,47 @@ sub-start : tie.Need-sub-start Inv-loop μ-loop
 sub-start c = omega arith
 
 mul-start : tie.Need-mul-start Inv-loop μ-loop
-mul-start c = let p = c .before .before .before .before .before .before .before .before .pre in let l = c .before .loop in omega (arith, l .inv .0, p .low)
+mul-start c =
+    let p = c .before .before .before .before .before .before .before .before .pre in
+    let l = c .before .loop in
+    omega (arith, l .inv .0, p .low)
 
 count-band-requires : tie.Need-count-band-requires Inv-loop μ-loop
-count-band-requires c κs = let p = c .before .before .before .before .before .before .before .before .before .pre in let l = c .before .before .loop in let n = c .before .before .before .before .before .count-bands .ensures in (band-counts (plane-kept p (n .size)) (l .inv .1) (l .inv .0) ((l .end - 1) / 32 * 32) (omega arith) (omega arith), omega arith)
+count-band-requires c κs =
+    let p = c .before .before .before .before .before .before .before .before .before .pre in
+    let l = c .before .before .loop in
+    let n = c .before .before .before .before .before .count-bands .ensures in
+    (band-counts (plane-kept p (n .size)) (l .inv .1) (l .inv .0) ((l .end - 1) / 32 * 32) (omega arith) (omega arith), omega arith)
 
 take-band-requires : tie.Need-take-band-requires Inv-loop μ-loop
-take-band-requires c κs = let p = c .before .before .before .before .before .before .before .before .before .before .before .before .before .pre in let l = c .before .before .before .before .before .before .loop in let n = c .before .before .before .before .before .before .before .before .before .count-bands .ensures in (band-takes (plane-kept p (n .size)) (l .inv .1) (l .inv .0) ((l .end - 1) / 32 * 32) (omega arith) (omega arith) ((c .before .before .before .count-band) .ensures), omega arith)
+take-band-requires c κs =
+    let p = c .before .before .before .before .before .before .before .before .before .before .before .before .before .pre in
+    let l = c .before .before .before .before .before .before .loop in
+    let n = c .before .before .before .before .before .before .before .before .before .count-bands .ensures in
+    (band-takes (plane-kept p (n .size)) (l .inv .1) (l .inv .0) ((l .end - 1) / 32 * 32) (omega arith) (omega arith) (c .before .before .before .count-band .ensures), omega arith)
 
 loop-less : tie.Need-loop-less Inv-loop μ-loop
-loop-less c = omega (arith, (c .before .before .before .before .before .before .before .before .loop-test) .taken)
+loop-less c = omega (arith, c .before .before .before .before .before .before .before .before .loop-test .taken)
 
 loop-again : tie.Need-loop-again Inv-loop μ-loop
-loop-again c = let p = c .before .before .before .before .before .before .before .before .before .before .before .before .before .before .before .before .pre in let l = c .before .before .before .before .before .before .before .before .before .loop in let n = c .before .before .before .before .before .before .before .before .before .before .before .before .count-bands .ensures in (omega (arith, l .inv .0), band-done (plane-kept p (n .size)) (l .inv .1) (l .inv .0) ((l .end - 1) / 32 * 32) (omega arith) (omega arith) ((c .before .before .before .before .before .before .count-band) .ensures) ((c .before .before .take-band) .ensures))
+loop-again c =
+    let p = c .before .before .before .before .before .before .before .before .before .before .before .before .before .before .before .before .pre in
+    let l = c .before .before .before .before .before .before .before .before .before .loop in
+    let n = c .before .before .before .before .before .before .before .before .before .before .before .before .count-bands .ensures in
+    (omega (arith, l .inv .0), band-done (plane-kept p (n .size)) (l .inv .1) (l .inv .0) ((l .end - 1) / 32 * 32) (omega arith) (omega arith) (c .before .before .before .before .before .before .count-band .ensures) (c .before .before .take-band .ensures))
 
 same-length : tie.Need-same-length Inv-loop μ-loop
-same-length c = let l = c .before .loop in let n = c .before .before .before .before .count-bands .ensures in l .inv .1 .bands .size ∙ n .size
+same-length c =
+    let l = c .before .loop in
+    let n = c .before .before .before .before .count-bands .ensures in
+    l .inv .1 .bands .size ∙ n .size
 
 returns : tie.Need-returns Inv-loop μ-loop
-returns c = let p = c .before .before .before .before .before .before .before .before .pre in let l = c .before .loop in let n = c .before .before .before .before .count-bands .ensures in bands-done p n (l .inv .1) (omega arith)
+returns c =
+    let p = c .before .before .before .before .before .before .before .before .pre in
+    let l = c .before .loop in
+    let n = c .before .before .before .before .count-bands .ensures in
+    bands-done p n (l .inv .1) (omega arith)
 
 pub column-extents-spec : {M : Type 1} → statement M
 column-extents-spec =

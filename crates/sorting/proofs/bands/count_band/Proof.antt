@@ -17,10 +17,16 @@ abbrev μ-loop : tie.MeasureT-loop
 μ-loop mask w start end extents₀ y₀ extents y = end - y
 
 loop-holds : tie.Need-loop-holds Inv-loop μ-loop
-loop-holds c = let a = c .before .before .args in let p = c .before .before .pre in (le-refl _, p .1, put-none (a .start * a .w) (a .extents .now))
+loop-holds c =
+    let a = c .before .before .args in
+    let p = c .before .before .pre in
+    (le-refl _, p .1, put-none (a .start * a .w) (a .extents .now))
 
 count-row-requires : tie.Need-count-row-requires Inv-loop μ-loop
-count-row-requires c κs = let p = c .before .before .before .before .before .pre in let l = c .before .before .loop in counts-row (p .0) (l .inv .2) (l .inv .0) (omega arith)
+count-row-requires c κs =
+    let p = c .before .before .before .before .before .pre in
+    let l = c .before .before .loop in
+    counts-row (p .0) (l .inv .2) (l .inv .0) (omega arith)
 
 add-y : tie.Need-add-y Inv-loop μ-loop
 add-y c = omega arith
@@ -29,13 +35,20 @@ loop-less : tie.Need-loop-less Inv-loop μ-loop
 loop-less c = omega arith
 
 loop-again : tie.Need-loop-again Inv-loop μ-loop
-loop-again c = let a = c .before .before .before .before .before .before .before .before .args in let l = c .before .before .before .before .before .loop in (omega arith, omega arith, put-ends (put-more (l .inv .2) ((c .before .before .count-row) .ensures) (mul-le-mul-right (a .w) (l .inv .0)) (omega arith)) refl (row-next (a .w) (l .y)))
+loop-again c =
+    let a = c .before .before .before .before .before .before .before .before .args in
+    let l = c .before .before .before .before .before .loop in
+    (omega arith, omega arith, put-ends (put-more (l .inv .2) (c .before .before .count-row .ensures) (mul-le-mul-right (a .w) (l .inv .0)) (omega arith)) refl (row-next (a .w) (l .y)))
 
 same-length : tie.Need-same-length Inv-loop μ-loop
 same-length c = let l = c .before .loop in l .inv .2 .size
 
 returns : tie.Need-returns Inv-loop μ-loop
-returns c = let a = c .before .before .before .before .args in let l = c .before .loop in let e : l .y ≡ a .end = omega arith in put-ends (l .inv .2) refl (ap (λ k. k * a .w) e)
+returns c =
+    let a = c .before .before .before .before .args in
+    let l = c .before .loop in
+    let e : l .y ≡ a .end = omega arith in
+    put-ends (l .inv .2) refl (ap (λ k. k * a .w) e)
 
 pub count-band-spec : {M : Type 1} → statement M
 count-band-spec =

@@ -16,28 +16,47 @@ abbrev μ-loop : tie.MeasureT-loop
 μ-loop mask w from to extents₀ i₀ extents i = to - i
 
 loop-holds : tie.Need-loop-holds Inv-loop μ-loop
-loop-holds c = let a = c .before .before .args in let p = c .before .before .pre in (le-refl _, p .0 .order, put-none (a .from) (a .extents .now))
+loop-holds c =
+    let a = c .before .before .args in
+    let p = c .before .before .pre in
+    (le-refl _, p .0 .order, put-none (a .from) (a .extents .now))
 
 shared-slice-read-count-on : tie.Need-shared-slice-read-count-on Inv-loop μ-loop
-shared-slice-read-count-on c = let p = c .before .before .before .before .before .pre in omega (arith, p .0 .inside)
+shared-slice-read-count-on c =
+    let p = c .before .before .before .before .before .pre in
+    omega (arith, p .0 .inside)
 
 sub-count-on : tie.Need-sub-count-on Inv-loop μ-loop
 sub-count-on c = let p = c .before .before .before .before .before .pre in omega (arith, p .1)
 
 mul-count-on : tie.Need-mul-count-on Inv-loop μ-loop
-mul-count-on c = let p = c .before .before .before .before .before .pre in omega (arith, p .0 .inside, p .0 .room)
+mul-count-on c =
+    let p = c .before .before .before .before .before .pre in
+    omega (arith, p .0 .inside, p .0 .room)
 
 slice-read-count-on : tie.Need-slice-read-count-on Inv-loop μ-loop
-slice-read-count-on c = let p = c .before .before .before .before .before .before .pre in let l = c .before .before .before .loop in omega (arith, p .0 .inside, p .0 .room, l .inv .2 .size)
+slice-read-count-on c =
+    let p = c .before .before .before .before .before .before .pre in
+    let l = c .before .before .before .loop in
+    omega (arith, p .0 .inside, p .0 .room, l .inv .2 .size)
 
 count-on-requires : tie.Need-count-on-requires Inv-loop μ-loop
-count-on-requires c κs = let a = c .before .before .before .before .before .before .args in let p = c .before .before .before .before .before .before .pre in let l = c .before .before .before .loop in above-le (counts-next (a .to) (p .0) (l .inv .2) (l .inv .0) (l .inv .1) (le-refl _)) (omega (arith, p .1))
+count-on-requires c κs =
+    let a = c .before .before .before .before .before .before .args in
+    let p = c .before .before .before .before .before .before .pre in
+    let l = c .before .before .before .loop in
+    above-le (counts-next (a .to) (p .0) (l .inv .2) (l .inv .0) (l .inv .1) (le-refl _)) (omega (arith, p .1))
 
 mul-extents : tie.Need-mul-extents Inv-loop μ-loop
-mul-extents c = let p = c .before .before .before .before .before .before .before .pre in omega (arith, p .0 .inside, p .0 .room)
+mul-extents c =
+    let p = c .before .before .before .before .before .before .before .pre in
+    omega (arith, p .0 .inside, p .0 .room)
 
 slice-write-extents : tie.Need-slice-write-extents Inv-loop μ-loop
-slice-write-extents c = let p = c .before .before .before .before .before .before .before .pre in let l = c .before .before .before .before .loop in omega (arith, p .0 .inside, p .0 .room, l .inv .2 .size)
+slice-write-extents c =
+    let p = c .before .before .before .before .before .before .before .pre in
+    let l = c .before .before .before .before .loop in
+    omega (arith, p .0 .inside, p .0 .room, l .inv .2 .size)
 
 add-i : tie.Need-add-i Inv-loop μ-loop
 add-i c = omega arith
@@ -46,7 +65,11 @@ loop-less : tie.Need-loop-less Inv-loop μ-loop
 loop-less c = omega arith
 
 loop-again : tie.Need-loop-again Inv-loop μ-loop
-loop-again c = let a = c .before .before .before .before .before .before .before .args in let p = c .before .before .before .before .before .before .before .pre in let l = c .before .before .before .before .loop in (omega arith, omega arith, put-up _ (l .inv .2) (l .inv .0) (omega (arith, p .0 .inside, p .0 .room)) (count-below (counts-next (a .to) (p .0) (l .inv .2) (l .inv .0) (l .inv .1) (le-refl _)) (omega (arith, p .1)) _ ((c .count-on) .ensures)))
+loop-again c =
+    let a = c .before .before .before .before .before .before .before .args in
+    let p = c .before .before .before .before .before .before .before .pre in
+    let l = c .before .before .before .before .loop in
+    (omega arith, omega arith, put-up _ (l .inv .2) (l .inv .0) (omega (arith, p .0 .inside, p .0 .room)) (count-below (counts-next (a .to) (p .0) (l .inv .2) (l .inv .0) (l .inv .1) (le-refl _)) (omega (arith, p .1)) _ (c .count-on .ensures)))
 
 same-length : tie.Need-same-length Inv-loop μ-loop
 same-length c = let l = c .before .loop in l .inv .2 .size

@@ -36,7 +36,10 @@ loop-less : tie.Need-loop-less Inv-loop μ-loop
 loop-less c = omega arith
 
 loop-again : tie.Need-loop-again Inv-loop μ-loop
-loop-again c = let a = c .before .before .before .before .before .before .args in let l = c .before .before .before .loop in (omega arith, put-up _ (l .inv .1) (omega arith) (omega arith) (count-first (a .w) (a .mask .now) (l .i) _ (omega arith) ((c .count-on) .ensures)))
+loop-again c =
+    let a = c .before .before .before .before .before .before .args in
+    let l = c .before .before .before .loop in
+    (omega arith, put-up _ (l .inv .1) (omega arith) (omega arith) (count-first (a .w) (a .mask .now) (l .i) _ (omega arith) (c .count-on .ensures)))
 
 same-length : tie.Need-same-length Inv-loop μ-loop
 same-length c = let l = c .before .loop in l .inv .1 .size

@@ -16,13 +16,18 @@ abbrev μ-loop : tie.MeasureT-loop
 μ-loop mask w y extents₀ x₀ extents x = w - x
 
 loop-holds : tie.Need-loop-holds Inv-loop μ-loop
-loop-holds c = let a = c .before .before .args in (omega arith, put-ends (put-none ((a .y + 31) * a .w) (a .extents .now)) refl (omega arith))
+loop-holds c =
+    let a = c .before .before .args in
+    (omega arith, put-ends (put-none ((a .y + 31) * a .w) (a .extents .now)) refl (omega arith))
 
 sub-loop : tie.Need-sub-loop Inv-loop μ-loop
 sub-loop c = omega arith
 
 count-last-piece-requires : tie.Need-count-last-piece-requires Inv-loop μ-loop
-count-last-piece-requires c κs = let p = c .before .before .before .before .before .pre in let l = c .before .before .loop in (counts-kept p (l .inv .1) (omega arith), omega arith, le-refl _)
+count-last-piece-requires c κs =
+    let p = c .before .before .before .before .before .pre in
+    let l = c .before .before .loop in
+    (counts-kept p (l .inv .1) (omega arith), omega arith, le-refl _)
 
 add-x : tie.Need-add-x Inv-loop μ-loop
 add-x c = omega arith
@@ -31,19 +36,28 @@ loop-less : tie.Need-loop-less Inv-loop μ-loop
 loop-less c = omega arith
 
 loop-again : tie.Need-loop-again Inv-loop μ-loop
-loop-again c = let l = c .before .before .before .before .before .loop in (omega arith, put-ends (put-more (l .inv .1) ((c .before .before .count-last-piece) .ensures) (omega arith) (omega arith)) refl (omega arith))
+loop-again c =
+    let l = c .before .before .before .before .before .loop in
+    (omega arith, put-ends (put-more (l .inv .1) (c .before .before .count-last-piece .ensures) (omega arith) (omega arith)) refl (omega arith))
 
 sub-count-last-piece : tie.Need-sub-count-last-piece Inv-loop μ-loop
 sub-count-last-piece c = omega arith
 
 count-last-piece-requires-2 : tie.Need-count-last-piece-requires-2 Inv-loop μ-loop
-count-last-piece-requires-2 c κs = let p = c .before .before .before .before .before .pre in let l = c .before .before .loop in (counts-kept p (l .inv .1) (omega arith), omega arith, omega arith)
+count-last-piece-requires-2 c κs =
+    let p = c .before .before .before .before .before .pre in
+    let l = c .before .before .loop in
+    (counts-kept p (l .inv .1) (omega arith), omega arith, omega arith)
 
 same-length : tie.Need-same-length Inv-loop μ-loop
-same-length c = let l = c .before .before .before .before .before .loop in (c .before .before .count-last-piece2) .ensures .size ∙ l .inv .1 .size
+same-length c =
+    let l = c .before .before .before .before .before .loop in
+    c .before .before .count-last-piece2 .ensures .size ∙ l .inv .1 .size
 
 returns : tie.Need-returns Inv-loop μ-loop
-returns c = let l = c .before .before .before .before .before .loop in put-ends (put-more (l .inv .1) ((c .before .before .count-last-piece2) .ensures) (omega arith) (omega arith)) refl (omega arith)
+returns c =
+    let l = c .before .before .before .before .before .loop in
+    put-ends (put-more (l .inv .1) (c .before .before .count-last-piece2 .ensures) (omega arith) (omega arith)) refl (omega arith)
 
 pub count-last-row-spec : {M : Type 1} → statement M
 count-last-row-spec =

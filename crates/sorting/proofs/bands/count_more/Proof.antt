@@ -31,10 +31,19 @@ slice-read-counts : tie.Need-slice-read-counts Inv-loop μ-loop
 slice-read-counts c = let l = c .before .before .before .loop in let z = l .inv .1 .size in omega arith
 
 add-counts : tie.Need-add-counts Inv-loop μ-loop
-add-counts c = let p = c .before .before .before .before .pre in let l = c .before .before .before .loop in let z = l .inv .1 .upper (l .i) (omega arith) in let y = p .1 (l .i) (omega arith) in omega arith
+add-counts c =
+    let p = c .before .before .before .before .pre in
+    let l = c .before .before .before .loop in
+    let z = l .inv .1 .upper (l .i) (omega arith) in
+    let y = p .1 (l .i) (omega arith) in
+    omega arith
 
 mul-counts : tie.Need-mul-counts Inv-loop μ-loop
-mul-counts c = let a = c .before .before .before .before .args in let p = c .before .before .before .before .pre in let l = c .before .before .before .loop in record { fits = let z = l .inv .1 .upper (l .i) (omega arith) in let y = p .1 (l .i) (omega arith) in let x = bit-times-le (ltb 0 (getD (a .dots .now) (l .i) 0)) (getD (l .counts) (l .i) 0 + 1) in omega arith }
+mul-counts c =
+    let a = c .before .before .before .before .args in
+    let p = c .before .before .before .before .pre in
+    let l = c .before .before .before .loop in
+    record { fits = let z = l .inv .1 .upper (l .i) (omega arith) in let y = p .1 (l .i) (omega arith) in let x = bit-times-le (ltb 0 (getD (a .dots .now) (l .i) 0)) (getD (l .counts) (l .i) 0 + 1) in omega arith }
 
 slice-write-counts : tie.Need-slice-write-counts Inv-loop μ-loop
 slice-write-counts c = let l = c .before .before .before .loop in let z = l .inv .1 .size in omega arith
@@ -47,7 +56,10 @@ loop-less c = omega arith
 
 loop-again : tie.Need-loop-again Inv-loop μ-loop
 unfolding isInk
-loop-again c = let a = c .before .before .before .before .args in let l = c .before .before .before .loop in (omega arith, put-up _ (l .inv .1) (omega arith) (omega arith) (bit-times (ltb 0 (getD (a .dots .now) (l .i) 0)) (getD (l .counts) (l .i) 0 + 1) ∙ ap (λ n. cond (isInk (a .dots .now) (l .i)) (n + 1) 0) (l .inv .1 .upper (l .i) (omega arith))))
+loop-again c =
+    let a = c .before .before .before .before .args in
+    let l = c .before .before .before .loop in
+    (omega arith, put-up _ (l .inv .1) (omega arith) (omega arith) (bit-times (ltb 0 (getD (a .dots .now) (l .i) 0)) (getD (l .counts) (l .i) 0 + 1) ∙ ap (λ n. cond (isInk (a .dots .now) (l .i)) (n + 1) 0) (l .inv .1 .upper (l .i) (omega arith))))
 
 same-length : tie.Need-same-length Inv-loop μ-loop
 same-length c = let l = c .before .loop in l .inv .1 .size

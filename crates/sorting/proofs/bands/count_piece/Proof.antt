@@ -40,7 +40,10 @@ same-length : tie.Need-same-length
 same-length c = search needs
 
 returns : tie.Need-returns
-returns c = let a = c .before .before .before .before .before .before .before .before .before .args in let p = c .before .before .before .before .before .before .before .before .before .pre in put-filled (a .from) (a .from + 64) 0 (a .extents .now) ((c .before .before .fill) .last .0) (omega arith) (omega (arith, p .0 .inside, p .0 .room)) ((c .before .before .fill) .ensures) (λ k x y. count-blank (a .w) (a .mask .now) k (p .0 .wide) (piece-blank (a .from) (a .from + 64) (a .mask .now) (p .0 .inside) ((c .before .before .before .before .before .is-blank) .ensures ((c .before .before .before .before .if1) .taken)) k x y))
+returns c =
+    let a = c .before .before .before .before .before .before .before .before .before .args in
+    let p = c .before .before .before .before .before .before .before .before .before .pre in
+    put-filled (a .from) (a .from + 64) 0 (a .extents .now) (c .before .before .fill .last .0) (omega arith) (omega (arith, p .0 .inside, p .0 .room)) (c .before .before .fill .ensures) (λ k x y. count-blank (a .w) (a .mask .now) k (p .0 .wide) (piece-blank (a .from) (a .from + 64) (a .mask .now) (p .0 .inside) (c .before .before .before .before .before .is-blank .ensures (c .before .before .before .before .if1 .taken)) k x y))
 
 count-dots-requires : tie.Need-count-dots-requires
 count-dots-requires c κs = search needs

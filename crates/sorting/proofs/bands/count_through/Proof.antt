@@ -9,7 +9,9 @@ cast-all : tie.Need-cast-all
 cast-all c = search needs
 
 mul-sum : tie.Need-mul-sum
-mul-sum c = let a = c .args in record { fits = let z = bit-times-le (eqb (a .n) 32) (a .above) in omega arith }
+mul-sum c =
+    let a = c .args in
+    record { fits = let z = bit-times-le (eqb (a .n) 32) (a .above) in omega arith }
 
 add-sum : tie.Need-add-sum
 add-sum c = let a = c .args in let z = bit-times-le (eqb (a .n) 32) (a .above) in omega arith

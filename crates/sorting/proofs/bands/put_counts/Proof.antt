@@ -14,13 +14,15 @@ abbrev μ-loop : tie.MeasureT-loop
 μ-loop counts n at extents₀ i₀ extents i = n - i
 
 loop-holds : tie.Need-loop-holds Inv-loop μ-loop
-loop-holds c = let a = c .args in (omega arith, put-ends (put-none (a .at) (a .extents .now)) refl (omega arith))
+loop-holds c =
+    let a = c .args in
+    (omega arith, put-ends (put-none (a .at) (a .extents .now)) refl (omega arith))
 
 shared-slice-read-extents : tie.Need-shared-slice-read-extents Inv-loop μ-loop
 shared-slice-read-extents c = omega arith
 
 cast-extents : tie.Need-cast-extents Inv-loop μ-loop
-cast-extents c = let l = c .before .before .loop in omega (arith, (c .shared-slice-known) .given (l .i))
+cast-extents c = let l = c .before .before .loop in omega (arith, c .shared-slice-known .given (l .i))
 
 add-extents : tie.Need-add-extents Inv-loop μ-loop
 add-extents c = omega arith
@@ -38,7 +40,11 @@ loop-less : tie.Need-loop-less Inv-loop μ-loop
 loop-less c = omega arith
 
 loop-again : tie.Need-loop-again Inv-loop μ-loop
-loop-again c = let a = c .before .before .before .args in let l = c .before .before .loop in let z : l .i ≡ a .at + l .i - a .at = omega arith in (omega arith, put-ends (put-up _ (l .inv .1) (omega arith) (omega arith) (ap (λ j. getD (a .counts .now) j 0) z)) refl (omega arith))
+loop-again c =
+    let a = c .before .before .before .args in
+    let l = c .before .before .loop in
+    let z : l .i ≡ a .at + l .i - a .at = omega arith in
+    (omega arith, put-ends (put-up _ (l .inv .1) (omega arith) (omega arith) (ap (λ j. getD (a .counts .now) j 0) z)) refl (omega arith))
 
 same-length : tie.Need-same-length Inv-loop μ-loop
 same-length c = let l = c .before .loop in l .inv .1 .size

@@ -16,49 +16,90 @@ abbrev μ-loop : tie.MeasureT-loop
 μ-loop mask w h from to extents₀ i₀ extents i = i - from
 
 loop-holds : tie.Need-loop-holds Inv-loop μ-loop
-loop-holds c = let a = c .before .before .args in let p = c .before .before .pre in (p .0 .order, le-refl _, put-none (a .to) (a .extents .now))
+loop-holds c =
+    let a = c .before .before .args in
+    let p = c .before .before .pre in
+    (p .0 .order, le-refl _, put-none (a .to) (a .extents .now))
 
 sub-i : tie.Need-sub-i Inv-loop μ-loop
 sub-i c = omega arith
 
 shared-slice-read-take-on : tie.Need-shared-slice-read-take-on Inv-loop μ-loop
-shared-slice-read-take-on c = let p = c .before .before .before .before .before .pre in let l = c .before .before .loop in omega (arith, p .0 .inside, p .0 .room, p .0 .few, p .0 .size, p .0 .wide, p .1, l .inv .2 .size)
+shared-slice-read-take-on c =
+    let p = c .before .before .before .before .before .pre in
+    let l = c .before .before .loop in
+    omega (arith, p .0 .inside, p .0 .room, p .0 .few, p .0 .size, p .0 .wide, p .1, l .inv .2 .size)
 
 add-take-on : tie.Need-add-take-on Inv-loop μ-loop
-add-take-on c = let p = c .before .before .before .before .before .pre in let l = c .before .before .loop in omega (arith, p .0 .inside, p .0 .room, p .0 .few, p .0 .size, p .0 .wide, p .1, l .inv .2 .size)
+add-take-on c =
+    let p = c .before .before .before .before .before .pre in
+    let l = c .before .before .loop in
+    omega (arith, p .0 .inside, p .0 .room, p .0 .few, p .0 .size, p .0 .wide, p .1, l .inv .2 .size)
 
 shared-slice-read-take-on-2 : tie.Need-shared-slice-read-take-on-2 Inv-loop μ-loop
-shared-slice-read-take-on-2 c = let p = c .before .before .before .before .before .before .pre in let l = c .before .before .before .loop in omega (arith, p .0 .inside, p .0 .room, p .0 .few, p .0 .size, p .0 .wide, p .1, l .inv .2 .size)
+shared-slice-read-take-on-2 c =
+    let p = c .before .before .before .before .before .before .pre in
+    let l = c .before .before .before .loop in
+    omega (arith, p .0 .inside, p .0 .room, p .0 .few, p .0 .size, p .0 .wide, p .1, l .inv .2 .size)
 
 mul-take-on : tie.Need-mul-take-on Inv-loop μ-loop
-mul-take-on c = let p = c .before .before .before .before .before .before .pre in let l = c .before .before .before .loop in omega (arith, p .0 .inside, p .0 .room, p .0 .few, p .0 .size, p .0 .wide, p .1, l .inv .2 .size)
+mul-take-on c =
+    let p = c .before .before .before .before .before .before .pre in
+    let l = c .before .before .before .loop in
+    omega (arith, p .0 .inside, p .0 .room, p .0 .few, p .0 .size, p .0 .wide, p .1, l .inv .2 .size)
 
 slice-read-take-on : tie.Need-slice-read-take-on Inv-loop μ-loop
-slice-read-take-on c = let p = c .before .before .before .before .before .before .before .pre in let l = c .before .before .before .before .loop in omega (arith, p .0 .inside, p .0 .room, p .0 .few, p .0 .size, p .0 .wide, p .1, l .inv .2 .size)
+slice-read-take-on c =
+    let p = c .before .before .before .before .before .before .before .pre in
+    let l = c .before .before .before .before .loop in
+    omega (arith, p .0 .inside, p .0 .room, p .0 .few, p .0 .size, p .0 .wide, p .1, l .inv .2 .size)
 
 add-take-on-2 : tie.Need-add-take-on-2 Inv-loop μ-loop
-add-take-on-2 c = let p = c .before .before .before .before .before .before .before .pre in let l = c .before .before .before .before .loop in omega (arith, p .0 .inside, p .0 .room, p .0 .few, p .0 .size, p .0 .wide, p .1, l .inv .2 .size)
+add-take-on-2 c =
+    let p = c .before .before .before .before .before .before .before .pre in
+    let l = c .before .before .before .before .loop in
+    omega (arith, p .0 .inside, p .0 .room, p .0 .few, p .0 .size, p .0 .wide, p .1, l .inv .2 .size)
 
 mul-take-on-2 : tie.Need-mul-take-on-2 Inv-loop μ-loop
-mul-take-on-2 c = let p = c .before .before .before .before .before .before .before .pre in let l = c .before .before .before .before .loop in omega (arith, p .0 .inside, p .0 .room, p .0 .few, p .0 .size, p .0 .wide, p .1, l .inv .2 .size)
+mul-take-on-2 c =
+    let p = c .before .before .before .before .before .before .before .pre in
+    let l = c .before .before .before .before .loop in
+    omega (arith, p .0 .inside, p .0 .room, p .0 .few, p .0 .size, p .0 .wide, p .1, l .inv .2 .size)
 
 slice-read-take-on-2 : tie.Need-slice-read-take-on-2 Inv-loop μ-loop
-slice-read-take-on-2 c = let p = c .before .before .before .before .before .before .before .before .pre in let l = c .before .before .before .before .before .loop in omega (arith, p .0 .inside, p .0 .room, p .0 .few, p .0 .size, p .0 .wide, p .1, l .inv .2 .size)
+slice-read-take-on-2 c =
+    let p = c .before .before .before .before .before .before .before .before .pre in
+    let l = c .before .before .before .before .before .loop in
+    omega (arith, p .0 .inside, p .0 .room, p .0 .few, p .0 .size, p .0 .wide, p .1, l .inv .2 .size)
 
 take-on-requires : tie.Need-take-on-requires Inv-loop μ-loop
-take-on-requires c κs = let a = c .before .before .before .before .before .before .before .before .args in let p = c .before .before .before .before .before .before .before .before .pre in let l = c .before .before .before .before .before .loop in take-bounds (takes-next (p .0) (a .from) (l .inv .2) (le-refl _) (l .inv .0) (l .inv .1)) (omega arith) (omega (arith, p .1))
+take-on-requires c κs =
+    let a = c .before .before .before .before .before .before .before .before .args in
+    let p = c .before .before .before .before .before .before .before .before .pre in
+    let l = c .before .before .before .before .before .loop in
+    take-bounds (takes-next (p .0) (a .from) (l .inv .2) (le-refl _) (l .inv .0) (l .inv .1)) (omega arith) (omega (arith, p .1))
 
 mul-extents : tie.Need-mul-extents Inv-loop μ-loop
-mul-extents c = let p = c .before .before .before .before .before .before .before .before .before .pre in let l = c .before .before .before .before .before .before .loop in omega (arith, p .0 .inside, p .0 .room, p .0 .few, p .0 .size, p .0 .wide, p .1, l .inv .2 .size)
+mul-extents c =
+    let p = c .before .before .before .before .before .before .before .before .before .pre in
+    let l = c .before .before .before .before .before .before .loop in
+    omega (arith, p .0 .inside, p .0 .room, p .0 .few, p .0 .size, p .0 .wide, p .1, l .inv .2 .size)
 
 slice-write-extents : tie.Need-slice-write-extents Inv-loop μ-loop
-slice-write-extents c = let p = c .before .before .before .before .before .before .before .before .before .pre in let l = c .before .before .before .before .before .before .loop in omega (arith, p .0 .inside, p .0 .room, p .0 .few, p .0 .size, p .0 .wide, p .1, l .inv .2 .size)
+slice-write-extents c =
+    let p = c .before .before .before .before .before .before .before .before .before .pre in
+    let l = c .before .before .before .before .before .before .loop in
+    omega (arith, p .0 .inside, p .0 .room, p .0 .few, p .0 .size, p .0 .wide, p .1, l .inv .2 .size)
 
 loop-less : tie.Need-loop-less Inv-loop μ-loop
 loop-less c = omega arith
 
 loop-again : tie.Need-loop-again Inv-loop μ-loop
-loop-again c = let a = c .before .before .before .before .before .before .before .before .before .args in let p = c .before .before .before .before .before .before .before .before .before .pre in let l = c .before .before .before .before .before .before .loop in (omega arith, omega arith, put-down _ (l .inv .2) (omega arith) (l .inv .1) (omega (arith, p .0 .inside, p .0 .room)) (take-above (takes-next (p .0) (a .from) (l .inv .2) (le-refl _) (l .inv .0) (l .inv .1)) (omega arith) (omega (arith, p .1)) _ ((c .take-on) .ensures)))
+loop-again c =
+    let a = c .before .before .before .before .before .before .before .before .before .args in
+    let p = c .before .before .before .before .before .before .before .before .before .pre in
+    let l = c .before .before .before .before .before .before .loop in
+    (omega arith, omega arith, put-down _ (l .inv .2) (omega arith) (l .inv .1) (omega (arith, p .0 .inside, p .0 .room)) (take-above (takes-next (p .0) (a .from) (l .inv .2) (le-refl _) (l .inv .0) (l .inv .1)) (omega arith) (omega (arith, p .1)) _ (c .take-on .ensures)))
 
 same-length : tie.Need-same-length Inv-loop μ-loop
 same-length c = let l = c .before .loop in l .inv .2 .size

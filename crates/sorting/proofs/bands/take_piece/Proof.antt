@@ -1,7 +1,6 @@
 use native.Mathlib.Omega.{arith}
 use borrow.Author.Tests.{not-true}
 use Rattle.sorting.proofs.BandLaws.{take-none, piece-apart}
-use Prim.Native.Nat.{_+_}
 use borrow.Author.Needs.{needs}
 use Rattle.sorting.proofs.bands.take_piece.Statement.{statement}
 use Rattle.sorting.proofs.bands.take_piece.Tie as tie
@@ -37,7 +36,10 @@ joins-requires : tie.Need-joins-requires
 joins-requires c κs = search needs
 
 returns : tie.Need-returns
-returns c = let a = c .before .before .before .before .before .before .args in let p = c .before .before .before .before .before .before .pre in take-none (p .0) (piece-apart (a .from) 32 (a .w) (a .mask .now) (omega (arith, p .0 .inside, p .0 .size)) ((c .before .joins) .ensures (not-true _ ((c .if1) .taken))))
+returns c =
+    let a = c .before .before .before .before .before .before .args in
+    let p = c .before .before .before .before .before .before .pre in
+    take-none (p .0) (piece-apart (a .from) 32 (a .w) (a .mask .now) (omega (arith, p .0 .inside, p .0 .size)) (c .before .joins .ensures (not-true _ (c .if1 .taken))))
 
 take-dots-requires : tie.Need-take-dots-requires
 take-dots-requires c κs = search needs
