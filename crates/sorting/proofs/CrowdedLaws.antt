@@ -15,7 +15,8 @@ use Rattle.memory.proofs.TableLaws.{length-table, getD-table}
 use Rattle.memory.specs.Limits.{maxExtent}
 use Rattle.labelling.specs.Labels.{isInk}
 use Rattle.sorting.specs.Extents.{behind, ahead, runThrough, extent}
-use Rattle.sorting.specs.Scans.{Starts, clear, blank, until, RowTo, RowParts, RowCounted, PartOfRow, noFour, shortExtent, singleDot}
+use Rattle.sorting.specs.Scans.{Starts, clear, blank, until, RowTo, RowParts, RowCounted, PartOfRow, noFour, shortExtent, shortExtentAt, singleDot}
+use Rattle.sorting.specs.Bands.{Put}
 use Rattle.sorting.proofs.OverLaws.{until-below, until-from}
 use Rattle.sorting.proofs.RunLaws.{behind-on, behind-off, ahead-on, ahead-off, runThrough-on, runThrough-off, runThrough-next, runThrough-counted, starts-run}
 use Rattle.sorting.proofs.ExtentLaws.{ink-zero, bit-times, row-size}
@@ -99,16 +100,7 @@ row-whole row to e h s n a b =
     at k l (yes z) = a k z ∙ sym (getD-table _ (length row) k 0 l ∙ until-below to (extent (isInk row) (length row)) (singleDot row) k z)
     at k l (no z) = b k (omega arith) l ∙ sym (getD-table _ (length row) k 0 l ∙ until-from to (extent (isInk row) (length row)) (singleDot row) k (omega arith))
 
--- the first part is the whole, and its dots have their extents
-pub parts-first : (row : List ℕ) (x i to : ℕ) (g : ℕ → ℕ) (e : List ℕ) → RowParts row x i to (extent (isInk row) (length row)) g e → to ≤ i → i ≤ to → PartOfRow row x to → RowTo row to e
-parts-first row x i to g e S l h P =
-    row-whole row to e (let n = P .inside in omega arith) (P .upto) (S .size) (λ k a. at k a (decLt k x)) (S .above)
-  where
-    at : (k : ℕ) → k < to → Dec (k < x) → getD e k 0 ≡ extent (isInk row) (length row) k
-    at k a (yes z) = S .below k z
-    at k a (no z) = S .first k (omega arith) (omega arith)
-
--- the second part is
+-- the second part is the whole, and its dots have their extents
 pub parts-second : (row : List ℕ) (x i to : ℕ) (f : ℕ → ℕ) (e : List ℕ) → RowParts row x i to f (extent (isInk row) (length row)) e → i ≤ x → x ≤ i → PartOfRow row x to → RowTo row to e
 parts-second row x i to f e S l h P =
     row-whole row to e (let n = P .inside in omega arith) (P .upto) (S .size) (λ k a. at k a (decLt k x)) (S .above)
@@ -116,6 +108,15 @@ parts-second row x i to f e S l h P =
     at : (k : ℕ) → k < to → Dec (k < x) → getD e k 0 ≡ extent (isInk row) (length row) k
     at k a (yes z) = S .below k z
     at k a (no z) = S .second k (omega arith) a
+
+-- extents put from x on
+pub row-put : {row : List ℕ} {x to : ℕ} {s e : List ℕ} → RowTo row x s → PartOfRow row x to → Put (extent (isInk row) (length row)) x to s e → RowTo row to e
+row-put {row} {x} {to} {s} {e} R P Q =
+    row-whole row to e (let n = P .inside in omega arith) (P .upto) (Q .size ∙ row-size row x s R) (λ k a. at k a (decLt k x)) (λ k a b. Q .upper k a ∙ row-above R k (let o = P .order in omega arith) b)
+  where
+    at : (k : ℕ) → k < to → Dec (k < x) → getD e k 0 ≡ extent (isInk row) (length row) k
+    at k a (yes z) = Q .lower k z ∙ row-below R k z
+    at k a (no z) = Q .put k (omega arith) a
 
 -- Counts
 
@@ -299,10 +300,20 @@ module _ (row : List ℕ) (x to : ℕ) (S : Starts (isInk row) x) (room : to + 3
       (λ j. shortExtent (p m) (p (e₁ j)) (p (e₂ j)) (p (e₃ j)) (p (e₄ j))) ∙ (core m (omega arith) (omega arith) ∙ ap (extent p (length row)) (sym e₂))
 
   -- by the bytes
-  pub short-bytes : (i : ℕ) → 2 ≤ x → x ≤ i → i < to
-      → shortExtent (ltb 0 (getD row (i - 2) 0)) (ltb 0 (getD row (i - 1) 0)) (ltb 0 (getD row i 0)) (ltb 0 (getD row (i + 1) 0)) (ltb 0 (getD row (i + 2) 0)) ≡ extent (isInk row) (length row) i
+  pub short-bytes : (i : ℕ) → 2 ≤ x → x ≤ i → i < to → shortExtentAt row i ≡ extent (isInk row) (length row) i
   unfolding isInk
   short-bytes i two l h = short-is i two l h
+
+-- the five dots around dot x + k, counted from two before x
+pub short-around : (row : List ℕ) (x k : ℕ) → 2 ≤ x
+    → shortExtent (ltb 0 (getD row (x - 2 + k) 0)) (ltb 0 (getD row (x - 2 + k + 1) 0)) (ltb 0 (getD row (x - 2 + k + 2) 0)) (ltb 0 (getD row (x - 2 + k + 3) 0)) (ltb 0 (getD row (x - 2 + k + 4) 0)) ≡ shortExtentAt row (x + k)
+short-around row x k two =
+    let e₀ : x - 2 + k ≡ x + k - 2 = omega arith in
+    let e₁ : x - 2 + k + 1 ≡ x + k - 1 = omega arith in
+    let e₂ : x - 2 + k + 2 ≡ x + k = omega arith in
+    let e₃ : x - 2 + k + 3 ≡ x + k + 1 = omega arith in
+    let e₄ : x - 2 + k + 4 ≡ x + k + 2 = omega arith in
+    λ j. shortExtent (ltb 0 (getD row (e₀ j) 0)) (ltb 0 (getD row (e₁ j) 0)) (ltb 0 (getD row (e₂ j) 0)) (ltb 0 (getD row (e₃ j) 0)) (ltb 0 (getD row (e₄ j) 0))
 
 -- none so far, nor here: in the way that the loop tests it
 pub short-more : (row : List ℕ) (x i : ℕ) (short : Bool) → (short ≡ true → (k : ℕ) → x ≤ k → k < i → noFour row k)

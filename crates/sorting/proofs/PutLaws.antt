@@ -2,6 +2,7 @@
 use mathlib.Core.Path.{_≡_, refl, sym, ap, _∙_}
 use mathlib.Core.List.{List}
 use Prim.Native.Nat.{ℕ, _+_, _-_, _≤_, _<_}
+use native.Mathlib.Nat.{le-refl}
 use native.Mathlib.Decide.{ℕ-discrete, decLt}
 use native.Mathlib.Omega.{arith}
 use borrow.Rule.Slice.PartMut.{putMid}
@@ -58,9 +59,9 @@ put-down {f} {b} {i} {s} {e} v P o l u q =
     go k x c (yes d) = ap (λ j. getD (set e (i - 1) v) j 0) d ∙ (getD-set-same e (i - 1) v 0 (let z = P .size in omega arith) ∙ (q ∙ ap f (sym d)))
     go k x c (no d) = getD-set-other e (i - 1) k v 0 d ∙ P .put k (omega arith) c
 
--- the next part, going up
-pub put-more : {f : ℕ → ℕ} {a b c : ℕ} {s e t : List ℕ} → Put f a b s e → Put f b c e t → a ≤ b → b ≤ c → Put f a c s t
-put-more {f} {a} {b} {c} {s} {e} {t} P Q l u =
+-- the next part, going up; it may lie partly over the one before it
+pub put-over : {f : ℕ → ℕ} {a b c i : ℕ} {s e t : List ℕ} → Put f a i s e → Put f b c e t → a ≤ b → b ≤ i → i ≤ c → Put f a c s t
+put-over {f} {a} {b} {c} {i} {s} {e} {t} P Q l m u =
     record {
       size = Q .size ∙ P .size;
       put = λ k x y. go k x y (decLt k b);
@@ -69,8 +70,11 @@ put-more {f} {a} {b} {c} {s} {e} {t} P Q l u =
     }
   where
     go : (k : ℕ) → a ≤ k → k < c → Dec (k < b) → getD t k 0 ≡ f k
-    go k x y (yes d) = Q .lower k d ∙ P .put k x d
+    go k x y (yes d) = Q .lower k d ∙ P .put k x (omega arith)
     go k x y (no d) = Q .put k (omega arith) y
+
+pub put-more : {f : ℕ → ℕ} {a b c : ℕ} {s e t : List ℕ} → Put f a b s e → Put f b c e t → a ≤ b → b ≤ c → Put f a c s t
+put-more P Q l u = put-over P Q l (le-refl _) u
 
 -- and going down
 pub put-more-down : {f : ℕ → ℕ} {a b c : ℕ} {s e t : List ℕ} → Put f b c s e → Put f a b e t → a ≤ b → b ≤ c → Put f a c s t

@@ -64,6 +64,10 @@ noFour row k = (isInk row k && isInk row (k + 1) && isInk row (k + 2) && isInk r
 abbrev pub shortExtent : Bool → Bool → Bool → Bool → Bool → ℕ
 shortExtent a b dot d e = cond dot (1 + cond b (cond a 2 1) 0 + cond d (cond e 2 1) 0) 0
 
+-- the same of dot i of a row
+abbrev pub shortExtentAt : List ℕ → ℕ → ℕ
+shortExtentAt row i = shortExtent (ltb 0 (getD row (i - 2) 0)) (ltb 0 (getD row (i - 1) 0)) (ltb 0 (getD row i 0)) (ltb 0 (getD row (i + 1) 0)) (ltb 0 (getD row (i + 2) 0))
+
 -- how many ink dots in a row, down its column, end at dot i
 abbrev pub countDown : ℕ → List ℕ → ℕ → ℕ
 countDown w m i = behind (inkAt w m (i % w)) (suc (i / w))

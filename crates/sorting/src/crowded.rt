@@ -1,14 +1,18 @@
 // Extents along a row where its runs are short or many: no branch depends on a dot, which on such rows could not be foreseen.
 ghost use mathlib.Core.Path.{_≡_};
 ghost use mathlib.Core.Bool.{cond, true, false, _&&_};
-ghost use Prim.Native.Nat.{ℕ, _+_, _≤_, _<_};
-ghost use lib.ListN.{length};
+ghost use Prim.Native.Nat.{ℕ, _+_, _-_, _≤_, _<_};
+ghost use lib.ListN.{length, getD};
 ghost use lib.Dec.{ltb};
 ghost use Rattle.labelling.specs.Labels.{isInk};
-ghost use Rattle.sorting.specs.Scans.{Starts, RowTo, RowCounted, noFour, shortExtent, PartOfRow};
+ghost use Rattle.sorting.specs.Scans.{Starts, RowTo, RowCounted, noFour, shortExtent, shortExtentAt, PartOfRow};
+ghost use Rattle.sorting.specs.Bands.{Put};
 
 // So many turns in a stretch of 64 dots are many: measured, no promise goes by it.
 const MANY: u8 = 8;
+
+// The dots of a chunk whose extents are told at once.
+const CHUNK: usize = 32;
 
 // The last start from x up to `to`.
 pub fn start_before(row: &[u8], x: usize, to: usize) -> usize
@@ -54,16 +58,61 @@ fn short_extent(a: u8, b: u8, dot: u8, d: u8, e: u8) -> u8
     ink * (1 + before + after)
 }
 
-// The extents from the start x up to the start `to`, where no run has more than three dots.
+// The extents from the start x up to the start `to`, where no run has more than three dots. The last chunk may lie partly over the one
+// before it.
 pub fn short_extents(row: &[u8], x: usize, to: usize, extents: &mut [u32])
-    requires { ⌜ (PartOfRow (now row) x to) × (RowTo (now row) x (now extents)) × (2 ≤ x) × (to + 3 ≤ length (now row)) × ((k : ℕ) → x ≤ k → k < to → noFour (now row) k) ⌝ }
+    requires { ⌜ (PartOfRow (now row) x to) × (RowTo (now row) x (now extents)) × (2 ≤ x) × (to + 3 ≤ length (now row)) × ((k : ℕ) → x ≤ k → k < to → noFour (now row) k) × (x + 32 ≤ to) ⌝ }
     ensures { λ _. ⌜ RowTo (now (row .entry)) to (now (extents .exit)) ⌝ }
 {
     let mut i = x;
-    while i < to {
-        extents[i] = short_extent(row[i - 2], row[i - 1], row[i], row[i + 1], row[i + 2]) as u32;
-        i += 1;
+    while CHUNK <= to - i {
+        short_chunk(row, i, extents);
+        i += CHUNK;
     }
+    short_chunk(row, to - CHUNK, extents);
+}
+
+// The extents of a chunk of dots from x on, in runs of at most three. They are told in bytes first: so many more are done at once.
+fn short_chunk(row: &[u8], x: usize, extents: &mut [u32])
+    requires { ⌜ (2 ≤ x) × (x + 34 ≤ length (now row)) × (length (now extents) ≡ length (now row)) ⌝ }
+    ensures { λ _. ⌜ Put (shortExtentAt (now (row .entry))) x (x + 32) (now (extents .entry)) (now (extents .exit)) ⌝ }
+{
+    let mut bytes = [0u8; CHUNK];
+    tell_short(row, x, &mut bytes);
+    widen(&bytes, x, extents);
+}
+
+// The same in bytes.
+fn tell_short(row: &[u8], x: usize, bytes: &mut [u8])
+    requires { ⌜ (2 ≤ x) × (x + 34 ≤ length (now row)) × (length (now bytes) ≡ 32) ⌝ }
+    ensures { λ _. ⌜ ((k : ℕ) → k < 32 → getD (now (bytes .exit)) k 0 ≡ shortExtentAt (now (row .entry)) (x + k)) ⌝ }
+{
+    let from = x - 2;
+    let mut k = 0;
+    while k < CHUNK {
+        let i = from + k;
+        bytes[k] = short_extent(row[i], row[i + 1], row[i + 2], row[i + 3], row[i + 4]);
+        k += 1;
+    }
+}
+
+// The bytes as the words from x on.
+fn widen(bytes: &[u8], x: usize, extents: &mut [u32])
+    requires { ⌜ (length (now bytes) ≡ 32) × (x + 32 ≤ length (now extents)) ⌝ }
+    ensures { λ _. ⌜ Put (λ i. getD (now (bytes .entry)) (i - x) 0) x (x + 32) (now (extents .entry)) (now (extents .exit)) ⌝ }
+{
+    let mut k = 0;
+    while k < CHUNK {
+        extents[x + k] = wide(bytes[k]);
+        k += 1;
+    }
+}
+
+// The same number, wider.
+fn wide(x: u8) -> u32
+    ensures { λ r. ⌜ r ≡ x ⌝ }
+{
+    x as u32
 }
 
 // Whether a stretch has many turns.

@@ -39,7 +39,7 @@ is-short-requires : tie.Need-is-short-requires
 is-short-requires c κs = let s = c .before .before .before .before .stretch-end .ensures in let t = c .before .start-before .ensures in let l = c .before .before .before .before .before .before .before .pre .0 in (t .0, (let u = s .1 in let v = t .1 in omega arith))
 
 short-extents-requires : tie.Need-short-extents-requires
-short-extents-requires c κs = let s = c .before .before .before .before .before .before .before .stretch-end .ensures in let t = c .before .before .before .before .start-before .ensures in let l = c .before .before .before .before .before .before .before .before .before .before .pre .0 in let q = c .before .before .is-short .ensures (c .before .if3 .taken) in (record { order = t .0; inside = (let u = s .1 in let v = t .1 in omega arith); from = c .before .before .before .before .before .before .before .before .before .before .pre .1 .starts; upto = t .2 }, c .before .before .before .before .before .before .before .before .before .before .pre .1, q .0, q .1, q .2)
+short-extents-requires c κs = let s = c .before .before .before .before .before .before .before .stretch-end .ensures in let t = c .before .before .before .before .start-before .ensures in let l = c .before .before .before .before .before .before .before .before .before .before .pre .0 in let q = c .before .before .is-short .ensures (c .before .if3 .taken) in (record { order = t .0; inside = (let u = s .1 in let v = t .1 in omega arith); from = c .before .before .before .before .before .before .before .before .before .before .pre .1 .starts; upto = t .2 }, c .before .before .before .before .before .before .before .before .before .before .pre .1, q .0, q .1, q .2, omega arith)
 
 same-length-2 : tie.Need-same-length-2
 same-length-2 c = search needs
