@@ -9,13 +9,13 @@ use native.Mathlib.Decide.{ℕ-discrete, decLt}
 use native.Mathlib.Omega.{arith}
 use borrow.Author.Tests.{le-leb, lt-leb, eq-eqb, ne-eqb}
 use lib.ListN.{getD, length, set, take, drop, length-append, length-drop, length-set}
-use lib.Seq.{getD-take, getD-drop, take-at, drop-at, length-take-le, take-set-le, drop-set-add}
+use lib.Seq.{getD-take, getD-drop, take-take, take-at, drop-at, length-take-le, take-set-le, drop-set-add}
 use lib.Dec.{eqb, leb}
 use Rattle.memory.specs.Limits.{maxMaskSide, maxMaskDots}
 use Rattle.labelling.specs.Classes.{renamed}
 use Rattle.labelling.specs.InkRuns.{startOf, endOf, touchRuns}
 use Rattle.labelling.specs.Forests.{Forest, Seen, Joined, Kin, joinF}
-use Rattle.labelling.specs.Linking.{touching, Order, RunList, Kept, Linked, Joining, Linkable, Joinable, Skipped, Parented, LinkedOne, RowLinkable, LinkedTo, RowEnd, RowAhead, RowLinked, AllLinked, firstRun}
+use Rattle.labelling.specs.Linking.{touching, Order, RunList, KnownRuns, Kept, Linked, Joining, Linkable, Joinable, Skipped, Parented, LinkedOne, RowLinkable, LinkedTo, RowEnd, RowAhead, RowLinked, AllLinked, firstRun}
 use Rattle.labelling.proofs.LinkLaws.{seen-none, seen-skip, seen-join, seen-next, seen-all}
 use Rattle.labelling.proofs.TouchLaws.{row-rise}
 use Rattle.labelling.proofs.TransferLaws.{named-firsts}
@@ -70,57 +70,68 @@ touch-sure w t a j e l₁ l₂ =
 
 -- The words of a run list
 
-pub kept-none : (c : ℕ) (s : List ℕ) → Kept c s s
-kept-none c s = record { len = refl; runs = refl }
+pub kept-none : (q : ℕ) (s : List ℕ) → Kept q s s
+kept-none q s = record { len = refl; runs = refl }
 
-pub kept-trans : {c : ℕ} {s s' s'' : List ℕ} → Kept c s s' → Kept c s' s'' → Kept c s s''
+pub kept-trans : {q : ℕ} {s s' s'' : List ℕ} → Kept q s s' → Kept q s' s'' → Kept q s s''
 kept-trans k l = record { len = l .len ∙ k .len; runs = l .runs ∙ k .runs }
 
--- a word of the runs, as it was
-pub kept-word : {c : ℕ} {s s' : List ℕ} → Kept c s s' → (i : ℕ) → i < 2 * c → getD s' i 0 ≡ getD (take (2 * c) s) i 0
-kept-word {c} {s} {s'} k i l = sym (getD-take (2 * c) s' i 0 l) ∙ ap (λ z. getD z i 0) (k .runs)
+-- the words before the parents, as they were
+pub kept-front : {q : ℕ} {s s' : List ℕ} → Kept q s s' → (n : ℕ) → n ≤ q → take n s' ≡ take n s
+kept-front {q} {s} {s'} k n l = sym (take-take n q s' l) ∙ (ap (take n) (k .runs) ∙ take-take n q s l)
 
-pub kept-list : {w c : ℕ} {s s' : List ℕ} → Kept c s s' → RunList w c s → RunList w c s'
-kept-list {w} {c} k R = record { wide = R .wide; narrow = R .narrow; few = R .few; room = let e = k .len in let h = R .room in omega arith; order = subst (Order c) (sym (k .runs)) (R .order) }
+module _ {w c q : ℕ} {s : List ℕ} (R : KnownRuns w c q s) where
+  -- the turns of the known runs, and a word of them
+  pub kept-turns : {s' : List ℕ} → Kept q s s' → take (2 * c) s' ≡ take (2 * c) s
+  kept-turns k = kept-front k (2 * c) (R .place)
 
-module _ {w c : ℕ} {s : List ℕ} (R : RunList w c s) where
-  front-length : length (take (2 * c) s) ≡ 2 * c
-  front-length = length-take-le (2 * c) s (let h = R .room in omega arith)
+  pub kept-word : {s' : List ℕ} → Kept q s s' → (i : ℕ) → i < 2 * c → getD s' i 0 ≡ getD (take (2 * c) s) i 0
+  kept-word {s'} k i l = sym (getD-take (2 * c) s' i 0 l) ∙ ap (λ z. getD z i 0) (kept-turns k)
 
-  pub parents-long : (i : ℕ) → i < c → i < length (drop (2 * c) s)
+  pub kept-list : {s' : List ℕ} → Kept q s s' → KnownRuns w c q s'
+  kept-list k = record { wide = R .wide; narrow = R .narrow; few = R .few; place = R .place; room = let e = k .len in let h = R .room in omega arith; order = subst (Order c) (sym (kept-turns k)) (R .order) }
+
+  front-length : length (take q s) ≡ q
+  front-length = length-take-le q s (let h = R .room in omega arith)
+
+  pub parents-long : (i : ℕ) → i < c → i < length (drop q s)
   parents-long i l = simp length-drop (let h = R .room in omega arith)
 
   -- other parents
-  pub kept-parents : (p : List ℕ) → length p ≡ length (drop (2 * c) s) → Kept c s (take (2 * c) s ++ p)
+  pub kept-parents : (p : List ℕ) → length p ≡ length (drop q s) → Kept q s (take q s ++ p)
   kept-parents p e =
       record {
-        len = length-append (take (2 * c) s) p ∙ (let a = front-length in let b = length-drop (2 * c) s in let h = R .room in omega arith);
-        runs = take-at (take (2 * c) s) p (2 * c) front-length;
+        len = length-append (take q s) p ∙ (let a = front-length in let b = length-drop q s in let h = R .room in omega arith);
+        runs = take-at (take q s) p q front-length;
       }
 
-  pub new-parents : (p : List ℕ) → drop (2 * c) (take (2 * c) s ++ p) ≡ p
-  new-parents p = drop-at (take (2 * c) s) p (2 * c) front-length
+  pub new-parents : (p : List ℕ) → drop q (take q s ++ p) ≡ p
+  new-parents p = drop-at (take q s) p q front-length
+
+-- all runs of a list are known
+pub known-all : {w c : ℕ} {s : List ℕ} → RunList w c s → KnownRuns w c (2 * c) s
+known-all R = record { wide = R .wide; narrow = R .narrow; few = R .few; place = le-refl _; room = let h = R .room in omega arith; order = R .order }
 
 -- The sweep over the runs above run j: those below k are passed
 
-pub record Sweep (w c : ℕ) (s₀ s : List ℕ) (first to j k member : ℕ) : Type 0 where
-  pub asks : Joinable w c s₀ first to j
-  pub kept : Kept c s₀ s
+pub record Sweep (w c q : ℕ) (s₀ s : List ℕ) (first to j k member : ℕ) : Type 0 where
+  pub asks : Joinable w c q s₀ first to j
+  pub kept : Kept q s₀ s
   pub from : first < k
   pub upto : k ≤ to
-  pub joining : Joining w c (take (2 * c) s₀) (drop (2 * c) s) j k member
+  pub joining : Joining w c (take (2 * c) s₀) (drop q s) j k member
 
 -- a run and its parent are kin, and so are a run and itself
 
-pub kin-parent : (c : ℕ) (s : List ℕ) (k r : ℕ) → r ≡ getD s (2 * c + k) 0 → getD (drop (2 * c) s) k 0 ≤ k → Kin (drop (2 * c) s) k r
-kin-parent c s k r e d =
-    let q : r ≡ getD (drop (2 * c) s) k 0 = e ∙ sym (getD-drop (2 * c) s k 0) in
-    record { low = omega arith; same = λ f n l F. ap f q ∙ F .same k l }
+pub kin-parent : (q : ℕ) (s : List ℕ) (k r : ℕ) → r ≡ getD s (q + k) 0 → getD s (q + k) 0 ≤ k → Kin (drop q s) k r
+kin-parent q s k r e d =
+    let h : r ≡ getD (drop q s) k 0 = e ∙ sym (getD-drop q s k 0) in
+    record { low = omega arith; same = λ f n l F. ap f h ∙ F .same k l }
 
 pub kin-self : (p : List ℕ) (k : ℕ) → Kin p k k
 kin-self p k = record { low = le-refl k; same = λ f n l F. refl }
 
-module _ {w c first to j : ℕ} {s : List ℕ} (A : Joinable w c s first to j) where
+module _ {w c q first to j : ℕ} {s : List ℕ} (A : Joinable w c q s first to j) where
   -- run j has met those before `first`, none of which it touches
   met-before : Seen (touching w (take (2 * c) s)) c (A .linked .rep) j first
   met-before =
@@ -128,41 +139,41 @@ module _ {w c first to j : ℕ} {s : List ℕ} (A : Joinable w c s first to j) w
       seen-skip (touching w (take (2 * c) s)) c (L .rep) j 0 first (omega arith) (L .seen) (λ a l₁ l₂ l₃. A .under .left a j l₂ (le-refl j) (A .under .high))
 
   -- run j touches none from `first` on
-  none-touched : ((a : ℕ) → first ≤ a → a < j → touching w (take (2 * c) s) a j ≡ false) → Parented w c s s j j
+  none-touched : ((a : ℕ) → first ≤ a → a < j → touching w (take (2 * c) s) a j ≡ false) → Parented w c q s s j j
   none-touched h =
       let L = A .linked in
       let u₁ = A .under .low in
       let u₂ = A .under .mid in
       record {
-        kept = kept-none c s;
+        kept = kept-none q s;
         low = le-refl j;
         linked =
             record {
               rep = L .rep;
               seen = seen-next (touching w (take (2 * c) s)) c (L .rep) j (seen-skip (touching w (take (2 * c) s)) c (L .rep) j first j (omega arith) met-before (λ a l₁ l₂ l₃. h a l₁ l₂));
-              forest = forest-new (L .rep) (drop (2 * c) s) j (L .forest) (L .seen .own refl) (parents-long (A .list) j (A .under .high));
+              forest = forest-new (L .rep) (drop q s) j (L .forest) (L .seen .own refl) (parents-long (A .list) j (A .under .high));
             };
       }
 
-  pub none-above : to ≤ first → Parented w c s s j j
+  pub none-above : to ≤ first → Parented w c q s s j j
   none-above h = none-touched (λ a l₁ l₂. A .under .beside a (omega arith) l₂)
 
-  pub none-left : first < to → endOf (take (2 * c) s) 0 j < startOf (take (2 * c) s) first + w → Parented w c s s j j
+  pub none-left : first < to → endOf (take (2 * c) s) 0 j < startOf (take (2 * c) s) first + w → Parented w c q s s j j
   none-left l h = none-touched (λ a l₁ l₂. let u = A .under .high in stop-right w c (take (2 * c) s) (A .list .order) first a j l₁ (omega arith) h)
 
   -- run j touches `first`, whose kin are of its class then
-  pub sweep-kin : first < to → startOf (take (2 * c) s) first + w ≤ endOf (take (2 * c) s) 0 j → (member : ℕ) → Kin (drop (2 * c) s) first member → Sweep w c s s first to j (first + 1) member
+  pub sweep-kin : first < to → startOf (take (2 * c) s) first + w ≤ endOf (take (2 * c) s) 0 j → (member : ℕ) → Kin (drop q s) first member → Sweep w c q s s first to j (first + 1) member
   sweep-kin l t member N =
       let L = A .linked in
       let f = L .rep in
-      let p = drop (2 * c) s in
+      let p = drop q s in
       let u₁ = A .under .mid in
       let below : first < j = omega arith in
       let touch : touching w (take (2 * c) s) first j ≡ true = touch-sure w (take (2 * c) s) first j (A .under .above first (le-refl first) l) t (A .reach l) in
       let d = N .low in
       record {
         asks = A;
-        kept = kept-none c s;
+        kept = kept-none q s;
         from = omega arith;
         upto = omega arith;
         joining =
@@ -175,45 +186,43 @@ module _ {w c first to j : ℕ} {s : List ℕ} (A : Joinable w c s first to j) w
             };
       }
 
-  pub sweep-first : first < to → startOf (take (2 * c) s) first + w ≤ endOf (take (2 * c) s) 0 j → (member : ℕ) → member ≡ getD s (2 * c + first) 0 → Sweep w c s s first to j (first + 1) member
-  sweep-first l t member em =
-      let u = A .under .mid in
-      sweep-kin l t member (kin-parent c s first member em (A .linked .forest .down first (omega arith)))
-
   -- the parent of `first` is no later
-  pub first-down : first < to → getD s (2 * c + first) 0 ≤ first
+  pub first-down : first < to → getD s (q + first) 0 ≤ first
   first-down l =
       let u = A .under .mid in
       let d = A .linked .forest .down first (omega arith) in
-      let e = getD-drop (2 * c) s first 0 in
+      let e = getD-drop q s first 0 in
       omega arith
 
-module _ {w c first to j : ℕ} {s₀ s : List ℕ} {k member : ℕ} (S : Sweep w c s₀ s first to j k member) where
+  pub sweep-first : first < to → startOf (take (2 * c) s) first + w ≤ endOf (take (2 * c) s) 0 j → (member : ℕ) → member ≡ getD s (q + first) 0 → Sweep w c q s s first to j (first + 1) member
+  sweep-first l t member em = sweep-kin l t member (kin-parent q s first member em (first-down l))
+
+module _ {w c q first to j : ℕ} {s₀ s : List ℕ} {k member : ℕ} (S : Sweep w c q s₀ s first to j k member) where
   -- what `join` asks
   pub sweep-asks : k < to
-      → (k < length (drop (2 * c) s)) × (member < length (drop (2 * c) s)) × (k < 4294967296) × (member < 4294967296) × ((i : ℕ) → i ≤ max member k → getD (drop (2 * c) s) i 0 ≤ i)
+      → (k < length (drop q s)) × (member < length (drop q s)) × (k < 4294967296) × (member < 4294967296) × ((i : ℕ) → i ≤ max member k → getD (drop q s) i 0 ≤ i)
   sweep-asks l =
       let u₁ = S .asks .under .mid in
       let u₂ = S .asks .under .high in
       let h = S .joining .low in
       let f = S .asks .list .few in
-      let L = kept-list (S .kept) (S .asks .list) in
+      let L = kept-list (S .asks .list) (S .kept) in
       (parents-long L k (omega arith), parents-long L member (omega arith), omega arith, omega arith, λ i q. S .joining .forest .down i (omega arith))
 
-  pub sweep-more : k < to → startOf (take (2 * c) s₀) k + w ≤ endOf (take (2 * c) s₀) 0 j → (p : List ℕ) (r : ℕ) → Joined (drop (2 * c) s) p member k r
-      → Sweep w c s₀ (take (2 * c) s ++ p) first to j (k + 1) r
+  pub sweep-more : k < to → startOf (take (2 * c) s₀) k + w ≤ endOf (take (2 * c) s₀) 0 j → (p : List ℕ) (r : ℕ) → Joined (drop q s) p member k r
+      → Sweep w c q s₀ (take q s ++ p) first to j (k + 1) r
   sweep-more l t p r U =
       let A = S .asks in
       let u₁ = A .under .mid in
       let u₂ = A .under .high in
       let fr = S .from in
-      let L = kept-list (S .kept) (A .list) in
+      let L = kept-list (A .list) (S .kept) in
       let t₀ = take (2 * c) s₀ in
       let J = S .joining in
       let e₁ = A .reach (omega arith) in
       let e₂ = ends-up w c t₀ (A .list .order) first k (omega arith) (omega arith) in
       let touch : touching w t₀ k j ≡ true = touch-sure w t₀ k j (A .under .above k (omega arith) l) t (omega arith) in
-      let n : j < length (drop (2 * c) s) = parents-long L j u₂ in
+      let n : j < length (drop q s) = parents-long L j u₂ in
       let F = U .joined (J .rep) j j (omega arith) (J .low) (omega arith) (J .seen .low) (J .seen .idem) (J .own) (J .forest) in
       record {
         asks = A;
@@ -231,7 +240,7 @@ module _ {w c first to j : ℕ} {s₀ s : List ℕ} {k member : ℕ} (S : Sweep 
       }
 
   -- run j touches none of those left
-  sweep-done : ((a : ℕ) → k ≤ a → a < j → touching w (take (2 * c) s₀) a j ≡ false) → Parented w c s₀ s j member
+  sweep-done : ((a : ℕ) → k ≤ a → a < j → touching w (take (2 * c) s₀) a j ≡ false) → Parented w c q s₀ s j member
   sweep-done h =
       let A = S .asks in
       let u₁ = A .under .mid in
@@ -245,36 +254,36 @@ module _ {w c first to j : ℕ} {s₀ s : List ℕ} {k member : ℕ} (S : Sweep 
             record {
               rep = J .rep;
               seen = seen-next (touching w (take (2 * c) s₀)) c (J .rep) j (seen-skip (touching w (take (2 * c) s₀)) c (J .rep) j k j (omega arith) (J .seen) (λ a l₁ l₂ l₃. h a l₁ l₂));
-              forest = forest-under (J .rep) (drop (2 * c) s) j member (J .forest) (J .own) (J .low) (parents-long (kept-list (S .kept) (A .list)) j (A .under .high));
+              forest = forest-under (J .rep) (drop q s) j member (J .forest) (J .own) (J .low) (parents-long (kept-list (A .list) (S .kept)) j (A .under .high));
             };
       }
 
-  pub sweep-stop : k < to → endOf (take (2 * c) s₀) 0 j < startOf (take (2 * c) s₀) k + w → Parented w c s₀ s j member
+  pub sweep-stop : k < to → endOf (take (2 * c) s₀) 0 j < startOf (take (2 * c) s₀) k + w → Parented w c q s₀ s j member
   sweep-stop l h = sweep-done (λ a l₁ l₂. let u = S .asks .under .high in stop-right w c (take (2 * c) s₀) (S .asks .list .order) k a j l₁ (omega arith) h)
 
-  pub sweep-end : to ≤ k → Parented w c s₀ s j member
+  pub sweep-end : to ≤ k → Parented w c q s₀ s j member
   sweep-end h = sweep-done (λ a l₁ l₂. S .asks .under .beside a (omega arith) l₂)
 
 -- One run
 
-module _ {w c i to j : ℕ} {s : List ℕ} (A : Linkable w c s i to j) (first start : ℕ) (K : Skipped w i to start s first) (e : start ≡ getD s (2 * j) 0) where
+module _ {w c q i to j : ℕ} {s : List ℕ} (A : Linkable w c q s i to j) (first start : ℕ) (K : Skipped w i to start s first) (e : start ≡ getD s (2 * j) 0) where
   start-is : start ≡ startOf (take (2 * c) s) j
-  start-is = e ∙ kept-word (kept-none c s) (2 * j) (let h = A .under .high in omega arith)
+  start-is = e ∙ kept-word (A .list) (kept-none q s) (2 * j) (let h = A .under .high in omega arith)
 
   passed : (a k : ℕ) → a < first → j ≤ k → k < c → touching w (take (2 * c) s) a k ≡ false
   passed a k l l₂ l₃ = go (decLt a i)
     where
       go : Dec (a < i) → touching w (take (2 * c) s) a k ≡ false
-      go (yes q) = A .under .left a k q l₂ l₃
-      go (no q) =
+      go (yes d) = A .under .left a k d l₂ l₃
+      go (no d) =
           let u = K .upto in
           let v = A .under .mid in
           let h = K .left a (omega arith) l in
-          let x = kept-word (kept-none c s) (2 * a + 1) (omega arith) in
+          let x = kept-word (A .list) (kept-none q s) (2 * a + 1) (omega arith) in
           let y = start-is in
           skip-left w c (take (2 * c) s) (A .list .order) a a j k (le-refl a) (omega arith) l₂ l₃ (omega arith)
 
-  pub one-joinable : Joinable w c s first to j
+  pub one-joinable : Joinable w c q s first to j
   one-joinable =
       record {
         list = A .list;
@@ -287,37 +296,37 @@ module _ {w c i to j : ℕ} {s : List ℕ} (A : Linkable w c s i to j) (first st
               above = λ a l. let h = K .from in A .under .above a (omega arith);
               beside = A .under .beside;
             };
-        reach = λ l. let u = A .under .mid in let v = A .under .high in let x = K .here l in let y = start-is in let z = kept-word (kept-none c s) (2 * first + 1) (omega arith) in omega arith;
+        reach = λ l. let u = A .under .mid in let v = A .under .high in let x = K .here l in let y = start-is in let z = kept-word (A .list) (kept-none q s) (2 * first + 1) (omega arith) in omega arith;
         linked = A .linked;
       }
 
-  pub one-linked : (s' : List ℕ) (r : ℕ) → Parented w c s s' j r → LinkedOne w c s (set s' (2 * c + j) r) i to j first
+  pub one-linked : (s' : List ℕ) (r : ℕ) → Parented w c q s s' j r → LinkedOne w c q s (set s' (q + j) r) i to j first
   one-linked s' r P =
       record {
-        kept = kept-trans (P .kept) (record { len = length-set s' (2 * c + j) r; runs = take-set-le (2 * c) s' (2 * c + j) r (omega arith) });
+        kept = kept-trans (P .kept) (record { len = length-set s' (q + j) r; runs = take-set-le q s' (q + j) r (omega arith) });
         from = K .from;
         upto = K .upto;
         left = passed;
-        linked = subst (λ p. Linked w c (take (2 * c) s) p (suc j)) (sym (drop-set-add (2 * c) s' j r)) (P .linked);
+        linked = subst (λ p. Linked w c (take (2 * c) s) p (suc j)) (sym (drop-set-add q s' j r)) (P .linked);
       }
 
 -- One row: the runs below j are linked, and those before i touch none from j on
 
-pub record RowSweep (w c : ℕ) (s₀ s : List ℕ) (above here next i j : ℕ) : Type 0 where
-  pub asks : RowLinkable w c s₀ above here next
-  pub kept : Kept c s₀ s
+pub record RowSweep (w c q : ℕ) (s₀ s : List ℕ) (above here next i j : ℕ) : Type 0 where
+  pub asks : RowLinkable w c q s₀ above here next
+  pub kept : Kept q s₀ s
   pub from : here ≤ j
   pub upto : j ≤ next
   pub low : above ≤ i
   pub high : i ≤ here
   pub left : (a k : ℕ) → a < i → j ≤ k → k < c → touching w (take (2 * c) s₀) a k ≡ false
-  pub linked : Linked w c (take (2 * c) s₀) (drop (2 * c) s) j
+  pub linked : Linked w c (take (2 * c) s₀) (drop q s) j
 
-pub row-none : {w c : ℕ} {s : List ℕ} {above here next : ℕ} → RowLinkable w c s above here next → RowSweep w c s s above here next above here
-row-none {w} {c} {s} {above} {here} {next} A =
+pub row-none : {w c q : ℕ} {s : List ℕ} {above here next : ℕ} → RowLinkable w c q s above here next → RowSweep w c q s s above here next above here
+row-none {w} {c} {q} {s} {above} {here} {next} A =
     record {
       asks = A;
-      kept = kept-none c s;
+      kept = kept-none q s;
       from = le-refl here;
       upto = A .rows .mid;
       low = le-refl above;
@@ -326,9 +335,9 @@ row-none {w} {c} {s} {above} {here} {next} A =
       linked = A .linked;
     }
 
-module _ {w c : ℕ} {s₀ s : List ℕ} {above here next i j : ℕ} (S : RowSweep w c s₀ s above here next i j) where
+module _ {w c q : ℕ} {s₀ s : List ℕ} {above here next i j : ℕ} (S : RowSweep w c q s₀ s above here next i j) where
   -- the same, of a longer row
-  pub row-longer : (further : ℕ) → next ≤ further → RowLinkable w c s₀ above here further → RowSweep w c s₀ s above here further i j
+  pub row-longer : (further : ℕ) → next ≤ further → RowLinkable w c q s₀ above here further → RowSweep w c q s₀ s above here further i j
   row-longer further l A =
       record {
         asks = A;
@@ -341,13 +350,13 @@ module _ {w c : ℕ} {s₀ s : List ℕ} {above here next i j : ℕ} (S : RowSwe
         linked = S .linked;
       }
 
-  pub row-linkable : j < next → Linkable w c s i here j
+  pub row-linkable : j < next → Linkable w c q s i here j
   row-linkable l =
       let R = S .asks .rows in
       record {
-        list = kept-list (S .kept) (S .asks .list);
+        list = kept-list (S .asks .list) (S .kept);
         under =
-            rw (S .kept .runs)
+            rw (kept-turns (S .asks .list) (S .kept))
             (record {
               low = S .high;
               mid = S .from;
@@ -356,10 +365,10 @@ module _ {w c : ℕ} {s₀ s : List ℕ} {above here next i j : ℕ} (S : RowSwe
               above = λ a l₁ l₂. let h = S .low in R .rows a j (omega arith) l₂ (S .from) l;
               beside = λ a l₁ l₂. R .beside a j l₁ l₂ l;
             });
-        linked = rw (S .kept .runs) (S .linked);
+        linked = rw (kept-turns (S .asks .list) (S .kept)) (S .linked);
       }
 
-  pub row-more : j < next → (s' : List ℕ) (r : ℕ) → LinkedOne w c s s' i here j r → RowSweep w c s₀ s' above here next r (j + 1)
+  pub row-more : j < next → (s' : List ℕ) (r : ℕ) → LinkedOne w c q s s' i here j r → RowSweep w c q s₀ s' above here next r (j + 1)
   row-more l s' r L =
       let h₁ = S .from in
       let h₂ = S .low in
@@ -371,49 +380,49 @@ module _ {w c : ℕ} {s₀ s : List ℕ} {above here next i j : ℕ} (S : RowSwe
         upto = omega arith;
         low = omega arith;
         high = L .upto;
-        left = λ a k l₁ l₂ l₃. subst (λ t. touching w t a k ≡ false) (S .kept .runs) (L .left a k l₁ (omega arith) l₃);
-        linked = rw (add-one j) (subst (λ t. Linked w c t (drop (2 * c) s') (suc j)) (S .kept .runs) (L .linked));
+        left = λ a k l₁ l₂ l₃. subst (λ t. touching w t a k ≡ false) (kept-turns (S .asks .list) (S .kept)) (L .left a k l₁ (omega arith) l₃);
+        linked = rw (add-one j) (subst (λ t. Linked w c t (drop q s') (suc j)) (kept-turns (S .asks .list) (S .kept)) (L .linked));
       }
 
-  pub row-done : next ≤ j → LinkedTo w c s₀ s next
-  row-done l = record { kept = S .kept; linked = subst (Linked w c (take (2 * c) s₀) (drop (2 * c) s)) (let h = S .upto in let e : j ≡ next = omega arith in e) (S .linked) }
+  pub row-done : next ≤ j → LinkedTo w c q s₀ s next
+  row-done l = record { kept = S .kept; linked = subst (Linked w c (take (2 * c) s₀) (drop q s)) (let h = S .upto in let e : j ≡ next = omega arith in e) (S .linked) }
 
 -- A row whose end is not known yet: the runs below j are of it, and linked
 
-pub record RowWalk (w c limit : ℕ) (s₀ s : List ℕ) (above here i j : ℕ) : Type 0 where
-  pub asks : RowAhead w c limit s₀ above here
+pub record RowWalk (w c q limit : ℕ) (s₀ s : List ℕ) (above here i j : ℕ) : Type 0 where
+  pub asks : RowAhead w c q limit s₀ above here
   pub upto : j ≤ c
   pub within : (a : ℕ) → here ≤ a → a < j → startOf s₀ a < limit
-  pub sweep : RowSweep w c s₀ s above here j i j
+  pub sweep : RowSweep w c q s₀ s above here j i j
 
-pub walk-none : {w c limit : ℕ} {s : List ℕ} {above here : ℕ} → RowAhead w c limit s above here → RowWalk w c limit s s above here above here
-walk-none {w} {c} {limit} {s} {above} {here} A =
+pub walk-none : {w c q limit : ℕ} {s : List ℕ} {above here : ℕ} → RowAhead w c q limit s above here → RowWalk w c q limit s s above here above here
+walk-none {w} {c} {q} {limit} {s} {above} {here} A =
     let none : (a : ℕ) → here ≤ a → a < here → startOf s a < limit = λ a l₁ l₂. absurd (omega arith) in
     record { asks = A; upto = A .low; within = none; sweep = row-none (A .rows here (le-refl here) (A .low) none) }
 
-module _ {w c limit : ℕ} {s₀ s : List ℕ} {above here i j : ℕ} (S : RowWalk w c limit s₀ s above here i j) where
+module _ {w c q limit : ℕ} {s₀ s : List ℕ} {above here i j : ℕ} (S : RowWalk w c q limit s₀ s above here i j) where
   pub walk-room : (2 * c ≤ length s) × (c ≤ maxMaskDots)
-  walk-room = let L = kept-list (S .sweep .kept) (S .sweep .asks .list) in let r = L .room in (omega arith, L .few)
+  walk-room = let L = kept-list (S .sweep .asks .list) (S .sweep .kept) in let r = L .room in let p = L .place in (omega arith, L .few)
 
   -- the start of run j, as it was
   pub walk-start : j < c → getD s (2 * j) 0 ≡ startOf s₀ j
-  walk-start l = kept-word (S .sweep .kept) (2 * j) (omega arith) ∙ getD-take (2 * c) s₀ (2 * j) 0 (omega arith)
+  walk-start l = kept-word (S .sweep .asks .list) (S .sweep .kept) (2 * j) (omega arith) ∙ getD-take (2 * c) s₀ (2 * j) 0 (omega arith)
 
-  module _ (l : j < c) (q : startOf s₀ j < limit) where
+  module _ (l : j < c) (b : startOf s₀ j < limit) where
     within-more : (a : ℕ) → here ≤ a → a < j + 1 → Dec (a ≡ j) → startOf s₀ a < limit
-    within-more a l₁ l₂ (yes e) = rw e q
+    within-more a l₁ l₂ (yes e) = rw e b
     within-more a l₁ l₂ (no ne) = S .within a l₁ (omega arith)
 
-    longer : RowSweep w c s₀ s above here (j + 1) i j
+    longer : RowSweep w c q s₀ s above here (j + 1) i j
     longer = let f = S .sweep .from in row-longer (S .sweep) (j + 1) (omega arith) (S .asks .rows (j + 1) (omega arith) (omega arith) (λ a l₁ l₂. within-more a l₁ l₂ (ℕ-discrete a j)))
 
-    pub walk-linkable : Linkable w c s i here j
+    pub walk-linkable : Linkable w c q s i here j
     walk-linkable = row-linkable longer (omega arith)
 
-    pub walk-more : (s' : List ℕ) (r : ℕ) → LinkedOne w c s s' i here j r → RowWalk w c limit s₀ s' above here r (j + 1)
+    pub walk-more : (s' : List ℕ) (r : ℕ) → LinkedOne w c q s s' i here j r → RowWalk w c q limit s₀ s' above here r (j + 1)
     walk-more s' r L = record { asks = S .asks; upto = omega arith; within = λ a l₁ l₂. within-more a l₁ l₂ (ℕ-discrete a j); sweep = row-more longer (omega arith) s' r L }
 
-  pub walk-done : (j < c → limit ≤ startOf s₀ j) → RowLinked w c limit s₀ s here j
+  pub walk-done : (j < c → limit ≤ startOf s₀ j) → RowLinked w c q limit s₀ s here j
   walk-done past = record { row = record { from = S .sweep .from; upto = S .upto; inside = S .within; past = past }; linked = row-done (S .sweep) (le-refl j) }
 
 -- All rows: those before row y are linked, which starts at dot `base`
@@ -442,11 +451,11 @@ row-far w base y a j hw e l₁ l₂ q =
     let d = div-add-mod' a w in
     omega arith
 
-pub record PlaneSweep (w c h : ℕ) (s₀ s : List ℕ) (above here base y : ℕ) : Type 0 where
-  pub list : RunList w c s₀
+pub record PlaneSweep (w c q h : ℕ) (s₀ s : List ℕ) (above here base y : ℕ) : Type 0 where
+  pub list : KnownRuns w c q s₀
   pub tall : h ≤ maxMaskSide
   pub inside : (k : ℕ) → k < c → startOf (take (2 * c) s₀) k < h * w
-  pub kept : Kept c s₀ s
+  pub kept : Kept q s₀ s
   pub base-is : base ≡ y * w
   pub upto : y ≤ h
   pub low : above ≤ here
@@ -455,15 +464,15 @@ pub record PlaneSweep (w c h : ℕ) (s₀ s : List ℕ) (above here base y : ℕ
   pub row-low : (a : ℕ) → above ≤ a → a < here → base ≤ startOf (take (2 * c) s₀) a + w
   pub row-high : (a : ℕ) → a < here → startOf (take (2 * c) s₀) a < base
   pub rest : (a : ℕ) → here ≤ a → a < c → base ≤ startOf (take (2 * c) s₀) a
-  pub linked : Linked w c (take (2 * c) s₀) (drop (2 * c) s) here
+  pub linked : Linked w c (take (2 * c) s₀) (drop q s) here
 
-pub plane-none : (w c h : ℕ) (s : List ℕ) → RunList w c s → h ≤ maxMaskSide → ((k : ℕ) → k < c → startOf s k < h * w) → PlaneSweep w c h s s 0 0 0 0
-plane-none w c h s R th ins =
+pub plane-none : (w c q h : ℕ) (s : List ℕ) → KnownRuns w c q s → h ≤ maxMaskSide → ((k : ℕ) → k < c → startOf s k < h * w) → PlaneSweep w c q h s s 0 0 0 0
+plane-none w c q h s R th ins =
     record {
       list = R;
       tall = th;
       inside = λ k l. let e = getD-take (2 * c) s (2 * k) 0 (omega arith) in let g = ins k l in omega arith;
-      kept = kept-none c s;
+      kept = kept-none q s;
       base-is = let z : 0 ≡ 0 * w = omega arith in z;
       upto = omega arith;
       low = le-refl 0;
@@ -475,7 +484,7 @@ plane-none w c h s R th ins =
       linked = record { rep = λ k. k; seen = seen-none (touching w (take (2 * c) s)) c; forest = record { down = λ j l. absurd (not-suc-le-zero l); same = λ j l. absurd (not-suc-le-zero l); root = λ j l. absurd (not-suc-le-zero l) } };
     }
 
-module _ {w c h : ℕ} {s₀ s : List ℕ} {above here base y : ℕ} (S : PlaneSweep w c h s₀ s above here base y) where
+module _ {w c q h : ℕ} {s₀ s : List ℕ} {above here base y : ℕ} (S : PlaneSweep w c q h s₀ s above here base y) where
   hw : 0 < w
   hw = S .list .wide
 
@@ -489,7 +498,7 @@ module _ {w c h : ℕ} {s₀ s : List ℕ} {above here base y : ℕ} (S : PlaneS
       omega arith
 
   start-is-now : (a : ℕ) → a < c → startOf s a ≡ startOf (take (2 * c) s₀) a
-  start-is-now a l = kept-word (S .kept) (2 * a) (omega arith)
+  start-is-now a l = kept-word (S .list) (S .kept) (2 * a) (omega arith)
 
   -- the runs up to `next` are of this row
   module _ (next : ℕ) (from : here ≤ next) (upto : next ≤ c) (within : (a : ℕ) → here ≤ a → a < next → startOf s a < base + w) where
@@ -499,12 +508,12 @@ module _ {w c h : ℕ} {s₀ s : List ℕ} {above here base y : ℕ} (S : PlaneS
         let i = within a l₁ l₂ in
         row-at w base y (startOf (take (2 * c) s₀) a) hw (S .base-is) (S .rest a l₁ (omega arith)) (omega arith)
 
-    plane-linkable : RowLinkable w c s above here next
+    plane-linkable : RowLinkable w c q s above here next
     plane-linkable =
         record {
-          list = kept-list (S .kept) (S .list);
+          list = kept-list (S .list) (S .kept);
           rows =
-              rw (S .kept .runs)
+              rw (kept-turns (S .list) (S .kept))
               (record {
                 low = S .low;
                 mid = from;
@@ -516,14 +525,14 @@ module _ {w c h : ℕ} {s₀ s : List ℕ} {above here base y : ℕ} (S : PlaneS
                     let q = row-of-next j (omega arith) l₃ in
                     other-row w (take (2 * c) s₀) a j (λ e. omega arith);
               });
-          linked = rw (S .kept .runs) (S .linked);
+          linked = rw (kept-turns (S .list) (S .kept)) (S .linked);
         }
 
-  pub plane-ahead : RowAhead w c (base + w) s above here
+  pub plane-ahead : RowAhead w c q (base + w) s above here
   plane-ahead = record { low = S .high; rows = plane-linkable }
 
   module _ (next : ℕ) (E : RowEnd c here (base + w) s next) where
-    pub plane-more : y < h → (s' : List ℕ) → LinkedTo w c s s' next → PlaneSweep w c h s₀ s' here next (base + w) (y + 1)
+    pub plane-more : y < h → (s' : List ℕ) → LinkedTo w c q s s' next → PlaneSweep w c q h s₀ s' here next (base + w) (y + 1)
     plane-more l s' L =
         let u = E .upto in
         let f = E .from in
@@ -540,33 +549,36 @@ module _ {w c h : ℕ} {s₀ s : List ℕ} {above here base y : ℕ} (S : PlaneS
           row-low = λ a l₁ l₂. let q = S .rest a l₁ (omega arith) in omega arith;
           row-high = λ a l₁. high-row a l₁ (decLt a here);
           rest = λ a l₁ l₂. let e = start-is-now next (omega arith) in let g = E .past (omega arith) in let q = starts-up w c (take (2 * c) s₀) (S .list .order) next a l₁ l₂ in omega arith;
-          linked = subst (λ t. Linked w c t (drop (2 * c) s') next) (S .kept .runs) (L .linked);
+          linked = subst (λ t. Linked w c t (drop q s') next) (kept-turns (S .list) (S .kept)) (L .linked);
         }
       where
         high-row : (a : ℕ) → a < next → Dec (a < here) → startOf (take (2 * c) s₀) a < base + w
         high-row a l₁ (yes q) = let z = S .row-high a q in omega arith
         high-row a l₁ (no q) = let u = E .upto in let e = start-is-now a (omega arith) in let i = E .inside a (omega arith) l₁ in omega arith
 
-  pub plane-done : h ≤ y → AllLinked w c s₀ s
-  plane-done l = record { kept = S .kept; forest = forest-firsts (all (decLt here c)) }
+  pub plane-forest : h ≤ y → Forest (firstRun w c (take (2 * c) s₀)) (drop q s) c
+  plane-forest l = forest-firsts (all (decLt here c))
     where
-      all : Dec (here < c) → Linked w c (take (2 * c) s₀) (drop (2 * c) s) c
-      all (yes q) =
-          let a = S .rest here (le-refl here) q in
-          let b = S .inside here q in
+      all : Dec (here < c) → Linked w c (take (2 * c) s₀) (drop q s) c
+      all (yes d) =
+          let a = S .rest here (le-refl here) d in
+          let b = S .inside here d in
           let e = S .base-is in
           let u = S .upto in
           let z : h * w ≡ y * w = ap (λ k. k * w) (let x : h ≡ y = omega arith in x) in
           absurd (omega arith)
-      all (no q) = subst (Linked w c (take (2 * c) s₀) (drop (2 * c) s)) (let u = S .high in let x : here ≡ c = omega arith in x) (S .linked)
+      all (no d) = subst (Linked w c (take (2 * c) s₀) (drop q s)) (let u = S .high in let x : here ≡ c = omega arith in x) (S .linked)
 
-      forest-firsts : Linked w c (take (2 * c) s₀) (drop (2 * c) s) c → Forest (firstRun w c (take (2 * c) s₀)) (drop (2 * c) s) c
+      forest-firsts : Linked w c (take (2 * c) s₀) (drop q s) c → Forest (firstRun w c (take (2 * c) s₀)) (drop q s) c
       forest-firsts L =
           let r = touching w (take (2 * c) s₀) in
           let e = named-firsts r c (L .rep) (seen-all r c (L .rep) (L .seen)) in
           let F = L .forest in
           record {
             down = F .down;
-            same = λ j lj. let d = F .down j lj in sym (e (getD (drop (2 * c) s) j 0) (omega arith)) ∙ (F .same j lj ∙ e j lj);
+            same = λ j lj. let d = F .down j lj in sym (e (getD (drop q s) j 0) (omega arith)) ∙ (F .same j lj ∙ e j lj);
             root = λ j lj q. sym (e j lj) ∙ F .root j lj q;
           }
+
+pub plane-done : {w c h : ℕ} {s₀ s : List ℕ} {above here base y : ℕ} → PlaneSweep w c (2 * c) h s₀ s above here base y → h ≤ y → AllLinked w c s₀ s
+plane-done S l = record { kept = S .kept; forest = plane-forest S l }

@@ -1,4 +1,5 @@
--- What linking keeps. A run list of c runs in the words s: the turns `take (2 * c) s`, then the parents `drop (2 * c) s`.
+-- What linking keeps. Of a run list in the words s the first c runs are known, by their turns, `take (2 * c) s`; the parents are `drop q s`. Where
+-- all runs are known, q is 2 * c.
 use mathlib.Core.Path.{_≡_}
 use mathlib.Core.Bool.{Bool, false}
 use mathlib.Core.List.{List}
@@ -30,10 +31,19 @@ pub record RunList (w c : ℕ) (s : List ℕ) : Type 0 where
   pub room : 3 * c ≤ length s
   pub order : Order c (take (2 * c) s)
 
--- the parents have changed and nothing else
-pub record Kept (c : ℕ) (s s' : List ℕ) : Type 0 where
+-- a run list of which c runs are known, with room for more before its parents, which begin at word q
+pub record KnownRuns (w c q : ℕ) (s : List ℕ) : Type 0 where
+  pub wide : 0 < w
+  pub narrow : w ≤ maxMaskSide
+  pub few : c ≤ maxMaskDots
+  pub place : 2 * c ≤ q
+  pub room : q + c ≤ length s
+  pub order : Order c (take (2 * c) s)
+
+-- the words from q on, the parents, have changed and nothing else
+pub record Kept (q : ℕ) (s s' : List ℕ) : Type 0 where
   pub len : length s' ≡ length s
-  pub runs : take (2 * c) s' ≡ take (2 * c) s
+  pub runs : take q s' ≡ take q s
 
 -- the runs below j have parents, and are joined with those that they touch
 pub record Linked (w c : ℕ) (t p : List ℕ) (j : ℕ) : Type 0 where
@@ -59,23 +69,23 @@ pub record Under (w c : ℕ) (t : List ℕ) (i to j : ℕ) : Type 0 where
   pub beside : (a : ℕ) → to ≤ a → a < j → touching w t a j ≡ false
 
 -- what linking run j asks
-pub record Linkable (w c : ℕ) (s : List ℕ) (i to j : ℕ) : Type 0 where
-  pub list : RunList w c s
+pub record Linkable (w c q : ℕ) (s : List ℕ) (i to j : ℕ) : Type 0 where
+  pub list : KnownRuns w c q s
   pub under : Under w c (take (2 * c) s) i to j
-  pub linked : Linked w c (take (2 * c) s) (drop (2 * c) s) j
+  pub linked : Linked w c (take (2 * c) s) (drop q s) j
 
 -- what a parent for run j asks: the runs before `first` are passed, and it ends far enough right
-pub record Joinable (w c : ℕ) (s : List ℕ) (first to j : ℕ) : Type 0 where
-  pub list : RunList w c s
+pub record Joinable (w c q : ℕ) (s : List ℕ) (first to j : ℕ) : Type 0 where
+  pub list : KnownRuns w c q s
   pub under : Under w c (take (2 * c) s) first to j
   pub reach : first < to → startOf (take (2 * c) s) j ≤ endOf (take (2 * c) s) 0 first + w
-  pub linked : Linked w c (take (2 * c) s) (drop (2 * c) s) j
+  pub linked : Linked w c (take (2 * c) s) (drop q s) j
 
 -- with the parent r run j is linked too
-pub record Parented (w c : ℕ) (s s' : List ℕ) (j r : ℕ) : Type 0 where
-  pub kept : Kept c s s'
+pub record Parented (w c q : ℕ) (s s' : List ℕ) (j r : ℕ) : Type 0 where
+  pub kept : Kept q s s'
   pub low : r ≤ j
-  pub linked : Linked w c (take (2 * c) s) (set (drop (2 * c) s') j r) (suc j)
+  pub linked : Linked w c (take (2 * c) s) (set (drop q s') j r) (suc j)
 
 -- r is the first run, from i up to `to`, that does not end left of the dot `start` in the row below
 pub record Skipped (w i to start : ℕ) (t : List ℕ) (r : ℕ) : Type 0 where
@@ -85,12 +95,12 @@ pub record Skipped (w i to start : ℕ) (t : List ℕ) (r : ℕ) : Type 0 where
   pub here : r < to → start ≤ endOf t 0 r + w
 
 -- run j is linked too, and the runs before r touch none from j on
-pub record LinkedOne (w c : ℕ) (s s' : List ℕ) (i to j r : ℕ) : Type 0 where
-  pub kept : Kept c s s'
+pub record LinkedOne (w c q : ℕ) (s s' : List ℕ) (i to j r : ℕ) : Type 0 where
+  pub kept : Kept q s s'
   pub from : i ≤ r
   pub upto : r ≤ to
   pub left : (a k : ℕ) → a < r → j ≤ k → k < c → touching w (take (2 * c) s) a k ≡ false
-  pub linked : Linked w c (take (2 * c) s) (drop (2 * c) s') (suc j)
+  pub linked : Linked w c (take (2 * c) s) (drop q s') (suc j)
 
 -- the runs of a row stand from `here` up to `next`, those of the row above from `above` up to `here`
 pub record Rows (w c : ℕ) (t : List ℕ) (above here next : ℕ) : Type 0 where
@@ -102,15 +112,15 @@ pub record Rows (w c : ℕ) (t : List ℕ) (above here next : ℕ) : Type 0 wher
   pub beside : (a j : ℕ) → here ≤ a → a < j → j < next → touching w t a j ≡ false
 
 -- what linking a row asks
-pub record RowLinkable (w c : ℕ) (s : List ℕ) (above here next : ℕ) : Type 0 where
-  pub list : RunList w c s
+pub record RowLinkable (w c q : ℕ) (s : List ℕ) (above here next : ℕ) : Type 0 where
+  pub list : KnownRuns w c q s
   pub rows : Rows w c (take (2 * c) s) above here next
-  pub linked : Linked w c (take (2 * c) s) (drop (2 * c) s) here
+  pub linked : Linked w c (take (2 * c) s) (drop q s) here
 
 -- the runs below j are linked
-pub record LinkedTo (w c : ℕ) (s s' : List ℕ) (j : ℕ) : Type 0 where
-  pub kept : Kept c s s'
-  pub linked : Linked w c (take (2 * c) s) (drop (2 * c) s') j
+pub record LinkedTo (w c q : ℕ) (s s' : List ℕ) (j : ℕ) : Type 0 where
+  pub kept : Kept q s s'
+  pub linked : Linked w c (take (2 * c) s) (drop q s') j
 
 -- r is the first run, from k on, that starts at dot `limit` or later
 pub record RowEnd (c k limit : ℕ) (t : List ℕ) (r : ℕ) : Type 0 where
@@ -120,16 +130,16 @@ pub record RowEnd (c k limit : ℕ) (t : List ℕ) (r : ℕ) : Type 0 where
   pub past : r < c → limit ≤ startOf t r
 
 -- what linking a row asks: the runs from `here` on that start before dot `limit` are its own
-pub record RowAhead (w c limit : ℕ) (s : List ℕ) (above here : ℕ) : Type 0 where
+pub record RowAhead (w c q limit : ℕ) (s : List ℕ) (above here : ℕ) : Type 0 where
   pub low : here ≤ c
-  pub rows : (next : ℕ) → here ≤ next → next ≤ c → ((a : ℕ) → here ≤ a → a < next → startOf s a < limit) → RowLinkable w c s above here next
+  pub rows : (next : ℕ) → here ≤ next → next ≤ c → ((a : ℕ) → here ≤ a → a < next → startOf s a < limit) → RowLinkable w c q s above here next
 
 -- a row from `here` up to r is linked
-pub record RowLinked (w c limit : ℕ) (s s' : List ℕ) (here r : ℕ) : Type 0 where
+pub record RowLinked (w c q limit : ℕ) (s s' : List ℕ) (here r : ℕ) : Type 0 where
   pub row : RowEnd c here limit s r
-  pub linked : LinkedTo w c s s' r
+  pub linked : LinkedTo w c q s s' r
 
 -- each run's parents lead to the first run of its component
 pub record AllLinked (w c : ℕ) (s s' : List ℕ) : Type 0 where
-  pub kept : Kept c s s'
+  pub kept : Kept (2 * c) s s'
   pub forest : Forest (firstRun w c (take (2 * c) s)) (drop (2 * c) s') c

@@ -1,5 +1,6 @@
 // Linking: a parent for each run of ink, by union-find over the runs. A run list of c runs is 3c words: start and end of each run
-// (the end excluded), then the parent of each. Nothing here sees a mask: any run list is linked so.
+// (the end excluded), then the parent of each, from the word `parents` on. Nothing here sees a mask: any run list is linked so, and one
+// of which only the first c runs are known too.
 ghost use mathlib.Core.Path.{_≡_};
 ghost use Prim.Native.Nat.{ℕ, _+_, _*_, _≤_, _<_, max};
 ghost use lib.ListN.{length, getD, take, drop};
@@ -70,11 +71,18 @@ fn join(parents: &mut [u32], member: usize, k: usize) -> usize
 }
 
 // Joins the runs from `first` up to `to`, in the row above, that run j touches, `first` among them; answers a run of their class.
-fn join_touching(words: &mut [u32], c: usize, w: usize, first: usize, to: usize, j: usize) -> usize
-    requires { ⌜ Joinable w c (now words) first to j × (first < to) × (startOf (take (2 * c) (now words)) first + w ≤ endOf (take (2 * c) (now words)) 0 j) ⌝ }
-    ensures { λ r. ⌜ Parented w c (now (words .entry)) (now (words .exit)) j r ⌝ }
+fn join_touching(
+    words: &mut [u32],
+    c: usize,
+    parents: usize,
+    w: usize,
+    first: usize,
+    to: usize,
+    j: usize,
+) -> usize
+    requires { ⌜ Joinable w c parents (now words) first to j × (first < to) × (startOf (take (2 * c) (now words)) first + w ≤ endOf (take (2 * c) (now words)) 0 j) ⌝ }
+    ensures { λ r. ⌜ Parented w c parents (now (words .entry)) (now (words .exit)) j r ⌝ }
 {
-    let parents = 2 * c;
     let end = wide(words[2 * j + 1]);
     let mut member = wide(words[parents + first]);
     let mut k = first + 1;
@@ -89,11 +97,11 @@ fn join_touching(words: &mut [u32], c: usize, w: usize, first: usize, to: usize,
 }
 
 // A run of the class of run k: its parent, unless that is far off; then run k itself.
-fn near_parent(words: &[u32], c: usize, k: usize) -> usize
-    requires { ⌜ (k < c) × (3 * c ≤ length (now words)) × (getD (now words) (2 * c + k) 0 ≤ k) ⌝ }
-    ensures { λ r. ⌜ Kin (drop (2 * c) (now (words .entry))) k r ⌝ }
+fn near_parent(words: &[u32], parents: usize, k: usize) -> usize
+    requires { ⌜ (parents + k < length (now words)) × (getD (now words) (parents + k) 0 ≤ k) ⌝ }
+    ensures { λ r. ⌜ Kin (drop parents (now (words .entry))) k r ⌝ }
 {
-    let parent = wide(words[2 * c + k]);
+    let parent = wide(words[parents + k]);
     if parent + NEAR < k {
         return k;
     }
@@ -101,9 +109,17 @@ fn near_parent(words: &[u32], c: usize, k: usize) -> usize
 }
 
 // A parent for run j, from the runs of the row above, `first` up to `to`: itself where it touches none of them.
-fn parent_of(words: &mut [u32], c: usize, w: usize, first: usize, to: usize, j: usize) -> usize
-    requires { ⌜ Joinable w c (now words) first to j ⌝ }
-    ensures { λ r. ⌜ Parented w c (now (words .entry)) (now (words .exit)) j r ⌝ }
+fn parent_of(
+    words: &mut [u32],
+    c: usize,
+    parents: usize,
+    w: usize,
+    first: usize,
+    to: usize,
+    j: usize,
+) -> usize
+    requires { ⌜ Joinable w c parents (now words) first to j ⌝ }
+    ensures { λ r. ⌜ Parented w c parents (now (words .entry)) (now (words .exit)) j r ⌝ }
 {
     if to <= first {
         return j;
@@ -114,31 +130,47 @@ fn parent_of(words: &mut [u32], c: usize, w: usize, first: usize, to: usize, j: 
     }
     let next = first + 1;
     if to <= next {
-        return near_parent(&words[..], c, first);
+        return near_parent(&words[..], parents, first);
     }
     if end < wide(words[2 * next]) + w {
-        return near_parent(&words[..], c, first);
+        return near_parent(&words[..], parents, first);
     }
-    join_touching(words, c, w, first, to, j)
+    join_touching(words, c, parents, w, first, to, j)
 }
 
 // Gives run j its parent, from the runs of the row above, i up to `to`; answers where the next run of the row may look from.
-fn link_one(words: &mut [u32], c: usize, w: usize, i: usize, to: usize, j: usize) -> usize
-    requires { ⌜ Linkable w c (now words) i to j ⌝ }
-    ensures { λ r. ⌜ LinkedOne w c (now (words .entry)) (now (words .exit)) i to j r ⌝ }
+fn link_one(
+    words: &mut [u32],
+    c: usize,
+    parents: usize,
+    w: usize,
+    i: usize,
+    to: usize,
+    j: usize,
+) -> usize
+    requires { ⌜ Linkable w c parents (now words) i to j ⌝ }
+    ensures { λ r. ⌜ LinkedOne w c parents (now (words .entry)) (now (words .exit)) i to j r ⌝ }
 {
     let start = wide(words[2 * j]);
     let first = skip_left(&words[..], w, i, to, start);
-    let parent = parent_of(words, c, w, first, to, j);
-    words[2 * c + j] = parent as u32;
+    let parent = parent_of(words, c, parents, w, first, to, j);
+    words[parents + j] = parent as u32;
     first
 }
 
 // Gives the runs of a row, those from `here` on that start before dot `limit`, their parents, and answers where they end; the runs of the row
 // above are `above` up to `here`.
-fn link_row(words: &mut [u32], c: usize, w: usize, above: usize, here: usize, limit: usize) -> usize
-    requires { ⌜ RowAhead w c limit (now words) above here ⌝ }
-    ensures { λ r. ⌜ RowLinked w c limit (now (words .entry)) (now (words .exit)) here r ⌝ }
+fn link_row(
+    words: &mut [u32],
+    c: usize,
+    parents: usize,
+    w: usize,
+    above: usize,
+    here: usize,
+    limit: usize,
+) -> usize
+    requires { ⌜ RowAhead w c parents limit (now words) above here ⌝ }
+    ensures { λ r. ⌜ RowLinked w c parents limit (now (words .entry)) (now (words .exit)) here r ⌝ }
 {
     let mut i = above;
     let mut j = here;
@@ -146,7 +178,7 @@ fn link_row(words: &mut [u32], c: usize, w: usize, above: usize, here: usize, li
         if limit <= wide(words[2 * j]) {
             return j;
         }
-        i = link_one(words, c, w, i, here, j);
+        i = link_one(words, c, parents, w, i, here, j);
         j += 1;
     }
     j
@@ -157,12 +189,13 @@ pub fn link_runs(words: &mut [u32], c: usize, w: usize, h: usize)
     requires { ⌜ RunList w c (now words) × (h ≤ maxMaskSide) × ((k : ℕ) → k < c → startOf (now words) k < h * w) ⌝ }
     ensures { λ _. ⌜ AllLinked w c (now (words .entry)) (now (words .exit)) ⌝ }
 {
+    let parents = 2 * c;
     let mut above = 0;
     let mut here = 0;
     let mut base = 0;
     let mut y = 0;
     while y < h {
-        let next = link_row(words, c, w, above, here, base + w);
+        let next = link_row(words, c, parents, w, above, here, base + w);
         above = here;
         here = next;
         base += w;

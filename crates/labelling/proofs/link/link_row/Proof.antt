@@ -6,10 +6,10 @@ use Rattle.labelling.proofs.link.link_row.Statement.{statement}
 use Rattle.labelling.proofs.link.link_row.Tie as tie
 
 abbrev Inv-loop : tie.InvT-loop
-Inv-loop words₀ c w above here limit i₀ j₀ words i j = RowWalk w c limit words₀ words above here i j
+Inv-loop words₀ c q w above here limit i₀ j₀ words i j = RowWalk w c q limit words₀ words above here i j
 
 abbrev μ-loop : tie.MeasureT-loop
-μ-loop words₀ c w above here limit i₀ j₀ words i j = c - j
+μ-loop words₀ c q w above here limit i₀ j₀ words i j = c - j
 
 loop-holds : tie.Need-loop-holds Inv-loop μ-loop
 loop-holds c = walk-none ((c .before) .pre)

@@ -1,18 +1,21 @@
 use borrow.Author.Needs.{needs}
 use native.Mathlib.Omega.{arith}
 use Prim.Native.Nat.{_-_}
-use Rattle.labelling.proofs.RunLinkLaws.{PlaneSweep, plane-none, plane-ahead, plane-small, plane-more, plane-done}
+use Rattle.labelling.proofs.RunLinkLaws.{PlaneSweep, known-all, plane-none, plane-ahead, plane-small, plane-more, plane-done}
 use Rattle.labelling.proofs.link.link_runs.Statement.{statement}
 use Rattle.labelling.proofs.link.link_runs.Tie as tie
 
 abbrev Inv-loop : tie.InvT-loop
-Inv-loop words₀ c w h above₀ here₀ base₀ y₀ words above here base y = PlaneSweep w c h words₀ words above here base y
+Inv-loop words₀ c w h q above₀ here₀ base₀ y₀ words above here base y = PlaneSweep w c q h words₀ words above here base y
 
 abbrev μ-loop : tie.MeasureT-loop
-μ-loop words₀ c w h above₀ here₀ base₀ y₀ words above here base y = h - y
+μ-loop words₀ c w h q above₀ here₀ base₀ y₀ words above here base y = h - y
+
+mul-parents : tie.Need-mul-parents Inv-loop μ-loop
+mul-parents c = omega (arith, (c .before) .pre .0 .few)
 
 loop-holds : tie.Need-loop-holds Inv-loop μ-loop
-loop-holds c = plane-none _ _ _ _ ((c .before) .pre .0) ((c .before) .pre .1) ((c .before) .pre .2)
+loop-holds c = plane-none _ _ _ _ _ (known-all ((c .before) .pre .0)) ((c .before) .pre .1) ((c .before) .pre .2)
 
 add-link-row : tie.Need-add-link-row Inv-loop μ-loop
 add-link-row c = let h = plane-small ((c .before .before .loop) .inv) in omega (arith, (c .before .before .before .before) .pre .0 .narrow)
@@ -44,6 +47,7 @@ link-runs-spec =
     (tie.spec
     Inv-loop
     μ-loop
+    mul-parents
     loop-holds
     add-link-row
     link-row-requires

@@ -1,19 +1,15 @@
 use borrow.Author.Needs.{needs}
 use native.Mathlib.Omega.{arith}
-use lib.Seq.{getD-drop}
 use Prim.Native.Nat.{_+_, _*_}
 use Rattle.labelling.proofs.RunLinkLaws.{kin-parent, kin-self}
 use Rattle.labelling.proofs.link.near_parent.Statement.{statement}
 use Rattle.labelling.proofs.link.near_parent.Tie as tie
 
-mul-wide : tie.Need-mul-wide
-mul-wide c = search needs
-
 add-wide : tie.Need-add-wide
 add-wide c = search needs
 
-mul-wide-2 : tie.Need-mul-wide-2
-mul-wide-2 c = search needs
+mul-wide : tie.Need-mul-wide
+mul-wide c = search needs
 
 shared-slice-read-wide : tie.Need-shared-slice-read-wide
 shared-slice-read-wide c = search needs
@@ -28,15 +24,14 @@ returns : tie.Need-returns
 returns c = kin-self _ _
 
 returns-2 : tie.Need-returns-2
-returns-2 c = kin-parent ((c .before .before .before .before) .args .c) ((c .before .before .before .before) .args .words .now) ((c .before .before .before .before) .args .k) ((c .before .wide) .result) ((c .before .wide) .ensures) (omega (arith, getD-drop (2 * (c .before .before .before .before) .args .c) ((c .before .before .before .before) .args .words .now) ((c .before .before .before .before) .args .k) 0, (c .before .before .before .before) .pre .2))
+returns-2 c = kin-parent ((c .before .before .before .before) .args .parents) ((c .before .before .before .before) .args .words .now) ((c .before .before .before .before) .args .k) ((c .before .wide) .result) ((c .before .wide) .ensures) ((c .before .before .before .before) .pre .1)
 
 pub near-parent-spec : {M : Type 1} → statement M
 near-parent-spec =
     tie.close
     (tie.spec
-    mul-wide
     add-wide
-    mul-wide-2
+    mul-wide
     shared-slice-read-wide
     wide-requires
     add-if1

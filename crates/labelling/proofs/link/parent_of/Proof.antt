@@ -10,28 +10,28 @@ returns : tie.Need-returns
 returns c = none-above ((c .before .before) .pre) ((c .if1) .taken)
 
 mul-wide : tie.Need-mul-wide
-mul-wide c = omega (arith, (c .before .before) .pre .list .few, (c .before .before) .pre .list .room, (c .before .before) .pre .under .high, (c .before .before) .pre .under .mid, (c .if1) .left)
+mul-wide c = omega (arith, (c .before .before) .pre .list .few, (c .before .before) .pre .list .room, (c .before .before) .pre .list .place, (c .before .before) .pre .under .high, (c .before .before) .pre .under .mid, (c .if1) .left)
 
 add-wide : tie.Need-add-wide
-add-wide c = omega (arith, (c .before .before) .pre .list .few, (c .before .before) .pre .list .room, (c .before .before) .pre .under .high, (c .before .before) .pre .under .mid, (c .if1) .left)
+add-wide c = omega (arith, (c .before .before) .pre .list .few, (c .before .before) .pre .list .room, (c .before .before) .pre .list .place, (c .before .before) .pre .under .high, (c .before .before) .pre .under .mid, (c .if1) .left)
 
 mul-wide-2 : tie.Need-mul-wide-2
-mul-wide-2 c = omega (arith, (c .before .before) .pre .list .few, (c .before .before) .pre .list .room, (c .before .before) .pre .under .high, (c .before .before) .pre .under .mid, (c .if1) .left)
+mul-wide-2 c = omega (arith, (c .before .before) .pre .list .few, (c .before .before) .pre .list .room, (c .before .before) .pre .list .place, (c .before .before) .pre .under .high, (c .before .before) .pre .under .mid, (c .if1) .left)
 
 slice-read-wide : tie.Need-slice-read-wide
-slice-read-wide c = omega (arith, (c .before .before .before) .pre .list .few, (c .before .before .before) .pre .list .room, (c .before .before .before) .pre .under .high, (c .before .before .before) .pre .under .mid, (c .before .if1) .left)
+slice-read-wide c = omega (arith, (c .before .before .before) .pre .list .few, (c .before .before .before) .pre .list .room, (c .before .before .before) .pre .list .place, (c .before .before .before) .pre .under .high, (c .before .before .before) .pre .under .mid, (c .before .if1) .left)
 
 wide-requires : tie.Need-wide-requires
 wide-requires c κs = search needs
 
 mul-wide-3 : tie.Need-mul-wide-3
-mul-wide-3 c = omega (arith, (c .before .before .before .before) .pre .list .few, (c .before .before .before .before) .pre .list .room, (c .before .before .before .before) .pre .under .high, (c .before .before .before .before) .pre .under .mid, (c .before .before .if1) .left)
+mul-wide-3 c = omega (arith, (c .before .before .before .before) .pre .list .few, (c .before .before .before .before) .pre .list .room, (c .before .before .before .before) .pre .list .place, (c .before .before .before .before) .pre .under .high, (c .before .before .before .before) .pre .under .mid, (c .before .before .if1) .left)
 
 mul-wide-4 : tie.Need-mul-wide-4
-mul-wide-4 c = omega (arith, (c .before .before .before .before) .pre .list .few, (c .before .before .before .before) .pre .list .room, (c .before .before .before .before) .pre .under .high, (c .before .before .before .before) .pre .under .mid, (c .before .before .if1) .left)
+mul-wide-4 c = omega (arith, (c .before .before .before .before) .pre .list .few, (c .before .before .before .before) .pre .list .room, (c .before .before .before .before) .pre .list .place, (c .before .before .before .before) .pre .under .high, (c .before .before .before .before) .pre .under .mid, (c .before .before .if1) .left)
 
 slice-read-wide-2 : tie.Need-slice-read-wide-2
-slice-read-wide-2 c = omega (arith, (c .before .before .before .before .before) .pre .list .few, (c .before .before .before .before .before) .pre .list .room, (c .before .before .before .before .before) .pre .under .high, (c .before .before .before .before .before) .pre .under .mid, (c .before .before .before .if1) .left)
+slice-read-wide-2 c = omega (arith, (c .before .before .before .before .before) .pre .list .few, (c .before .before .before .before .before) .pre .list .room, (c .before .before .before .before .before) .pre .list .place, (c .before .before .before .before .before) .pre .under .high, (c .before .before .before .before .before) .pre .under .mid, (c .before .before .before .if1) .left)
 
 wide-requires-2 : tie.Need-wide-requires-2
 wide-requires-2 c κs = search needs
@@ -43,10 +43,10 @@ returns-2 : tie.Need-returns-2
 returns-2 c = let u = (c .before .before .before .before .before .before .before) .pre .under in let lk = (c .before .before .before .before .before .if1) .left in none-left ((c .before .before .before .before .before .before .before) .pre) lk (omega (arith, (c .if2) .taken, (c .before .before .before .wide) .ensures, (c .before .wide2) .ensures, getD-take (2 * (c .before .before .before .before .before .before .before) .args .c) ((c .before .before .before .before .before .before .before) .args .words .now) (2 * (c .before .before .before .before .before .before .before) .args .j + 1) 0 (omega arith), getD-take (2 * (c .before .before .before .before .before .before .before) .args .c) ((c .before .before .before .before .before .before .before) .args .words .now) (2 * (c .before .before .before .before .before .before .before) .args .first) 0 (omega arith)))
 
 add-next : tie.Need-add-next
-add-next c = omega (arith, (c .before .before .before .before .before .before .before) .pre .list .few, (c .before .before .before .before .before .before .before) .pre .list .room, (c .before .before .before .before .before .before .before) .pre .under .high, (c .before .before .before .before .before .before .before) .pre .under .mid, (c .before .before .before .before .before .if1) .left)
+add-next c = omega (arith, (c .before .before .before .before .before .before .before) .pre .list .few, (c .before .before .before .before .before .before .before) .pre .list .room, (c .before .before .before .before .before .before .before) .pre .list .place, (c .before .before .before .before .before .before .before) .pre .under .high, (c .before .before .before .before .before .before .before) .pre .under .mid, (c .before .before .before .before .before .if1) .left)
 
 near-parent-requires : tie.Need-near-parent-requires
-near-parent-requires c κs = let u = (c .before .before .before .before .before .before .before .before .before) .pre .under in let lk = (c .before .before .before .before .before .before .before .if1) .left in (omega (arith, (c .before .before .before .before .before .before .before .before .before) .pre .list .few, (c .before .before .before .before .before .before .before .before .before) .pre .list .room, (c .before .before .before .before .before .before .before .before .before) .pre .under .high, (c .before .before .before .before .before .before .before .before .before) .pre .under .mid), (c .before .before .before .before .before .before .before .before .before) .pre .list .room, first-down ((c .before .before .before .before .before .before .before .before .before) .pre) lk)
+near-parent-requires c κs = let lk = (c .before .before .before .before .before .before .before .if1) .left in (omega (arith, (c .before .before .before .before .before .before .before .before .before) .pre .list .few, (c .before .before .before .before .before .before .before .before .before) .pre .list .room, (c .before .before .before .before .before .before .before .before .before) .pre .under .high, (c .before .before .before .before .before .before .before .before .before) .pre .under .mid), first-down ((c .before .before .before .before .before .before .before .before .before) .pre) lk)
 
 same-length : tie.Need-same-length
 same-length c = search needs
@@ -55,13 +55,13 @@ returns-3 : tie.Need-returns-3
 returns-3 c = let u = (c .before .before .before .before .before .before .before .before .before .before) .pre .under in let lk = (c .before .before .before .before .before .before .before .before .if1) .left in sweep-end (sweep-kin ((c .before .before .before .before .before .before .before .before .before .before) .pre) lk (omega (arith, (c .before .before .before .if2) .left, (c .before .before .before .before .before .before .wide) .ensures, (c .before .before .before .before .wide2) .ensures, getD-take (2 * (c .before .before .before .before .before .before .before .before .before .before) .args .c) ((c .before .before .before .before .before .before .before .before .before .before) .args .words .now) (2 * (c .before .before .before .before .before .before .before .before .before .before) .args .j + 1) 0 (omega arith), getD-take (2 * (c .before .before .before .before .before .before .before .before .before .before) .args .c) ((c .before .before .before .before .before .before .before .before .before .before) .args .words .now) (2 * (c .before .before .before .before .before .before .before .before .before .before) .args .first) 0 (omega arith))) ((c .near-parent) .result) ((c .near-parent) .ensures)) ((c .before .before .if3) .taken)
 
 mul-wide-5 : tie.Need-mul-wide-5
-mul-wide-5 c = omega (arith, (c .before .before .before .before .before .before .before .before) .pre .list .few, (c .before .before .before .before .before .before .before .before) .pre .list .room, (c .before .before .before .before .before .before .before .before) .pre .under .high, (c .before .before .before .before .before .before .before .before) .pre .under .mid, (c .before .before .before .before .before .before .if1) .left, (c .if3) .left)
+mul-wide-5 c = omega (arith, (c .before .before .before .before .before .before .before .before) .pre .list .few, (c .before .before .before .before .before .before .before .before) .pre .list .room, (c .before .before .before .before .before .before .before .before) .pre .list .place, (c .before .before .before .before .before .before .before .before) .pre .under .high, (c .before .before .before .before .before .before .before .before) .pre .under .mid, (c .before .before .before .before .before .before .if1) .left, (c .if3) .left)
 
 mul-wide-6 : tie.Need-mul-wide-6
-mul-wide-6 c = omega (arith, (c .before .before .before .before .before .before .before .before) .pre .list .few, (c .before .before .before .before .before .before .before .before) .pre .list .room, (c .before .before .before .before .before .before .before .before) .pre .under .high, (c .before .before .before .before .before .before .before .before) .pre .under .mid, (c .before .before .before .before .before .before .if1) .left, (c .if3) .left)
+mul-wide-6 c = omega (arith, (c .before .before .before .before .before .before .before .before) .pre .list .few, (c .before .before .before .before .before .before .before .before) .pre .list .room, (c .before .before .before .before .before .before .before .before) .pre .list .place, (c .before .before .before .before .before .before .before .before) .pre .under .high, (c .before .before .before .before .before .before .before .before) .pre .under .mid, (c .before .before .before .before .before .before .if1) .left, (c .if3) .left)
 
 slice-read-wide-3 : tie.Need-slice-read-wide-3
-slice-read-wide-3 c = omega (arith, (c .before .before .before .before .before .before .before .before .before) .pre .list .few, (c .before .before .before .before .before .before .before .before .before) .pre .list .room, (c .before .before .before .before .before .before .before .before .before) .pre .under .high, (c .before .before .before .before .before .before .before .before .before) .pre .under .mid, (c .before .before .before .before .before .before .before .if1) .left, (c .before .if3) .left)
+slice-read-wide-3 c = omega (arith, (c .before .before .before .before .before .before .before .before .before) .pre .list .few, (c .before .before .before .before .before .before .before .before .before) .pre .list .room, (c .before .before .before .before .before .before .before .before .before) .pre .list .place, (c .before .before .before .before .before .before .before .before .before) .pre .under .high, (c .before .before .before .before .before .before .before .before .before) .pre .under .mid, (c .before .before .before .before .before .before .before .if1) .left, (c .before .if3) .left)
 
 wide-requires-3 : tie.Need-wide-requires-3
 wide-requires-3 c κs = search needs
@@ -70,7 +70,7 @@ add-if4 : tie.Need-add-if4
 add-if4 c = omega (arith, (c .wide3) .ensures, (c .before .slice-known4) .given (2 * ((c .before .before .before .before .before .before .before .before .before .before) .args .first + 1)), (c .before .before .before .before .before .before .before .before .before .before) .pre .list .narrow)
 
 near-parent-requires-2 : tie.Need-near-parent-requires-2
-near-parent-requires-2 c κs = let u = (c .before .before .before .before .before .before .before .before .before .before .before .before) .pre .under in let lk = (c .before .before .before .before .before .before .before .before .before .before .if1) .left in (omega (arith, (c .before .before .before .before .before .before .before .before .before .before .before .before) .pre .list .few, (c .before .before .before .before .before .before .before .before .before .before .before .before) .pre .list .room, (c .before .before .before .before .before .before .before .before .before .before .before .before) .pre .under .high, (c .before .before .before .before .before .before .before .before .before .before .before .before) .pre .under .mid), (c .before .before .before .before .before .before .before .before .before .before .before .before) .pre .list .room, first-down ((c .before .before .before .before .before .before .before .before .before .before .before .before) .pre) lk)
+near-parent-requires-2 c κs = let lk = (c .before .before .before .before .before .before .before .before .before .before .if1) .left in (omega (arith, (c .before .before .before .before .before .before .before .before .before .before .before .before) .pre .list .few, (c .before .before .before .before .before .before .before .before .before .before .before .before) .pre .list .room, (c .before .before .before .before .before .before .before .before .before .before .before .before) .pre .under .high, (c .before .before .before .before .before .before .before .before .before .before .before .before) .pre .under .mid), first-down ((c .before .before .before .before .before .before .before .before .before .before .before .before) .pre) lk)
 
 same-length-2 : tie.Need-same-length-2
 same-length-2 c = search needs
