@@ -26,7 +26,8 @@ use Rattle.labelling.proofs.RunLabelLaws.{inkBefore-row, turns-even}
 inner-wider : (w x : ℕ) → x < w → suc x % suc w ≡ 0 → ⊥
 inner-wider w x l e = let q : suc x % suc w ≡ suc x = mod-eq-of-lt (let h : suc x < suc w = omega arith in h) in omega arith
 
-inner-row : (w x : ℕ) → suc x < w → suc x % w ≡ 0 → ⊥
+-- no dot but the last ends a row
+pub inner-row : (w x : ℕ) → suc x < w → suc x % w ≡ 0 → ⊥
 inner-row w x l e = let q : suc x % w ≡ suc x = mod-eq-of-lt l in omega arith
 
 -- the turns before the row's end is looked at
@@ -217,7 +218,7 @@ pub ink-more : (m : List ℕ) (i count b : ℕ) → count ≡ countIf (isInk m) 
 unfolding countIf
 ink-more m i count b e h = ap (λ z. z + b) e ∙ (ap (λ z. countIf (isInk m) i + z) (h ∙ ink-bit m i) ∙ ap (countIf (isInk m)) (sym (add-one i)))
 
-ink-of-part : (row : List ℕ) (x d i : ℕ) → i < d → isInk (take d (drop x row)) i ≡ isInk row (x + i)
+pub ink-of-part : (row : List ℕ) (x d i : ℕ) → i < d → isInk (take d (drop x row)) i ≡ isInk row (x + i)
 unfolding isInk
 ink-of-part row x d i h = ap (ltb 0) (getD-take d (drop x row) i 0 h ∙ getD-drop x row i 0)
 
@@ -396,6 +397,33 @@ module _ (w : ℕ) (m row : List ℕ) (y : ℕ) (hw : 0 < w) (same : (x : ℕ) �
       ∙ (ap (λ z. appendIf (isInk row x && eqb (suc x % w) 0) z (A ++ map (λ i. b + i) (appendIf (differ (inkBefore w row x) (isInk row x)) x L))) (let e : suc (b + x) ≡ b + suc x = omega arith in e)
       ∙ append-map (isInk row x && eqb (suc x % w) 0) b (suc x) A (appendIf (differ (inkBefore w row x) (isInk row x)) x L)))))))
 
+-- row y of a mask h rows high, which starts at dot `base`
+module _ (w h : ℕ) (m : List ℕ) (base y : ℕ) (hw : 0 < w) (whole : length m ≡ w * h) (base-is : base ≡ y * w) (l : y < h) where
+  pub row-inside : base + w ≤ length m
+  row-inside =
+      let c : w * h ≡ h * w = mul-comm w h in
+      let q : suc y * w ≤ h * w = mul-le-mul-right w l in
+      let r : suc y * w ≡ y * w + w = suc-mul y w in
+      omega arith
+
+  pub row-length : length (take (base + w - base) (drop base m)) ≡ w
+  row-length = let i = row-inside in let e : base + w - base ≡ w = omega arith in rw e (length-take-le w (drop base m) (simp length-drop (omega arith)))
+
+  pub next-base : base + w ≡ (y + 1) * w
+  next-base = let n : suc y * w ≡ y * w + w = suc-mul y w in (let q : base + w ≡ suc y * w = omega arith in q) ∙ ap (λ z. z * w) (sym (add-one y))
+
+  -- one row more
+  pub turns-row : turns w m ((y + 1) * w) ≡ turns w m (y * w) ++ rowTurns (take (base + w - base) (drop base m)) base
+  turns-row =
+      let row = take (base + w - base) (drop base m) in
+      ap (turns w m) (sym next-base ∙ ap (λ z. z + w) base-is)
+      ∙ (turns-from w m row y hw at-row w (le-refl w)
+      ∙ (ap (λ z. turns w m (y * w) ++ map (λ i. z + i) (turns w row w)) (sym base-is)
+      ∙ ap (λ z. turns w m (y * w) ++ map (λ i. base + i) (turns z row z)) (sym row-length)))
+    where
+      at-row : (x : ℕ) → x < w → getD (take (base + w - base) (drop base m)) x 0 ≡ getD m (y * w + x) 0
+      at-row x h = getD-take (base + w - base) (drop base m) x 0 (omega arith) ∙ (getD-drop base m x 0 ∙ ap (λ z. getD m (z + x) 0) base-is)
+
 -- the rows before row y are read
 pub record PlaneScan (w h : ℕ) (m s₀ s : List ℕ) (k base y : ℕ) : Type 0 where
   pub asks : PlaneRoom w h m s₀
@@ -420,22 +448,13 @@ plane-none {w} {h} {m} {s} A =
 
 module _ {w h : ℕ} {m s₀ s : List ℕ} {k base y : ℕ} (S : PlaneScan w h m s₀ s k base y) where
   pub plane-inside : y < h → base + w ≤ length m
-  plane-inside l =
-      let e = S .base-is in
-      let n = S .asks .whole in
-      let c : w * h ≡ h * w = mul-comm w h in
-      let q : suc y * w ≤ h * w = mul-le-mul-right w l in
-      let r : suc y * w ≡ y * w + w = suc-mul y w in
-      omega arith
+  plane-inside = row-inside w h m base y (S .asks .wide) (S .asks .whole) (S .base-is)
 
   module _ (l : y < h) where
-    row-length : length (take (base + w - base) (drop base m)) ≡ w
-    row-length = let i = plane-inside l in let e : base + w - base ≡ w = omega arith in rw e (length-take-le w (drop base m) (simp length-drop (omega arith)))
-
     pub plane-row : RowRoom (take (base + w - base) (drop base m)) base s k
     plane-row =
         let A = S .asks in
-        let e = row-length in
+        let e = row-length w h m base y (A .wide) (A .whole) (S .base-is) l in
         let i = plane-inside l in
         let f = turns-fit w m (A .wide) y in
         let r = A .room in
@@ -455,25 +474,16 @@ module _ {w h : ℕ} {m s₀ s : List ℕ} {k base y : ℕ} (S : PlaneScan w h m
     pub plane-more : (s' : List ℕ) (r : ℕ) → RowExtracted (take (base + w - base) (drop base m)) base s s' k r → PlaneScan w h m s₀ s' r (base + w) (y + 1)
     plane-more s' r X =
         let row = take (base + w - base) (drop base m) in
-        let n : suc y * w ≡ y * w + w = suc-mul y w in
-        let b : base ≡ y * w = S .base-is in
-        let one : y * w + w ≡ (y + 1) * w = (let q : y * w + w ≡ suc y * w = omega arith in q) ∙ ap (λ z. z * w) (sym (add-one y)) in
-        let T : turns w m ((y + 1) * w) ≡ turns w m (y * w) ++ rowTurns row base =
-        ap (turns w m) (sym one)
-        ∙ (turns-from w m row y (S .asks .wide) at-row w (le-refl w)
-        ∙ (ap (λ z. turns w m (y * w) ++ map (λ i. z + i) (turns w row w)) (sym b)
-        ∙ ap (λ z. turns w m (y * w) ++ map (λ i. base + i) (turns z row z)) (sym row-length))) in
+        let A = S .asks in
+        let T = turns-row w h m base y (A .wide) (A .whole) (S .base-is) l in
         record {
-          asks = S .asks;
+          asks = A;
           len = X .len ∙ S .len;
           upto = omega arith;
-          base-is = (let q : base + w ≡ y * w + w = omega arith in q) ∙ one;
+          base-is = next-base w h m base y (A .wide) (A .whole) (S .base-is) l;
           words = X .words ∙ (ap (λ z. z ++ rowTurns row base) (S .words) ∙ sym T);
           place = X .upto ∙ ((ap (λ z. z + length (rowTurns row base)) (S .place) ∙ sym (length-append (turns w m (y * w)) (rowTurns row base))) ∙ ap length (sym T));
         }
-      where
-        at-row : (x : ℕ) → x < w → getD (take (base + w - base) (drop base m)) x 0 ≡ getD m (y * w + x) 0
-        at-row x h = getD-take (base + w - base) (drop base m) x 0 (omega arith) ∙ (getD-drop base m x 0 ∙ ap (λ z. getD m (z + x) 0) (S .base-is))
 
   pub plane-done : h ≤ y → Extracted w h m s₀ s (k / 2)
   plane-done l =

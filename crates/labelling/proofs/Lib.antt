@@ -32,6 +32,8 @@ pub mod RunLinkLaws
 pub mod NumberLaws
 -- turns written row by row
 pub mod ExtractLaws
+-- runs counted by their starts, without their turns
+pub mod StartLaws
 -- turns of the dots that pass a test, by ink and marks
 pub mod MarkedLaws
 -- nine words

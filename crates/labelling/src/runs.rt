@@ -15,7 +15,7 @@ const BLOCK: usize = 32;
 const STRETCH: usize = 128;
 
 // 1 where a byte is ink, any but 0; else 0.
-fn ink_of(byte: u8) -> u8
+pub fn ink_of(byte: u8) -> u8
     ensures { λ r. ⌜ r ≡ cond (eqb byte 0) 0 1 ⌝ }
 {
     if byte == 0 { 0 } else { 1 }
