@@ -9,7 +9,7 @@ use native.Mathlib.Decide.{ℕ-discrete}
 use native.Mathlib.Omega.{arith}
 use borrow.Author.Tests.{eq-eqb, ne-eqb, lt-ltb, le-ltb}
 use lib.ListN.{getD, length, set, take, drop, length-set, length-map, length-append, length-drop}
-use lib.Seq.{getD-take, getD-drop, length-take-le}
+use lib.Seq.{getD-take, getD-drop, length-take-le, drop-drop, drop-set-lt}
 use lib.Dec.{eqb, ltb}
 use Rattle.memory.specs.Lists.{countIf}
 use Rattle.labelling.specs.Labels.{isInk}
@@ -87,6 +87,13 @@ turn-bit true false = refl
 turn-bit false true = refl
 turn-bit false false = refl
 
+-- the words from k on as they were, a word before them changed
+rest-on : (s s₀ : List ℕ) (k k' i v : ℕ) → k ≤ k' → i < k' → drop k s ≡ drop k s₀ → drop k' (set s i v) ≡ drop k' s₀
+rest-on s s₀ k k' i v l li e =
+    let q : k + (k' - k) ≡ k' = omega arith in
+    drop-set-lt k' s i v li
+    ∙ (ap (λ z. drop z s) (sym q) ∙ (sym (drop-drop (k' - k) k s) ∙ (ap (drop (k' - k)) e ∙ (drop-drop (k' - k) k s₀ ∙ ap (λ z. drop z s₀) q))))
+
 scan-none : {row : List ℕ} {base : ℕ} {s : List ℕ} {at : ℕ} → RowRoom row base s at → RowScan row base s s at at 0 0
 unfolding turns inkBefore
 scan-none {row} {base} {s} {at} A =
@@ -97,6 +104,7 @@ scan-none {row} {base} {s} {at} A =
       place = omega arith;
       ink = refl;
       words = sym (append-nil (take at s));
+      rest = refl;
     }
 
 pub scan-start : {row : List ℕ} {base : ℕ} {s : List ℕ} {at : ℕ} → RowRoom row base s at → RowScan row base s s at at (at % 2) 0
@@ -142,6 +150,7 @@ module _ {row : List ℕ} {base : ℕ} {s₀ s : List ℕ} {at k before x : ℕ}
             ∙ (ap (appendIf d (base + x)) (S .words)
             ∙ (append-map d base x (take at s₀) L
             ∙ ap (λ z. take at s₀ ++ map (λ i. base + i) z) (sym T ∙ ap (turns W row) (sym (add-one x))))));
+        rest = rest-on s s₀ (suc k) (suc (k + turn)) k (base + x) (omega arith) (omega arith) (S .rest);
       }
 
   module _ (l : length row ≤ x) where
@@ -171,6 +180,7 @@ module _ {row : List ℕ} {base : ℕ} {s₀ s : List ℕ} {at k before x : ℕ}
           len = S .len;
           words = S .words ∙ ap (λ z. take at s₀ ++ map (λ i. base + i) z) (sym c);
           upto = S .place ∙ (ap (λ z. at + length z) (sym c) ∙ ap (λ z. at + z) (sym (length-map (turns (length row) row (length row)) (λ i. base + i))));
+          rest = S .rest;
         }
 
     ink-before : (before ≡ 0 → ⊥) → before ≡ bit true
@@ -206,6 +216,7 @@ module _ {row : List ℕ} {base : ℕ} {s₀ s : List ℕ} {at k before x : ℕ}
           upto =
               (let a = S .place in let e = length-appendIf true x L in let g : k + 1 ≡ at + length (appendIf true x L) = omega arith in g)
               ∙ (ap (λ z. at + length z) (sym c') ∙ ap (λ z. at + z) (sym (length-map (turns (length row) row (length row)) (λ i. base + i))));
+          rest = rest-on s s₀ (suc k) (suc (k + 1)) k (base + x) (omega arith) (omega arith) (S .rest);
         }
 
 -- Dots read in blocks
@@ -271,6 +282,7 @@ module _ {row : List ℕ} {base : ℕ} {s₀ s : List ℕ} {at k before x : ℕ}
         place = S .place ∙ ap (λ z. at + length z) (sym (T .0));
         ink = S .ink ∙ ap bit (e ∙ sym (T .1));
         words = S .words ∙ ap (λ z. take at s₀ ++ map (λ i. base + i) z) (sym (T .0));
+        rest = S .rest;
       }
 
   -- a block whose dots are all as the one before has no turns

@@ -28,7 +28,7 @@ chain-sym (fall l k t c) = chain-trans (chain-sym c) (rise l k t here)
 
 -- Lists
 
-getD-map : (f : ℕ → ℕ) (l : List ℕ) (j d d' : ℕ) → j < length l → getD (map f l) j d ≡ f (getD l j d')
+pub getD-map : (f : ℕ → ℕ) (l : List ℕ) (j d d' : ℕ) → j < length l → getD (map f l) j d ≡ f (getD l j d')
 getD-map f [] j d d' l = absurd (not-suc-le-zero l)
 getD-map f (x ∷ xs) zero d d' l = refl
 getD-map f (x ∷ xs) (suc j) d d' l = getD-map f xs j d d' (le-of-suc-le-suc l)

@@ -34,6 +34,8 @@ pub mod NumberLaws
 pub mod ExtractLaws
 -- runs counted by their starts, without their turns
 pub mod StartLaws
+-- turns written and runs linked, row by row
+pub mod RowLinkLaws
 -- turns of the dots that pass a test, by ink and marks
 pub mod MarkedLaws
 -- nine words

@@ -6,7 +6,7 @@ use native.Mathlib.Nat.{le-refl, not-suc-le-zero}
 use native.Mathlib.Decide.{ℕ-discrete, decLt}
 use native.Mathlib.Omega.{arith}
 use Rattle.labelling.specs.Classes.{renamed}
-use Rattle.labelling.specs.Chains.{Chain, here, rise}
+use Rattle.labelling.specs.Chains.{Chain, here, rise, fall}
 use Rattle.labelling.specs.Forests.{joinF, Named, Seen}
 use Rattle.labelling.proofs.FirstLaws.{chain-trans, chain-sym, renamed-case, joinF-a, joinF-b, min-case, max-case}
 
@@ -91,3 +91,22 @@ module _ (r : ℕ → ℕ → Bool) (n : ℕ) where
   -- all have
   pub seen-all : (f : ℕ → ℕ) → Seen r n f n 0 → Named r n f
   seen-all f S = record { low = λ i _. S .low i; sound = λ i _. S .sound i; full = S .full }
+
+-- more numbers, and the relation of the numbers below n as it was
+module _ (r r' : ℕ → ℕ → Bool) (n n' : ℕ) (l : n ≤ n') (same : (a b : ℕ) → a < b → b < n → r' a b ≡ r a b) where
+  chain-wider : {a b : ℕ} → Chain r n a b → Chain r' n' a b
+  chain-wider here = here
+  chain-wider (rise {a} {b} h k t d) = rise h (omega arith) (same a b h k ∙ t) (chain-wider d)
+  chain-wider (fall {a} {b} h k t d) = fall h (omega arith) (same b a h k ∙ t) (chain-wider d)
+
+  pub seen-wider : (f : ℕ → ℕ) (j : ℕ) → j ≤ n → Seen r n f j 0 → Seen r' n' f j 0
+  seen-wider f j lj S =
+      record {
+        low = S .low;
+        idem = S .idem;
+        sound = λ k. chain-wider (S .sound k);
+        fresh = S .fresh;
+        own = S .own;
+        full = λ a b h k t. S .full a b h k (sym (same a b h (omega arith)) ∙ t);
+        seen = λ a h. absurd (not-suc-le-zero h);
+      }

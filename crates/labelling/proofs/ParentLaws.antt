@@ -44,6 +44,15 @@ forest-under f p j r F e lr l =
     }
 
 -- another naming that agrees below n
+-- other words with the same parents
+pub forest-same : (f : ℕ → ℕ) (p p' : List ℕ) (n : ℕ) → ((j : ℕ) → j < n → getD p' j 0 ≡ getD p j 0) → Forest f p n → Forest f p' n
+forest-same f p p' n e F =
+    record {
+      down = λ j l. let h = e j l in let d = F .down j l in omega arith;
+      same = λ j l. ap f (e j l) ∙ F .same j l;
+      root = λ j l h. F .root j l (sym (e j l) ∙ h);
+    }
+
 forest-ext : (f g : ℕ → ℕ) (p : List ℕ) (n : ℕ) → ((i : ℕ) → i < n → g i ≡ f i) → Forest f p n → Forest g p n
 forest-ext f g p n e F =
     record {

@@ -26,16 +26,24 @@ unfolding inkBefore
 inkBefore-row w m zero e = refl
 inkBefore-row w m (suc n) e = rw (eq-eqb (suc n % w) 0 e) refl
 
-module _ (w h : ℕ) (m : List ℕ) (hw : 0 < w) where
+-- up to the end of a row
+module _ (w n : ℕ) (m : List ℕ) (hw : 0 < w) (e : n % w ≡ 0) where
   -- two turns a run
+  pub turns-whole : length (turns w m n) ≡ 2 * runCount w m n
+  turns-whole = let s = scanned w m hw n .0 in let z = ap bit (inkBefore-row w m n e) in omega arith
+
+  pub runs-whole : Runs w m n (runCount w m n) (startOf (turns w m n)) (endOf (turns w m n) 0) (runOf w m)
+  runs-whole =
+      let T = turns w m n in
+      let e = turns-whole in
+      runs-ext w m n (runCount w m n) (startOf T) (endOf T n) (startOf T) (endOf T 0) (runOf w m) (scanned w m hw n .1) (λ k l. refl) (λ k l. any-default T (2 * k + 1) 0 n (omega arith))
+
+module _ (w h : ℕ) (m : List ℕ) (hw : 0 < w) where
   pub turns-even : length (turns w m (w * h)) ≡ 2 * runCount w m (w * h)
-  turns-even = let s = scanned w m hw (w * h) .0 in let z = ap bit (inkBefore-row w m (w * h) (mul-mod-right w h)) in omega arith
+  turns-even = turns-whole w (w * h) m hw (mul-mod-right w h)
 
   pub turns-runs : Runs w m (w * h) (runCount w m (w * h)) (startOf (turns w m (w * h))) (endOf (turns w m (w * h)) 0) (runOf w m)
-  turns-runs =
-      let T = turns w m (w * h) in
-      let e = turns-even in
-      runs-ext w m (w * h) (runCount w m (w * h)) (startOf T) (endOf T (w * h)) (startOf T) (endOf T 0) (runOf w m) (scanned w m hw (w * h) .1) (λ k l. refl) (λ k l. any-default T (2 * k + 1) 0 (w * h) (omega arith))
+  turns-runs = runs-whole w (w * h) m hw (mul-mod-right w h)
 
   -- the labelling, for any naming of the runs that a union-find has found
   module _ (rep : ℕ → ℕ) (N : Named (touchRuns w (startOf (turns w m (w * h))) (endOf (turns w m (w * h)) 0)) (runCount w m (w * h)) rep) where

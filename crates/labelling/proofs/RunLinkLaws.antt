@@ -556,6 +556,26 @@ module _ {w c q h : ℕ} {s₀ s : List ℕ} {above here base y : ℕ} (S : Plan
         high-row a l₁ (yes q) = let z = S .row-high a q in omega arith
         high-row a l₁ (no q) = let u = E .upto in let e = start-is-now a (omega arith) in let i = E .inside a (omega arith) l₁ in omega arith
 
+  -- the same, from the words as they are now
+  pub plane-now : PlaneSweep w c q h s s above here base y
+  plane-now =
+      let e = kept-turns (S .list) (S .kept) in
+      record {
+        list = kept-list (S .list) (S .kept);
+        tall = S .tall;
+        inside = rw e (S .inside);
+        kept = kept-none q s;
+        base-is = S .base-is;
+        upto = S .upto;
+        low = S .low;
+        high = S .high;
+        far = rw e (S .far);
+        row-low = rw e (S .row-low);
+        row-high = rw e (S .row-high);
+        rest = rw e (S .rest);
+        linked = rw e (S .linked);
+      }
+
   pub plane-forest : h ≤ y → Forest (firstRun w c (take (2 * c) s₀)) (drop q s) c
   plane-forest l = forest-firsts (all (decLt here c))
     where

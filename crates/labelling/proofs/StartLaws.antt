@@ -14,9 +14,9 @@ use Rattle.labelling.specs.Labels.{isInk}
 use Rattle.labelling.specs.InkRuns.{inkBefore, turns, opensRun, startsAfter, runCount}
 use Rattle.labelling.specs.Extraction.{rowTurns}
 use Rattle.labelling.proofs.CountLaws.{count-low}
-use Rattle.labelling.proofs.TurnLaws.{bit, scanned}
+use Rattle.labelling.proofs.TurnLaws.{bit}
 use Rattle.labelling.proofs.ScanLaws.{inkBefore-inner}
-use Rattle.labelling.proofs.RunLabelLaws.{inkBefore-row}
+use Rattle.labelling.proofs.RunLabelLaws.{turns-whole}
 use Rattle.labelling.proofs.ExtractLaws.{ink-bit, ink-of-part, inner-row, row-length, turns-row}
 
 -- Dot by dot
@@ -99,10 +99,6 @@ runs-low w m n = count-low (opensRun w m) n
 
 -- Row by row
 
--- the turns up to the end of a row are two a run
-pub turns-whole : (w : ℕ) (m : List ℕ) (n : ℕ) → 0 < w → n % w ≡ 0 → length (turns w m n) ≡ 2 * runCount w m n
-turns-whole w m n hw e = let s = scanned w m hw n .0 in let b = ap bit (inkBefore-row w m n e) in omega arith
-
 pub starts-zero : (w : ℕ) (m : List ℕ) → 0 ≡ runCount w m (0 * w)
 unfolding runCount countIf
 starts-zero w m = ap (runCount w m) (let e : 0 ≡ 0 * w = omega arith in e)
@@ -114,7 +110,7 @@ starts-row w h m base y count r hw whole base-is l e f =
     let row = take (base + w - base) (drop base m) in
     let n = row-length w h m base y hw whole base-is l in
     let T = ap length (turns-row w h m base y hw whole base-is l) ∙ (length-append (turns w m (y * w)) (rowTurns row base) ∙ ap (λ z. length (turns w m (y * w)) + z) (length-map (turns (length row) row (length row)) (λ i. base + i))) in
-    let a = turns-whole w m (y * w) hw (mul-mod-left y w) in
-    let b = turns-whole w m ((y + 1) * w) hw (mul-mod-left (y + 1) w) in
-    let c = turns-whole (length row) row (length row) (omega arith) (mod-self (length row)) in
+    let a = turns-whole w (y * w) m hw (mul-mod-left y w) in
+    let b = turns-whole w ((y + 1) * w) m hw (mul-mod-left (y + 1) w) in
+    let c = turns-whole (length row) (length row) row (omega arith) (mod-self (length row)) in
     omega arith

@@ -3,7 +3,7 @@ use mathlib.Core.Path.{_≡_}
 use mathlib.Core.Bool.{cond}
 use mathlib.Core.List.{List, _++_, map}
 use Prim.Native.Nat.{ℕ, suc, _+_, _-_, _*_, _/_, _%_, _≤_, _<_}
-use lib.ListN.{length, take}
+use lib.ListN.{length, take, drop}
 use Rattle.memory.specs.Limits.{maxMaskSide, maxMaskDots}
 use Rattle.labelling.specs.InkRuns.{inkBefore, turns, runCount}
 
@@ -23,7 +23,7 @@ pub record RowRoom (row : List ℕ) (base : ℕ) (s : List ℕ) (at : ℕ) : Typ
   pub room : at + rowWords (length row) ≤ length s
 
 -- the first x dots of a row are read: k is where the next turn goes, `before` whether the last dot was ink. The row's end is not
--- looked at yet: its turns are those of a row that is one dot wider
+-- looked at yet: its turns are those of a row that is one dot wider. The words after the next turn's are as they were
 pub record RowScan (row : List ℕ) (base : ℕ) (s₀ s : List ℕ) (at k before x : ℕ) : Type 0 where
   pub asks : RowRoom row base s₀ at
   pub len : length s ≡ length s₀
@@ -31,6 +31,7 @@ pub record RowScan (row : List ℕ) (base : ℕ) (s₀ s : List ℕ) (at k befor
   pub place : k ≡ at + length (turns (suc (length row)) row x)
   pub ink : before ≡ cond (inkBefore (suc (length row)) row x) 1 0
   pub words : take k s ≡ take at s₀ ++ map (λ i. base + i) (turns (suc (length row)) row x)
+  pub rest : drop (suc k) s ≡ drop (suc k) s₀
 
 -- dots of a row, and room for a turn at each
 pub record ScanRoom (row : List ℕ) (from to base : ℕ) (s : List ℕ) (at : ℕ) : Type 0 where
@@ -45,11 +46,12 @@ pub record Scanned (row : List ℕ) (from to base : ℕ) (s s' : List ℕ) (at r
   pub short : r ≤ at + (to - from)
   pub read : (s₀ : List ℕ) (start : ℕ) → RowScan row base s₀ s start at (at % 2) from → RowScan row base s₀ s' start r (r % 2) to
 
--- the row's turns stand after what stood before `at`, up to r
+-- the row's turns stand after what stood before `at`, up to r; word r may have changed, and none after it
 pub record RowExtracted (row : List ℕ) (base : ℕ) (s s' : List ℕ) (at r : ℕ) : Type 0 where
   pub len : length s' ≡ length s
   pub words : take r s' ≡ take at s ++ rowTurns row base
   pub upto : r ≡ at + length (rowTurns row base)
+  pub rest : drop (suc r) s' ≡ drop (suc r) s
 
 -- a mask within the limits, and room for the turns of all its rows
 pub record PlaneRoom (w h : ℕ) (m s : List ℕ) : Type 0 where

@@ -9,6 +9,7 @@ use Rattle.memory.specs.Limits.{maxMaskSide, maxMaskDots}
 use Rattle.labelling.specs.Classes.{firstOf, firsts}
 use Rattle.labelling.specs.Forests.{Seen, Forest}
 use Rattle.labelling.specs.InkRuns.{startOf, endOf, touchRuns}
+use Rattle.labelling.specs.Extraction.{Extracted}
 
 -- which runs of the turns t touch, in rows w wide
 abbrev pub touching : ℕ → List ℕ → ℕ → ℕ → Bool
@@ -138,6 +139,11 @@ pub record RowAhead (w c q limit : ℕ) (s : List ℕ) (above here : ℕ) : Type
 pub record RowLinked (w c q limit : ℕ) (s s' : List ℕ) (here r : ℕ) : Type 0 where
   pub row : RowEnd c here limit s r
   pub linked : LinkedTo w c q s s' r
+
+-- the words hold the runs of a mask, and each run's parents lead to the first run of its component
+pub record LinkedRuns (w h : ℕ) (m s s' : List ℕ) (c : ℕ) : Type 0 where
+  pub runs : Extracted w h m s s' c
+  pub forest : Forest (firstRun w c (take (2 * c) s')) (drop (2 * c) s') c
 
 -- each run's parents lead to the first run of its component
 pub record AllLinked (w c : ℕ) (s s' : List ℕ) : Type 0 where

@@ -4,6 +4,7 @@ mod component;
 mod count;
 mod entry;
 mod link;
+mod linked;
 mod marked;
 mod number;
 mod paint;

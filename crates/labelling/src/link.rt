@@ -160,7 +160,7 @@ fn link_one(
 
 // Gives the runs of a row, those from `here` on that start before dot `limit`, their parents, and answers where they end; the runs of the row
 // above are `above` up to `here`.
-fn link_row(
+pub fn link_row(
     words: &mut [u32],
     c: usize,
     parents: usize,

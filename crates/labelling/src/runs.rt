@@ -107,7 +107,7 @@ fn scan_stretch(row: &[u8], from: usize, base: usize, words: &mut [u32], at: usi
 }
 
 // Writes the turns of a row whose first dot is `base` to the words from `at` on, and answers where they end.
-fn extract_row(row: &[u8], base: usize, words: &mut [u32], at: usize) -> usize
+pub fn extract_row(row: &[u8], base: usize, words: &mut [u32], at: usize) -> usize
     requires { ⌜ RowRoom (now row) base (now words) at ⌝ }
     ensures { λ r. ⌜ RowExtracted (now (row .entry)) base (now (words .entry)) (now (words .exit)) at r ⌝ }
 {
