@@ -17,7 +17,7 @@ use Rattle.memory.proofs.TableLaws.{length-table}
 use Rattle.labelling.specs.Labels.{labelling}
 use Rattle.labelling.specs.InkRuns.{turns, runCount, runOf, startOf, endOf, Runs, isRoot, componentNumber, runLabel, componentRuns}
 use Rattle.labelling.specs.Extraction.{PlaneRoom, Extracted}
-use Rattle.labelling.specs.Linking.{touching, firstRun, RunList, AllLinked}
+use Rattle.labelling.specs.Linking.{touching, firstRun, RunList, LinkedRuns}
 use Rattle.labelling.specs.Numbering.{Numbered}
 use Rattle.labelling.specs.Painting.{Paintable, Painted}
 use Rattle.labelling.specs.RecordWords.{recordWords}
@@ -25,9 +25,9 @@ use Rattle.labelling.specs.Tallying.{records, Tallyable}
 use Rattle.labelling.specs.Answer.{answerOf, labelsLeft, componentsLeft, Workable, worked}
 use Rattle.labelling.specs.declared.entry.LabelAnswer.the-variants.{Labelled, Refused}
 use Rattle.labelling.proofs.TransferLaws.{firsts-named}
-use Rattle.labelling.proofs.RunLabelLaws.{turns-even, turns-runs, paint-run, paint-gap}
+use Rattle.labelling.proofs.RunLabelLaws.{turns-runs, paint-run, paint-gap}
 use Rattle.labelling.proofs.RunComponentLaws.{labelling-by-runs}
-use Rattle.labelling.proofs.ScanLaws.{turns-fit}
+use Rattle.labelling.proofs.StartLaws.{runs-low}
 use Rattle.memory.proofs.PartLaws.{tail-part, tail-put}
 use Rattle.labelling.proofs.RecordSweepLaws.{first-low}
 
@@ -55,150 +55,136 @@ pub half-fits : (w h : ℕ) → 0 < w → h * ((w + 1) / 2) ≤ w * h
 half-fits w h hw = let e = mul-comm w h in let g : h * ((w + 1) / 2) ≤ h * w = mul-le-mul-left h (let q : (w + 1) / 2 ≤ w = omega arith in q) in omega arith
 
 module _ {w h : ℕ} {m : List ℕ} {P : ℕ} {labels comps s₀ : List ℕ} (W : Workable w h m P labels comps s₀) where
-  pub stage-extract : PlaneRoom w h m s₀
+  pub stage-extract : PlaneRoom w h m s₀ × (3 * runCount w m (w * h) ≤ length s₀)
   stage-extract =
       let f = half-fits w h (W .wide) in
       let e : h * (2 * ((w + 1) / 2)) ≡ 2 * (h * ((w + 1) / 2)) = mul-left-comm h 2 ((w + 1) / 2) in
       let r = W .words-room in
-      record { wide = W .wide; narrow = W .narrow; low = W .low; dots = W .dots; whole = W .whole; room = omega arith }
+      let b = runs-low w m (w * h) in
+      (record { wide = W .wide; narrow = W .narrow; low = W .low; dots = W .dots; whole = W .whole; room = omega arith }, omega arith)
 
-  module _ {s₁ : List ℕ} {c : ℕ} (E : Extracted w h m s₀ s₁ c) where
+  module _ {s₁ : List ℕ} {c : ℕ} (K : LinkedRuns w h m s₀ s₁ c) where
+    E : Extracted w h m s₀ s₁ c
+    E = K .runs
+
+    abbrev t : List ℕ
+    t = take (2 * c) s₁
+
+    abbrev rep : ℕ → ℕ
+    rep = firstRun w c (take (2 * c) s₁)
+
     all-runs : Runs w m (w * h) c (startOf (take (2 * c) s₁)) (endOf (take (2 * c) s₁) 0) (runOf w m)
     all-runs =
         subst (λ z. Runs w m (w * h) z (startOf (take (2 * c) s₁)) (endOf (take (2 * c) s₁) 0) (runOf w m)) (sym (E .count))
         (subst (λ t. Runs w m (w * h) (runCount w m (w * h)) (startOf t) (endOf t 0) (runOf w m)) (sym (E .runs)) (turns-runs w h m (W .wide)))
 
-    few-runs : c ≤ w * h
-    few-runs =
-        let f = half-fits w h (W .wide) in
-        let t = turns-even w h m (W .wide) in
-        let g = turns-fit w m (W .wide) h in
-        let e = ap (λ z. length (turns w m z)) (mul-comm h w) in
+    run-list : RunList w c s₁
+    run-list =
+        let b = runs-low w m (w * h) in
         let n = E .count in
-        omega arith
-
-    pub stage-list : RunList w c s₁
-    stage-list =
-        let f = few-runs in
         let d = W .dots in
         let r = W .words-room in
         let l = E .len in
         record { wide = W .wide; narrow = W .narrow; few = omega arith; room = omega arith; order = record { some = all-runs .some; rising = all-runs .rising } }
 
-    pub stage-inside : (k : ℕ) → k < c → startOf s₁ k < h * w
-    stage-inside k l =
-        let a = all-runs .some k l in
-        let b = all-runs .within k l in
-        let e = getD-take (2 * c) s₁ (2 * k) 0 (omega arith) in
-        let q = mul-comm w h in
-        omega arith
+    -- the parents lie within the words
+    pub stage-room : (c ≤ maxMaskDots) × (2 * c ≤ length s₁)
+    stage-room = let f = run-list .few in let r = run-list .room in (f, omega arith)
 
-    module _ {s₂ : List ℕ} (K : AllLinked w c s₁ s₂) where
-      abbrev t : List ℕ
-      t = take (2 * c) s₁
+    tail-long : c ≤ length (drop (2 * c) s₁)
+    tail-long = simp length-drop (let r = run-list .room in omega arith)
 
-      abbrev rep : ℕ → ℕ
-      rep = firstRun w c (take (2 * c) s₁)
+    pub stage-number : (c ≤ length (take (length s₁ - 2 * c) (drop (2 * c) s₁))) × (P ≤ 65535) × ((j : ℕ) → j < c → getD (take (length s₁ - 2 * c) (drop (2 * c) s₁)) j 0 ≤ j)
+    stage-number = rw (tail-part (2 * c) s₁) (tail-long, W .few, K .forest .down)
 
-      -- the parents lie within the words
-      pub stage-room : (c ≤ maxMaskDots) × (2 * c ≤ length s₂)
-      stage-room = let f = stage-list .few in let r = stage-list .room in let l = K .kept .len in (f, omega arith)
+    module _ {p : List ℕ} {count : ℕ} (N₀ : Numbered c P (take (length s₁ - 2 * c) (drop (2 * c) s₁)) p count) where
+      N : Numbered c P (drop (2 * c) s₁) p count
+      N = subst (λ z. Numbered c P z p count) (tail-part (2 * c) s₁) N₀
 
-      tail-long : c ≤ length (drop (2 * c) s₂)
-      tail-long = simp length-drop (let r = stage-list .room in let l = K .kept .len in omega arith)
+      pub stage-length : length (putMid (2 * c) (length s₁ - 2 * c) s₁ p) ≡ length s₀
+      stage-length =
+          let a : length (take (2 * c) s₁) ≡ 2 * c = length-take-le (2 * c) s₁ (stage-room .1) in
+          let b = length-drop (2 * c) s₁ in
+          let r = stage-room .1 in
+          let e = N .len in
+          let g = E .len in
+          ap length (tail-put (2 * c) s₁ p) ∙ (length-append (take (2 * c) s₁) p ∙ (let z : length (take (2 * c) s₁) + length p ≡ length s₀ = omega arith in z))
 
-      pub stage-number : (c ≤ length (take (length s₂ - 2 * c) (drop (2 * c) s₂))) × (P ≤ 65535) × ((j : ℕ) → j < c → getD (take (length s₂ - 2 * c) (drop (2 * c) s₂)) j 0 ≤ j)
-      stage-number = rw (tail-part (2 * c) s₂) (tail-long, W .few, K .forest .down)
+      lab : labelling w h m ≡ record { labels = table (runLabel w m rep) (w * h); components = table (λ q. componentRuns w (startOf t) (endOf t 0) rep (suc q) c) (countIf (isRoot rep) c) }
+      lab = labelling-by-words w h m (W .wide) t c (E .runs) (E .count)
 
-      module _ {p : List ℕ} {count : ℕ} (N₀ : Numbered c P (take (length s₂ - 2 * c) (drop (2 * c) s₂)) p count) where
-        N : Numbered c P (drop (2 * c) s₂) p count
-        N = subst (λ z. Numbered c P z p count) (tail-part (2 * c) s₂) N₀
+      lab-count : length (labelling w h m .components) ≡ countIf (isRoot rep) c
+      lab-count = ap (λ z. length (z .components)) lab ∙ length-table (λ q. componentRuns w (startOf t) (endOf t 0) rep (suc q) c) (countIf (isRoot rep) c)
 
-        pub stage-length : length (putMid (2 * c) (length s₂ - 2 * c) s₂ p) ≡ length s₀
-        stage-length =
-            let a : length (take (2 * c) s₂) ≡ 2 * c = length-take-le (2 * c) s₂ (stage-room .1) in
-            let b = length-drop (2 * c) s₂ in
-            let r = stage-room .1 in
-            let e = N .len in
-            let f = K .kept .len in
-            let g = E .len in
-            ap length (tail-put (2 * c) s₂ p) ∙ (length-append (take (2 * c) s₂) p ∙ (let z : length (take (2 * c) s₂) + length p ≡ length s₀ = omega arith in z))
+      count-is : count ≡ min (length (labelling w h m .components)) (P + 1)
+      count-is = N .count rep (first-low w c t) (K .forest) ∙ ap (λ z. min z (P + 1)) (sym lab-count)
 
-        lab : labelling w h m ≡ record { labels = table (runLabel w m rep) (w * h); components = table (λ q. componentRuns w (startOf t) (endOf t 0) rep (suc q) c) (countIf (isRoot rep) c) }
-        lab = labelling-by-words w h m (W .wide) t c (E .runs) (E .count)
+      pub stage-many : P < count → worked (Refused 20) labels comps w h m P labels comps
+      unfolding refuseIf answerOf labelsLeft componentsLeft
+      stage-many l = let e = count-is in rw (lt-ltb P (length (labelling w h m .components)) (omega arith)) (record { answer = refl; labelled = refl; recorded = refl })
 
-        lab-count : length (labelling w h m .components) ≡ countIf (isRoot rep) c
-        lab-count = ap (λ z. length (z .components)) lab ∙ length-table (λ q. componentRuns w (startOf t) (endOf t 0) rep (suc q) c) (countIf (isRoot rep) c)
+      module _ (fits : count ≤ P) where
+        front-long : length (take (2 * c) s₁) ≡ 2 * c
+        front-long = length-take-le (2 * c) s₁ (let r = run-list .room in omega arith)
 
-        count-is : count ≡ min (length (labelling w h m .components)) (P + 1)
-        count-is = N .count rep (first-low w c t) (K .forest) ∙ ap (λ z. min z (P + 1)) (sym lab-count)
+        put-is : putMid (2 * c) (length s₁ - 2 * c) s₁ p ≡ take (2 * c) s₁ ++ p
+        put-is = tail-put (2 * c) s₁ p
 
-        pub stage-many : P < count → worked (Refused 20) labels comps w h m P labels comps
+        runs-kept : take (2 * c) (take (2 * c) s₁ ++ p) ≡ take (2 * c) s₁
+        runs-kept = take-at (take (2 * c) s₁) p (2 * c) front-long
+
+        numbers : (k : ℕ) → k < c → getD (take (2 * c) s₁ ++ p) (2 * c + k) 0 ≡ componentNumber rep k
+        numbers k l =
+            ap (λ z. getD (take (2 * c) s₁ ++ p) (z + k) 0) (sym front-long)
+            ∙ (getD-append-add (take (2 * c) s₁) p k 0 ∙ N .numbers rep (first-low w c t) (K .forest) fits k l)
+
+        put-long : 3 * c ≤ length (take (2 * c) s₁ ++ p)
+        put-long = simp length-append (let a = front-long in let b = tail-long in let e = N .len in omega arith)
+
+        pub stage-paint : Paintable (putMid (2 * c) (length s₁ - 2 * c) s₁ p) c labels (w * h)
+        stage-paint =
+            rw put-is
+            (record {
+              room = put-long;
+              dots = W .dots;
+              labels = W .labels-room;
+              order = rw runs-kept (run-list .order);
+              within = rw runs-kept (all-runs .within);
+            })
+
+        counted : countIf (isRoot rep) c * 9 ≤ length comps
+        counted = let e = count-is in let f = lab-count in let r = W .records-room in omega arith
+
+        pub stage-tally : Tallyable w c (putMid (2 * c) (length s₁ - 2 * c) s₁ p) comps
+        stage-tally =
+            rw put-is
+            (record {
+              list = record { wide = W .wide; narrow = W .narrow; few = run-list .few; room = put-long; order = rw runs-kept (run-list .order) };
+              within = rw runs-kept (λ k l. le-trans (all-runs .within k l) (W .dots));
+              row = rw runs-kept (all-runs .row);
+              numbers = rw runs-kept numbers;
+              room = rw runs-kept counted;
+            })
+
+        painted-is : {labels' : List ℕ} → Painted (putMid (2 * c) (length s₁ - 2 * c) s₁ p) c labels labels' (w * h) → labels' ≡ over (labelling w h m .labels) labels
+        painted-is X =
+            let Y = rw put-is at X in
+            Y .painted (runLabel w m rep)
+            (rw runs-kept (λ k i l a b. paint-run w m (W .wide) (w * h) c (startOf t) (endOf t 0) all-runs rep k i l a b ∙ sym (numbers k l)))
+            (rw runs-kept (paint-gap w m (W .wide) (w * h) c (startOf t) (endOf t 0) all-runs rep))
+            ∙ (ap (λ z. table (runLabel w m rep) (w * h) ++ drop z labels) (sym (length-table (runLabel w m rep) (w * h))) ∙ ap (λ z. over (z .labels) labels) (sym lab))
+
+        recorded-is : {comps' : List ℕ} → comps' ≡ over (records w c (putMid (2 * c) (length s₁ - 2 * c) s₁ p) c) comps → comps' ≡ over (encoded recordWords (labelling w h m .components)) comps
+        recorded-is e =
+            e ∙ (ap (λ z. over (records w c z c) comps) put-is
+            ∙ (ap (λ z. over (encoded recordWords (table (λ q. componentRuns w (startOf z) (endOf z 0) (firstRun w c z) (suc q) c) (countIf (isRoot (firstRun w c z)) c))) comps) runs-kept
+            ∙ ap (λ z. over (encoded recordWords (z .components)) comps) (sym lab)))
+
+        pub stage-done : {labels' comps' : List ℕ} → Painted (putMid (2 * c) (length s₁ - 2 * c) s₁ p) c labels labels' (w * h)
+            → comps' ≡ over (records w c (putMid (2 * c) (length s₁ - 2 * c) s₁ p) c) comps
+            → worked (Labelled count) labels' comps' w h m P labels comps
         unfolding refuseIf answerOf labelsLeft componentsLeft
-        stage-many l = let e = count-is in rw (lt-ltb P (length (labelling w h m .components)) (omega arith)) (record { answer = refl; labelled = refl; recorded = refl })
-
-        module _ (fits : count ≤ P) where
-          front-long : length (take (2 * c) s₂) ≡ 2 * c
-          front-long = length-take-le (2 * c) s₂ (let r = stage-list .room in let l = K .kept .len in omega arith)
-
-          put-is : putMid (2 * c) (length s₂ - 2 * c) s₂ p ≡ take (2 * c) s₂ ++ p
-          put-is = tail-put (2 * c) s₂ p
-
-          runs-kept : take (2 * c) (take (2 * c) s₂ ++ p) ≡ take (2 * c) s₁
-          runs-kept = take-at (take (2 * c) s₂) p (2 * c) front-long ∙ K .kept .runs
-
-          numbers : (k : ℕ) → k < c → getD (take (2 * c) s₂ ++ p) (2 * c + k) 0 ≡ componentNumber rep k
-          numbers k l =
-              ap (λ z. getD (take (2 * c) s₂ ++ p) (z + k) 0) (sym front-long)
-              ∙ (getD-append-add (take (2 * c) s₂) p k 0 ∙ N .numbers rep (first-low w c t) (K .forest) fits k l)
-
-          put-long : 3 * c ≤ length (take (2 * c) s₂ ++ p)
-          put-long = simp length-append (let a = front-long in let b = tail-long in let e = N .len in omega arith)
-
-          pub stage-paint : Paintable (putMid (2 * c) (length s₂ - 2 * c) s₂ p) c labels (w * h)
-          stage-paint =
-              rw put-is
-              (record {
-                room = put-long;
-                dots = W .dots;
-                labels = W .labels-room;
-                order = rw runs-kept (stage-list .order);
-                within = rw runs-kept (all-runs .within);
-              })
-
-          counted : countIf (isRoot rep) c * 9 ≤ length comps
-          counted = let e = count-is in let f = lab-count in let r = W .records-room in omega arith
-
-          pub stage-tally : Tallyable w c (putMid (2 * c) (length s₂ - 2 * c) s₂ p) comps
-          stage-tally =
-              rw put-is
-              (record {
-                list = record { wide = W .wide; narrow = W .narrow; few = stage-list .few; room = put-long; order = rw runs-kept (stage-list .order) };
-                within = rw runs-kept (λ k l. le-trans (all-runs .within k l) (W .dots));
-                row = rw runs-kept (all-runs .row);
-                numbers = rw runs-kept numbers;
-                room = rw runs-kept counted;
-              })
-
-          painted-is : {labels' : List ℕ} → Painted (putMid (2 * c) (length s₂ - 2 * c) s₂ p) c labels labels' (w * h) → labels' ≡ over (labelling w h m .labels) labels
-          painted-is X =
-              let Y = rw put-is at X in
-              Y .painted (runLabel w m rep)
-              (rw runs-kept (λ k i l a b. paint-run w m (W .wide) (w * h) c (startOf t) (endOf t 0) all-runs rep k i l a b ∙ sym (numbers k l)))
-              (rw runs-kept (paint-gap w m (W .wide) (w * h) c (startOf t) (endOf t 0) all-runs rep))
-              ∙ (ap (λ z. table (runLabel w m rep) (w * h) ++ drop z labels) (sym (length-table (runLabel w m rep) (w * h))) ∙ ap (λ z. over (z .labels) labels) (sym lab))
-
-          recorded-is : {comps' : List ℕ} → comps' ≡ over (records w c (putMid (2 * c) (length s₂ - 2 * c) s₂ p) c) comps → comps' ≡ over (encoded recordWords (labelling w h m .components)) comps
-          recorded-is e =
-              e ∙ (ap (λ z. over (records w c z c) comps) put-is
-              ∙ (ap (λ z. over (encoded recordWords (table (λ q. componentRuns w (startOf z) (endOf z 0) (firstRun w c z) (suc q) c) (countIf (isRoot (firstRun w c z)) c))) comps) runs-kept
-              ∙ ap (λ z. over (encoded recordWords (z .components)) comps) (sym lab)))
-
-          pub stage-done : {labels' comps' : List ℕ} → Painted (putMid (2 * c) (length s₂ - 2 * c) s₂ p) c labels labels' (w * h)
-              → comps' ≡ over (records w c (putMid (2 * c) (length s₂ - 2 * c) s₂ p) c) comps
-              → worked (Labelled count) labels' comps' w h m P labels comps
-          unfolding refuseIf answerOf labelsLeft componentsLeft
-          stage-done X e =
-              let q = count-is in
-              rw (le-ltb P (length (labelling w h m .components)) (omega arith))
-              (record { answer = ap Labelled (let x : count ≡ length (labelling w h m .components) = omega arith in x); labelled = painted-is X; recorded = recorded-is e })
+        stage-done X e =
+            let q = count-is in
+            rw (le-ltb P (length (labelling w h m .components)) (omega arith))
+            (record { answer = ap Labelled (let x : count ≡ length (labelling w h m .components) = omega arith in x); labelled = painted-is X; recorded = recorded-is e })

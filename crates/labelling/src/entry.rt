@@ -4,10 +4,9 @@ ghost use Prim.Native.Nat.{_*_, _≤_};
 ghost use lib.ListN.{length, drop};
 ghost use Rattle.memory.specs.Limits.{maxMaskDots, scratchWords};
 ghost use Rattle.labelling.specs.Answer.{sideRefusal, lentRefusal, Workable, worked, left, labelled};
-use crate::link::link_runs;
+use crate::linked::extract_linked;
 use crate::number::number_runs;
 use crate::paint::paint_runs;
-use crate::runs::extract_runs;
 use crate::words::wide;
 use memory::refuse_if;
 
@@ -102,7 +101,7 @@ fn judge_lent(
     refuse_if(mask != dots, 2, by_capacity)
 }
 
-// The stages: runs, their parents, their numbers; then, unless there are too many components, labels and records.
+// The stages: runs with their parents, their numbers; then, unless there are too many components, labels and records.
 fn label_runs(
     mask: &[u8],
     w: usize,
@@ -115,8 +114,7 @@ fn label_runs(
     requires { ⌜ Workable w h (now mask) capacity (now labels) (now components) (now words) ⌝ }
     ensures { λ r. ⌜ worked r (now (labels .exit)) (now (components .exit)) w h (now (mask .entry)) capacity (now (labels .entry)) (now (components .entry)) ⌝ }
 {
-    let runs = extract_runs(mask, w, h, words);
-    link_runs(words, runs, w, h);
+    let runs = extract_linked(mask, w, h, words);
     let parents = 2 * runs;
     let count = number_runs(&mut words[parents..], runs, capacity);
     if capacity < count {
