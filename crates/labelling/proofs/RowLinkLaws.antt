@@ -1,19 +1,16 @@
 -- Runs written and linked row by row: the runs of one row more are known, and those known before stay linked.
 use mathlib.Core.Path.{_≡_, refl, sym, ap, _∙_, subst}
 use mathlib.Core.List.{List, _++_}
-use mathlib.Core.Bool.{Bool}
-use Prim.Native.Nat.{ℕ, zero, suc, _+_, _-_, _*_, _/_, _%_, _≤_, _<_}
-use native.Mathlib.Nat.{le-refl, le-trans, not-suc-le-zero, mul-comm, mul-mod-left, mul-le-mul-right}
-use native.Mathlib.Numerals.{add-one}
-use native.Mathlib.Decide.{ℕ-discrete, decLt}
+use Prim.Native.Nat.{ℕ, zero, suc, _+_, _-_, _*_, _/_, _≤_, _<_}
+use native.Mathlib.Nat.{le-refl, not-suc-le-zero, mul-comm, mul-mod-left, mul-le-mul-right}
+use native.Mathlib.Decide.{decLt}
 use native.Mathlib.Omega.{arith}
 use lib.ListN.{getD, length, set, take, drop, length-set, length-map, List·getD-append}
 use lib.Seq.{getD-take, getD-drop, getD-set-same, getD-set-other, getD-append-add, length-take-le, take-set-le}
-use Rattle.memory.specs.Limits.{maxMaskSide}
 use Rattle.labelling.specs.Forests.{Forest}
 use Rattle.labelling.specs.InkRuns.{turns, opensRun, runCount, runOf, startOf, endOf, Runs, touchRuns}
 use Rattle.labelling.specs.Extraction.{rowTurns, RowExtracted, PlaneRoom, Extracted}
-use Rattle.labelling.specs.Linking.{touching, firstRun, Order, KnownRuns, Kept, Linked, RowAhead, RowLinked, LinkedRuns}
+use Rattle.labelling.specs.Linking.{touching, firstRun, Linked, RowAhead, RowLinked, LinkedRuns}
 use Rattle.labelling.proofs.CountLaws.{count-up}
 use Rattle.labelling.proofs.FirstLaws.{getD-map}
 use Rattle.labelling.proofs.LinkLaws.{seen-wider}

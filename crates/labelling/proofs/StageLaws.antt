@@ -7,7 +7,7 @@ use native.Mathlib.Omega.{arith}
 use borrow.Author.Tests.{lt-ltb, le-ltb}
 use borrow.Rule.Slice.PartMut.{putMid}
 use lib.ListN.{getD, length, take, drop, length-append, length-drop}
-use lib.Seq.{getD-take, length-take-le, take-at, getD-append-add}
+use lib.Seq.{length-take-le, take-at, getD-append-add}
 use Rattle.memory.specs.Lists.{table, countIf}
 use Rattle.memory.specs.Words.{over}
 use Rattle.memory.specs.Records.{encoded}

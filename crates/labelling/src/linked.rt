@@ -1,5 +1,4 @@
 // Runs and their parents together, row by row: a row's runs are linked while they, and those of the row above, are still near at hand.
-ghost use mathlib.Core.Path.{_≡_};
 ghost use Prim.Native.Nat.{_*_, _≤_};
 ghost use lib.ListN.{length};
 ghost use Rattle.labelling.specs.InkRuns.{runCount};
@@ -9,8 +8,8 @@ use crate::count::count_runs;
 use crate::link::link_row;
 use crate::runs::extract_row;
 
-// Writes the runs of a mask, w wide and h high, to the words, their parents behind them, and answers how many runs there are. Where a row
-// is extracted one word more than its turns may be written. It may be the parent of the first run, which is the run itself.
+// Writes the runs of a mask, w wide and h high, to the words and their parents behind them, and answers how many runs there are. Extracting
+// a row may write the word after its turns too. Behind the last run that is the parent of the first, which is always 0 and is put back.
 pub fn extract_linked(mask: &[u8], w: usize, h: usize, words: &mut [u32]) -> usize
     requires { ⌜ PlaneRoom w h (now mask) (now words) × (3 * runCount w (now mask) (w * h) ≤ length (now words)) ⌝ }
     ensures { λ r. ⌜ LinkedRuns w h (now (mask .entry)) (now (words .entry)) (now (words .exit)) r ⌝ }

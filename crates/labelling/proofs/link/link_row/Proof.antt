@@ -1,6 +1,6 @@
 use borrow.Author.Needs.{needs}
 use native.Mathlib.Omega.{arith}
-use Prim.Native.Nat.{_-_, _*_}
+use Prim.Native.Nat.{_-_}
 use Rattle.labelling.proofs.RunLinkLaws.{RowWalk, walk-none, walk-room, walk-start, walk-linkable, walk-more, walk-done}
 use Rattle.labelling.proofs.link.link_row.Statement.{statement}
 use Rattle.labelling.proofs.link.link_row.Tie as tie

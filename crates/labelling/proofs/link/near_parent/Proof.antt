@@ -1,6 +1,4 @@
 use borrow.Author.Needs.{needs}
-use native.Mathlib.Omega.{arith}
-use Prim.Native.Nat.{_+_, _*_}
 use Rattle.labelling.proofs.RunLinkLaws.{kin-parent, kin-self}
 use Rattle.labelling.proofs.link.near_parent.Statement.{statement}
 use Rattle.labelling.proofs.link.near_parent.Tie as tie
