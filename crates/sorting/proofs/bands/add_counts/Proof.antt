@@ -28,7 +28,7 @@ mul-count-through : tie.Need-mul-count-through Inv-loop μ-loop
 mul-count-through c = omega arith
 
 slice-read-count-through : tie.Need-slice-read-count-through Inv-loop μ-loop
-slice-read-count-through c = let l = c .before .before .before .loop in omega (arith, l .inv .1 .size)
+slice-read-count-through c = omega arith
 
 count-through-requires : tie.Need-count-through-requires Inv-loop μ-loop
 count-through-requires c κs =
@@ -46,7 +46,7 @@ mul-extents : tie.Need-mul-extents Inv-loop μ-loop
 mul-extents c = omega arith
 
 slice-write-extents : tie.Need-slice-write-extents Inv-loop μ-loop
-slice-write-extents c = let l = c .before .before .before .before .loop in omega (arith, l .inv .1 .size)
+slice-write-extents c = omega arith
 
 add-i : tie.Need-add-i Inv-loop μ-loop
 add-i c = omega arith

@@ -23,10 +23,7 @@ sub-start : tie.Need-sub-start Inv-loop μ-loop
 sub-start c = omega arith
 
 mul-start : tie.Need-mul-start Inv-loop μ-loop
-mul-start c =
-    let p = c .before .before .before .before .before .before .before .before .pre in
-    let l = c .before .loop in
-    omega (arith, l .inv .0, p .low)
+mul-start c = omega arith
 
 count-band-requires : tie.Need-count-band-requires Inv-loop μ-loop
 count-band-requires c κs =
@@ -43,7 +40,7 @@ take-band-requires c κs =
     (band-takes (plane-kept p (n .size)) (l .inv .1) (l .inv .0) ((l .end - 1) / 32 * 32) (omega arith) (omega arith) (c .before .before .before .count-band .ensures), omega arith)
 
 loop-less : tie.Need-loop-less Inv-loop μ-loop
-loop-less c = omega (arith, c .before .before .before .before .before .before .before .before .loop-test .taken)
+loop-less c = omega arith
 
 loop-again : tie.Need-loop-again Inv-loop μ-loop
 loop-again c =

@@ -27,9 +27,7 @@ count-last-row-requires c κs =
     bands-counts p (l .inv .2) (l .inv .1) (omega arith)
 
 add-y : tie.Need-add-y Inv-loop μ-loop
-add-y c =
-    let p = c .before .before .before .before .before .before .before .before .pre in
-    omega (arith, p .low)
+add-y c = omega arith
 
 loop-less : tie.Need-loop-less Inv-loop μ-loop
 loop-less c = omega arith

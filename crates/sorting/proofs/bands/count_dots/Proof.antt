@@ -22,23 +22,16 @@ loop-holds c =
     (le-refl _, p .0 .order, put-none (a .from) (a .extents .now))
 
 shared-slice-read-count-on : tie.Need-shared-slice-read-count-on Inv-loop μ-loop
-shared-slice-read-count-on c =
-    let p = c .before .before .before .before .before .pre in
-    omega (arith, p .0 .inside)
+shared-slice-read-count-on c = omega arith
 
 sub-count-on : tie.Need-sub-count-on Inv-loop μ-loop
-sub-count-on c = let p = c .before .before .before .before .before .pre in omega (arith, p .1)
+sub-count-on c = omega arith
 
 mul-count-on : tie.Need-mul-count-on Inv-loop μ-loop
-mul-count-on c =
-    let p = c .before .before .before .before .before .pre in
-    omega (arith, p .0 .inside, p .0 .room)
+mul-count-on c = omega arith
 
 slice-read-count-on : tie.Need-slice-read-count-on Inv-loop μ-loop
-slice-read-count-on c =
-    let p = c .before .before .before .before .before .before .pre in
-    let l = c .before .before .before .loop in
-    omega (arith, p .0 .inside, p .0 .room, l .inv .2 .size)
+slice-read-count-on c = omega arith
 
 count-on-requires : tie.Need-count-on-requires Inv-loop μ-loop
 count-on-requires c κs =
@@ -48,15 +41,10 @@ count-on-requires c κs =
     above-le (counts-next (a .to) (p .0) (l .inv .2) (l .inv .0) (l .inv .1) (le-refl _)) (omega (arith, p .1))
 
 mul-extents : tie.Need-mul-extents Inv-loop μ-loop
-mul-extents c =
-    let p = c .before .before .before .before .before .before .before .pre in
-    omega (arith, p .0 .inside, p .0 .room)
+mul-extents c = omega arith
 
 slice-write-extents : tie.Need-slice-write-extents Inv-loop μ-loop
-slice-write-extents c =
-    let p = c .before .before .before .before .before .before .before .pre in
-    let l = c .before .before .before .before .loop in
-    omega (arith, p .0 .inside, p .0 .room, l .inv .2 .size)
+slice-write-extents c = omega arith
 
 add-i : tie.Need-add-i Inv-loop μ-loop
 add-i c = omega arith

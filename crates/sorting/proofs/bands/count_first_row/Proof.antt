@@ -27,7 +27,7 @@ mul-extents : tie.Need-mul-extents Inv-loop μ-loop
 mul-extents c = omega arith
 
 slice-write-extents : tie.Need-slice-write-extents Inv-loop μ-loop
-slice-write-extents c = let l = c .before .before .before .loop in omega (arith, l .inv .1 .size)
+slice-write-extents c = omega arith
 
 add-i : tie.Need-add-i Inv-loop μ-loop
 add-i c = omega arith

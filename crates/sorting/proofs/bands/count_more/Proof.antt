@@ -28,7 +28,7 @@ cast-ink : tie.Need-cast-ink Inv-loop μ-loop
 cast-ink c = search needs
 
 slice-read-counts : tie.Need-slice-read-counts Inv-loop μ-loop
-slice-read-counts c = let l = c .before .before .before .loop in let z = l .inv .1 .size in omega arith
+slice-read-counts c = omega arith
 
 add-counts : tie.Need-add-counts Inv-loop μ-loop
 add-counts c =
@@ -46,7 +46,7 @@ mul-counts c =
     record { fits = let z = l .inv .1 .upper (l .i) (omega arith) in let y = p .1 (l .i) (omega arith) in let x = bit-times-le (ltb 0 (getD (a .dots .now) (l .i) 0)) (getD (l .counts) (l .i) 0 + 1) in omega arith }
 
 slice-write-counts : tie.Need-slice-write-counts Inv-loop μ-loop
-slice-write-counts c = let l = c .before .before .before .loop in let z = l .inv .1 .size in omega arith
+slice-write-counts c = omega arith
 
 add-i : tie.Need-add-i Inv-loop μ-loop
 add-i c = omega arith

@@ -31,10 +31,10 @@ returns c =
     put-ends (c .before .before .count-first-row .ensures) (sym e) (omega (arith, e))
 
 mul-at : tie.Need-mul-at Inv-loop μ-loop
-mul-at c = let p = c .before .before .before .pre in omega (arith, p .inside)
+mul-at c = omega arith
 
 add-end : tie.Need-add-end Inv-loop μ-loop
-add-end c = let p = c .before .before .before .pre in omega (arith, p .inside)
+add-end c = omega arith
 
 loop-holds : tie.Need-loop-holds Inv-loop μ-loop
 loop-holds c =
@@ -53,9 +53,7 @@ count-piece-requires c κs =
     (counts-next (l .i + 64) p (l .inv .2) (l .inv .0) (omega arith) (omega arith), omega arith)
 
 add-i : tie.Need-add-i Inv-loop μ-loop
-add-i c =
-    let p = c .before .before .before .before .before .before .before .before .before .pre in
-    omega (arith, p .inside)
+add-i c = omega arith
 
 loop-less : tie.Need-loop-less Inv-loop μ-loop
 loop-less c = omega arith

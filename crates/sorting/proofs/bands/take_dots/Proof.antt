@@ -25,52 +25,28 @@ sub-i : tie.Need-sub-i Inv-loop μ-loop
 sub-i c = omega arith
 
 shared-slice-read-take-on : tie.Need-shared-slice-read-take-on Inv-loop μ-loop
-shared-slice-read-take-on c =
-    let p = c .before .before .before .before .before .pre in
-    let l = c .before .before .loop in
-    omega (arith, p .0 .inside, p .0 .room, p .0 .few, p .0 .size, p .0 .wide, p .1, l .inv .2 .size)
+shared-slice-read-take-on c = omega arith
 
 add-take-on : tie.Need-add-take-on Inv-loop μ-loop
-add-take-on c =
-    let p = c .before .before .before .before .before .pre in
-    let l = c .before .before .loop in
-    omega (arith, p .0 .inside, p .0 .room, p .0 .few, p .0 .size, p .0 .wide, p .1, l .inv .2 .size)
+add-take-on c = omega arith
 
 shared-slice-read-take-on-2 : tie.Need-shared-slice-read-take-on-2 Inv-loop μ-loop
-shared-slice-read-take-on-2 c =
-    let p = c .before .before .before .before .before .before .pre in
-    let l = c .before .before .before .loop in
-    omega (arith, p .0 .inside, p .0 .room, p .0 .few, p .0 .size, p .0 .wide, p .1, l .inv .2 .size)
+shared-slice-read-take-on-2 c = omega arith
 
 mul-take-on : tie.Need-mul-take-on Inv-loop μ-loop
-mul-take-on c =
-    let p = c .before .before .before .before .before .before .pre in
-    let l = c .before .before .before .loop in
-    omega (arith, p .0 .inside, p .0 .room, p .0 .few, p .0 .size, p .0 .wide, p .1, l .inv .2 .size)
+mul-take-on c = omega arith
 
 slice-read-take-on : tie.Need-slice-read-take-on Inv-loop μ-loop
-slice-read-take-on c =
-    let p = c .before .before .before .before .before .before .before .pre in
-    let l = c .before .before .before .before .loop in
-    omega (arith, p .0 .inside, p .0 .room, p .0 .few, p .0 .size, p .0 .wide, p .1, l .inv .2 .size)
+slice-read-take-on c = omega arith
 
 add-take-on-2 : tie.Need-add-take-on-2 Inv-loop μ-loop
-add-take-on-2 c =
-    let p = c .before .before .before .before .before .before .before .pre in
-    let l = c .before .before .before .before .loop in
-    omega (arith, p .0 .inside, p .0 .room, p .0 .few, p .0 .size, p .0 .wide, p .1, l .inv .2 .size)
+add-take-on-2 c = omega arith
 
 mul-take-on-2 : tie.Need-mul-take-on-2 Inv-loop μ-loop
-mul-take-on-2 c =
-    let p = c .before .before .before .before .before .before .before .pre in
-    let l = c .before .before .before .before .loop in
-    omega (arith, p .0 .inside, p .0 .room, p .0 .few, p .0 .size, p .0 .wide, p .1, l .inv .2 .size)
+mul-take-on-2 c = omega arith
 
 slice-read-take-on-2 : tie.Need-slice-read-take-on-2 Inv-loop μ-loop
-slice-read-take-on-2 c =
-    let p = c .before .before .before .before .before .before .before .before .pre in
-    let l = c .before .before .before .before .before .loop in
-    omega (arith, p .0 .inside, p .0 .room, p .0 .few, p .0 .size, p .0 .wide, p .1, l .inv .2 .size)
+slice-read-take-on-2 c = omega arith
 
 take-on-requires : tie.Need-take-on-requires Inv-loop μ-loop
 take-on-requires c κs =
@@ -80,16 +56,10 @@ take-on-requires c κs =
     take-bounds (takes-next (p .0) (a .from) (l .inv .2) (le-refl _) (l .inv .0) (l .inv .1)) (omega arith) (omega (arith, p .1))
 
 mul-extents : tie.Need-mul-extents Inv-loop μ-loop
-mul-extents c =
-    let p = c .before .before .before .before .before .before .before .before .before .pre in
-    let l = c .before .before .before .before .before .before .loop in
-    omega (arith, p .0 .inside, p .0 .room, p .0 .few, p .0 .size, p .0 .wide, p .1, l .inv .2 .size)
+mul-extents c = omega arith
 
 slice-write-extents : tie.Need-slice-write-extents Inv-loop μ-loop
-slice-write-extents c =
-    let p = c .before .before .before .before .before .before .before .before .before .pre in
-    let l = c .before .before .before .before .before .before .loop in
-    omega (arith, p .0 .inside, p .0 .room, p .0 .few, p .0 .size, p .0 .wide, p .1, l .inv .2 .size)
+slice-write-extents c = omega arith
 
 loop-less : tie.Need-loop-less Inv-loop μ-loop
 loop-less c = omega arith

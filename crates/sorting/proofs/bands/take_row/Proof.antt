@@ -29,10 +29,10 @@ returns c =
     take-last p (last-row-ends (a .w) (a .h) (a .y) (c .if1 .taken))
 
 mul-at : tie.Need-mul-at Inv-loop μ-loop
-mul-at c = let p = c .before .before .before .pre in omega (arith, p .inside, p .few)
+mul-at c = omega arith
 
 add-to : tie.Need-add-to Inv-loop μ-loop
-add-to c = let p = c .before .before .before .pre in omega (arith, p .inside, p .few)
+add-to c = omega arith
 
 loop-holds : tie.Need-loop-holds Inv-loop μ-loop
 loop-holds c =
