@@ -23,7 +23,7 @@ use Rattle.labelling.proofs.RunLabelLaws.{inkBefore-row, turns-even}
 -- Within a row
 
 -- no dot up to w ends a row that is wider by one
-inner-wider : (w x : ℕ) → x < w → suc x % suc w ≡ 0 → ⊥
+pub inner-wider : (w x : ℕ) → x < w → suc x % suc w ≡ 0 → ⊥
 inner-wider w x l e = let q : suc x % suc w ≡ suc x = mod-eq-of-lt (let h : suc x < suc w = omega arith in h) in omega arith
 
 -- no dot but the last ends a row
@@ -54,7 +54,7 @@ closed-turns (suc w) m l =
     ∙ (ap (appendIf (isInk m w) (suc w)) (sym (turns-inner (suc (suc w)) m w b)) ∙ ap (λ t. appendIf t (suc w) (turns (suc (suc w)) m (suc w))) (sym (inkBefore-inner (suc (suc w)) m w b)))))
 
 -- the turns from `base` on after those that stand
-append-map : (t : Bool) (base x : ℕ) (a l : List ℕ) → appendIf t (base + x) (a ++ map (λ i. base + i) l) ≡ a ++ map (λ i. base + i) (appendIf t x l)
+pub append-map : (t : Bool) (base x : ℕ) (a l : List ℕ) → appendIf t (base + x) (a ++ map (λ i. base + i) l) ≡ a ++ map (λ i. base + i) (appendIf t x l)
 unfolding appendIf
 append-map false base x a l = refl
 append-map true base x a l = append-assoc a (map (λ i. base + i) l) ((base + x) ∷ []) ∙ ap (λ z. a ++ z) (sym (map-snoc l))
@@ -63,7 +63,7 @@ append-map true base x a l = append-assoc a (map (λ i. base + i) l) ((base + x)
     map-snoc [] = refl
     map-snoc (y ∷ l) = ap (λ z. (base + y) ∷ z) (map-snoc l)
 
-length-appendIf : (t : Bool) (x : ℕ) (l : List ℕ) → length (appendIf t x l) ≡ length l + bit t
+pub length-appendIf : (t : Bool) (x : ℕ) (l : List ℕ) → length (appendIf t x l) ≡ length l + bit t
 unfolding appendIf
 length-appendIf true x l = length-append l (x ∷ [])
 length-appendIf false x l = let e : length l ≡ length l + 0 = omega arith in e
@@ -233,7 +233,7 @@ pub ink-of-part : (row : List ℕ) (x d i : ℕ) → i < d → isInk (take d (dr
 unfolding isInk
 ink-of-part row x d i h = ap (ltb 0) (getD-take d (drop x row) i 0 h ∙ getD-drop x row i 0)
 
-bit-small : (t : Bool) → bit t ≤ 1
+pub bit-small : (t : Bool) → bit t ≤ 1
 bit-small true = le-refl 1
 bit-small false = omega arith
 

@@ -36,6 +36,8 @@ pub mod ExtractLaws
 pub mod StartLaws
 -- turns written and runs linked, row by row
 pub mod RowLinkLaws
+-- turns told a block at a time, then written
+pub mod ToldLaws
 -- turns of the dots that pass a test, by ink and marks
 pub mod MarkedLaws
 -- nine words

@@ -1,11 +1,12 @@
 -- What run extraction asks and gives.
 use mathlib.Core.Path.{_≡_}
 use mathlib.Core.Bool.{cond}
-use mathlib.Core.List.{List, _++_, map}
-use Prim.Native.Nat.{ℕ, suc, _+_, _-_, _*_, _/_, _%_, _≤_, _<_}
-use lib.ListN.{length, take, drop}
+use mathlib.Core.List.{List, [], _++_, map}
+use Prim.Native.Nat.{ℕ, zero, suc, _+_, _-_, _*_, _/_, _%_, _≤_, _<_}
+use lib.ListN.{getD, length, take, drop}
 use Rattle.memory.specs.Limits.{maxMaskSide, maxMaskDots}
-use Rattle.labelling.specs.InkRuns.{inkBefore, turns, runCount}
+use Rattle.labelling.specs.Labels.{isInk}
+use Rattle.labelling.specs.InkRuns.{inkBefore, differ, appendIf, turns, runCount}
 
 -- the words that the turns of a row w wide may take
 abbrev pub rowWords : ℕ → ℕ
@@ -45,6 +46,29 @@ pub record Scanned (row : List ℕ) (from to base : ℕ) (s s' : List ℕ) (at r
   pub len : length s' ≡ length s
   pub short : r ≤ at + (to - from)
   pub read : (s₀ : List ℕ) (start : ℕ) → RowScan row base s₀ s start at (at % 2) from → RowScan row base s₀ s' start r (r % 2) to
+
+-- a byte for each of n dots, 1 where it differs from the dot before it; the first of the dots is the one before these
+pub record TurnsTold (dots told : List ℕ) (n : ℕ) : Type 0 where
+  pub tells : (i : ℕ) → i < n → getD told i 0 ≡ cond (differ (isInk dots i) (isInk dots (suc i))) 1 0
+
+-- which of the first n dots are told to be turns
+unfoldable pub toldTurns : List ℕ → ℕ → List ℕ
+toldTurns told zero = []
+toldTurns told (suc i) = appendIf (isInk told i) i (toldTurns told i)
+
+-- a byte, 0 or 1, for each of n dots, at most 32, and room for a turn at each
+pub record ToldRoom (told : List ℕ) (n start : ℕ) (s : List ℕ) (at : ℕ) : Type 0 where
+  pub few : n ≤ 32
+  pub bits : (i : ℕ) → i < n → getD told i 0 ≤ 1
+  pub dots : start + n ≤ maxMaskDots
+  pub room : at + n ≤ length s
+
+-- the told turns stand after what stood before `at`, up to r; what has no room for them is as it was
+pub record ToldWritten (told : List ℕ) (n start : ℕ) (s s' : List ℕ) (at r : ℕ) : Type 0 where
+  pub len : length s' ≡ length s
+  pub place : r ≡ at + length (toldTurns told n)
+  pub words : take r s' ≡ take at s ++ map (λ i. start + i) (toldTurns told n)
+  pub kept : drop (at + n) s' ≡ drop (at + n) s
 
 -- the row's turns stand after what stood before `at`, up to r; word r may have changed, and none after it
 pub record RowExtracted (row : List ℕ) (base : ℕ) (s s' : List ℕ) (at r : ℕ) : Type 0 where

@@ -1,12 +1,12 @@
 // Runs of ink, row by row: for each run the dot where it starts and the dot after its last, as two words; the end of a row ends a run.
 ghost use mathlib.Core.Path.{_≡_};
 ghost use mathlib.Core.Bool.{cond};
-ghost use Prim.Native.Nat.{_+_, _≤_};
+ghost use Prim.Native.Nat.{_+_, _≤_, min};
 ghost use lib.ListN.{length};
 ghost use lib.Dec.{eqb};
 ghost use Rattle.memory.specs.Lists.{countIf};
 ghost use Rattle.labelling.specs.Labels.{isInk};
-ghost use Rattle.labelling.specs.Extraction.{ScanRoom, Scanned, RowRoom, RowExtracted, PlaneRoom, Extracted};
+ghost use Rattle.labelling.specs.Extraction.{ScanRoom, Scanned, TurnsTold, ToldRoom, ToldWritten, RowRoom, RowExtracted, PlaneRoom, Extracted};
 
 // The dots of a block, which are counted at once.
 const BLOCK: usize = 32;
@@ -61,7 +61,51 @@ fn scan(row: &[u8], from: usize, to: usize, base: usize, words: &mut [u32], at: 
     k
 }
 
-// The same for a block of 32 dots, which has no turns where its dots are all as the one before.
+// The smaller of two numbers.
+pub fn smaller(a: usize, b: usize) -> usize
+    ensures { λ r. ⌜ r ≡ min a b ⌝ }
+{
+    if a < b { a } else { b }
+}
+
+// Tells for each of 32 dots whether it is a turn, by itself and the dot before it, the first of the 33. No dot waits for another, so
+// that many are told at a time.
+fn tell_turns(dots: &[u8], told: &mut [u8; BLOCK])
+    requires { ⌜ (length (now dots) ≡ 33) × (length (now told) ≡ 32) ⌝ }
+    ensures { λ _. ⌜ TurnsTold (now (dots .entry)) (now (told .exit)) 32 ⌝ }
+{
+    let mut i = 0;
+    while i < BLOCK {
+        told[i] = ((0 < dots[i]) != (0 < dots[i + 1])) as u8;
+        i += 1;
+    }
+}
+
+// Writes the turns told of n dots, the first of which is `start`, to the words from `at` on, and answers where they end. A word is
+// stored at every dot and counts only at a turn.
+pub fn write_turns(
+    told: &[u8; BLOCK],
+    n: usize,
+    start: usize,
+    words: &mut [u32],
+    at: usize,
+) -> usize
+    requires { ⌜ ToldRoom (now told) n start (now words) at ⌝ }
+    ensures { λ r. ⌜ ToldWritten (now (told .entry)) n start (now (words .entry)) (now (words .exit)) at r ⌝ }
+{
+    let mut k = at;
+    let mut i = 0;
+    while i < n {
+        words[k] = (start + i) as u32;
+        k += told[i] as usize;
+        i += 1;
+    }
+    k
+}
+
+// The same as `scan` for a block of 32 dots, which has no turns where its dots are all as the one before. Else its turns are told at
+// once and then written; at a row's start there is no dot before, and they are told one by one. That `write_turns` is handed a count
+// which is always 32, but not said to be, keeps its loop from being laid out dot by dot.
 fn scan_block(row: &[u8], from: usize, base: usize, words: &mut [u32], at: usize) -> usize
     requires { ⌜ ScanRoom (now row) from (from + 32) base (now words) at ⌝ }
     ensures { λ r. ⌜ Scanned (now (row .entry)) from (from + 32) base (now (words .entry)) (now (words .exit)) at r ⌝ }
@@ -70,7 +114,14 @@ fn scan_block(row: &[u8], from: usize, base: usize, words: &mut [u32], at: usize
     if ink_count(&row[from..to]) as usize == BLOCK * (at % 2) {
         return at;
     }
-    scan(row, from, to, base, words, at)
+    if from == 0 {
+        return scan(row, from, to, base, words, at);
+    }
+    let before = from - 1;
+    let mut told = [0u8; BLOCK];
+    tell_turns(&row[before..to], &mut told);
+    let n = smaller(row.len() - from, BLOCK);
+    write_turns(&told, n, base + from, words, at)
 }
 
 // The same for the dots `from` up to `to`, block by block.

@@ -6,6 +6,7 @@ use lib.ListN.{take, drop}
 use Rattle.memory.specs.Lists.{countIf}
 use Rattle.labelling.specs.Labels.{isInk}
 use Rattle.labelling.proofs.ExtractLaws.{block-still, block-long}
+use Rattle.labelling.proofs.ToldLaws.{block-count, told-room, written-scanned}
 use Rattle.labelling.proofs.runs.scan_block.Statement.{statement}
 use Rattle.labelling.proofs.runs.scan_block.Tie as tie
 
@@ -22,7 +23,7 @@ part-ink-count-end : tie.Need-part-ink-count-end
 part-ink-count-end c = search needs
 
 ink-count-requires : tie.Need-ink-count-requires
-ink-count-requires c κs = omega (arith, block-long 32 ((c .before .before .before) .args .row .now) ((c .before .before .before) .args .from) ((c .before .before .before) .pre .high))
+ink-count-requires c κs = search needs
 
 cast-if1 : tie.Need-cast-if1
 cast-if1 c = search needs
@@ -40,7 +41,40 @@ same-length : tie.Need-same-length
 same-length c = search needs
 
 returns-2 : tie.Need-returns-2
-returns-2 c = (c .before .before .scan) .ensures
+returns-2 c = search needs
+
+sub-before : tie.Need-sub-before
+sub-before c = search needs
+
+sub-tell-turns : tie.Need-sub-tell-turns
+sub-tell-turns c = search needs
+
+part-tell-turns-start : tie.Need-part-tell-turns-start
+part-tell-turns-start c = search needs
+
+part-tell-turns-end : tie.Need-part-tell-turns-end
+part-tell-turns-end c = search needs
+
+tell-turns-requires : tie.Need-tell-turns-requires
+tell-turns-requires c κs = search needs
+
+sub-smaller : tie.Need-sub-smaller
+sub-smaller c = search needs
+
+smaller-requires : tie.Need-smaller-requires
+smaller-requires c κs = search needs
+
+add-write-turns : tie.Need-add-write-turns
+add-write-turns c = search needs
+
+write-turns-requires : tie.Need-write-turns-requires
+write-turns-requires c κs = told-room ((c .before .before .before .before .before .before .before .before .before .before .before .before) .pre) ((c .before .before .before .tell-turns) .ensures) _ (block-count _ _ _ ((c .before .before .before .before .before .before .before .before .before .before .before .before) .pre .high) ((c .before .before .smaller) .ensures))
+
+same-length-2 : tie.Need-same-length-2
+same-length-2 c = search needs
+
+returns-3 : tie.Need-returns-3
+returns-3 c = written-scanned ((c .before .before .before .before .before .before .before .before .before .before .before .before .before .before .before) .args .row .now) ((c .before .before .before .before .before .before .before .before .before .before .before .before .before .before .before) .args .from) ((c .before .before .before .before .before .before .before .before .before .if2) .left) ((c .before .before .before .before .before .before .tell-turns) .ensures) ((c .before .before .before .before .before .before .before .before .before .before .before .before .before .before .before) .pre) _ (block-count _ _ _ ((c .before .before .before .before .before .before .before .before .before .before .before .before .before .before .before) .pre .high) ((c .before .before .before .before .before .smaller) .ensures)) ((c .before .before .write-turns) .ensures)
 
 pub scan-block-spec : {M : Type 1} → statement M
 scan-block-spec =
@@ -56,4 +90,15 @@ scan-block-spec =
     returns
     scan-requires
     same-length
-    returns-2)
+    returns-2
+    sub-before
+    sub-tell-turns
+    part-tell-turns-start
+    part-tell-turns-end
+    tell-turns-requires
+    sub-smaller
+    smaller-requires
+    add-write-turns
+    write-turns-requires
+    same-length-2
+    returns-3)
