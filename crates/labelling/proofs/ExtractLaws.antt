@@ -80,7 +80,7 @@ pub turn-small : (t : Bool) → cond t 0 1 ≤ 1
 turn-small true = omega arith
 turn-small false = omega arith
 
-turn-bit : (p q : Bool) → cond (eqb (bit p) (bit q)) 0 1 ≡ bit (differ p q)
+pub turn-bit : (p q : Bool) → cond (eqb (bit p) (bit q)) 0 1 ≡ bit (differ p q)
 unfolding differ
 turn-bit true true = refl
 turn-bit true false = refl

@@ -2,28 +2,31 @@
 use mathlib.Core.Path.{_≡_, refl, sym, ap, _∙_, subst}
 use mathlib.Core.Bool.{Bool, true, false, cond, _&&_, not}
 use mathlib.Core.List.{List}
-use Prim.Native.Nat.{ℕ, _+_, _-_, _*_, _/_, _%_, _≤_, _<_}
+use Prim.Native.Nat.{ℕ, suc, _+_, _-_, _*_, _/_, _%_, _≤_, _<_}
 use native.Mathlib.Nat.{mul-comm, mul-left-comm}
+use native.Mathlib.Numerals.{add-one}
 use native.Mathlib.Omega.{arith}
 use lib.ListN.{getD, length, set, take, drop, length-set, length-drop}
-use lib.Seq.{getD-take, getD-drop, length-take-le, take-take, take-set-lt, drop-set-lt}
+use lib.Seq.{getD-take, getD-drop, length-take-le, take-take, drop-drop, take-set-lt, drop-set-lt}
 use lib.Dec.{eqb, ltb}
-use mir.Val.{boolByte}
+use mir.Val.{boolByte, Fits}
+use mir.Syntax.{w64}
 use Rattle.memory.specs.Lists.{countIf}
 use Rattle.memory.specs.Limits.{maxMaskDots}
 use Rattle.memory.proofs.TableLaws.{length-table, getD-table, table-ext}
 use Rattle.memory.proofs.PartLaws.{part-is-table}
 use Rattle.memory.proofs.CountLaws.{count-none}
 use Rattle.labelling.specs.Labels.{isInk}
-use Rattle.labelling.specs.InkRuns.{turns}
-use Rattle.labelling.specs.Extraction.{RowScan, ScanRoom, Scanned, RowRoom, RowExtracted, PlaneRoom}
+use Rattle.labelling.specs.InkRuns.{differ, turns}
+use Rattle.labelling.specs.Extraction.{RowScan, ScanRoom, Scanned, TurnsTold, ToldRoom, ToldWritten, RowRoom, RowExtracted, PlaneRoom}
 use Rattle.labelling.specs.Marked.{passes, passing, rowPassing, MarkedScanRoom, MarkedScanned, MarkedRowRoom, MarkedRowLeft, MarkedRoom, MarkedLeft}
 use Rattle.labelling.specs.declared.marked.Test.{Test}
 use Rattle.labelling.specs.declared.marked.Test.the-variants.{First, Second, Neither}
 use Rattle.labelling.proofs.CountLaws.{count-zero}
 use Rattle.labelling.proofs.ScanLaws.{turns-fit}
 use Rattle.labelling.proofs.RunLabelLaws.{turns-even}
-use Rattle.labelling.proofs.ExtractLaws.{ink-bit, ink-more, block-still, ScanSweep, sweep-none, sweep-room, sweep-more, sweep-done, scan-start, scan-asks, scan-blank, scan-room-end, scan-ink, PlaneScan, plane-none, plane-inside, plane-row, plane-more, plane-done}
+use Rattle.labelling.proofs.ExtractLaws.{ink-bit, turn-bit, ink-more, block-still, ScanSweep, sweep-none, sweep-room, sweep-more, sweep-done, scan-start, scan-asks, scan-blank, scan-room-end, scan-ink, PlaneScan, plane-none, plane-inside, plane-row, plane-more, plane-done}
+use Rattle.labelling.proofs.ToldLaws.{blockBefore, before-long, told-room, written-within, written-scanned}
 
 -- The mask, dot by dot
 
@@ -166,6 +169,20 @@ pub marked-done : {t : Test} {ink : List ℕ} {from to base : ℕ} {s₀ s : Lis
     → MarkedScanned t ink from to base s₀ s at marks k
 marked-done S l = record { len = S .len; scanned = sweep-done (S .sweep) l; kept = S .kept }
 
+-- dots of a row, and as many marks
+part-passing : (t : Test) (ink s : List ℕ) (marks base a c f g n : ℕ) → a + c ≤ length ink → f ≡ marks + base + a → c ≡ n → g ≡ n
+    → take c (drop a (rowPassing t ink (drop marks s) base)) ≡ passing t (take c (drop a ink)) (take g (drop f s)) n
+part-passing t ink s marks base a c f g n h ef ec eg =
+    passing-part t ink (drop base (drop marks s)) (length ink) a c h
+    ∙ (ap (passing t (take c (drop a ink)) (drop a (drop base (drop marks s)))) ec
+    ∙ passing-ext t (take c (drop a ink)) (drop a (drop base (drop marks s))) n (take c (drop a ink)) (take g (drop f s)) (λ i l. refl) mark-same)
+  where
+    mark-same : (i : ℕ) → i < n → getD (drop a (drop base (drop marks s))) i 0 ≡ getD (take g (drop f s)) i 0
+    mark-same i l =
+        getD-drop a (drop base (drop marks s)) i 0
+        ∙ (mark-at s marks base (a + i)
+        ∙ (ap (λ z. getD s z 0) (let q : marks + base + (a + i) ≡ f + i = omega arith in q) ∙ sym (getD-take g (drop f s) i 0 (omega arith) ∙ getD-drop f s i 0)))
+
 -- A block passed over
 
 pub block-high : {t : Test} {ink : List ℕ} {from base : ℕ} {s : List ℕ} {at marks : ℕ} → MarkedScanRoom t ink from (from + 32) base s at marks → from + 32 ≤ length ink
@@ -178,25 +195,65 @@ pub block-passed : {t : Test} {ink : List ℕ} {from base : ℕ} {s : List ℕ} 
     → count ≡ countIf (isInk (passing t (take (from + 32 - from) (drop from ink)) (take (marks + base + from + 32 - (marks + base + from)) (drop (marks + base + from) s)) 32)) 32
     → count ≡ 32 * (at % 2) → MarkedScanned t ink from (from + 32) base s s at marks at
 block-passed {t} {ink} {from} {base} {s} {at} {marks} A count e c =
+    let h = block-high A in
+    let same = part-passing t ink s marks base from (from + 32 - from) (marks + base + from) (marks + base + from + 32 - (marks + base + from)) 32 (omega arith) refl (omega arith) (omega arith) in
     record {
       len = refl;
       scanned = block-still 32 (rowPassing t ink (drop marks s) base) from base (take marks s) at count (A .asks) (e ∙ ap (λ z. countIf (isInk z) 32) (sym same)) c;
       kept = refl;
     }
-  where
-    mark-same : (i : ℕ) → i < 32 → getD (drop from (drop base (drop marks s))) i 0 ≡ getD (take (marks + base + from + 32 - (marks + base + from)) (drop (marks + base + from) s)) i 0
-    mark-same i l =
-        getD-drop from (drop base (drop marks s)) i 0
-        ∙ (mark-at s marks base (from + i)
-        ∙ (ap (λ z. getD s z 0) (let q : marks + base + (from + i) ≡ marks + base + from + i = omega arith in q)
-        ∙ sym (getD-take (marks + base + from + 32 - (marks + base + from)) (drop (marks + base + from) s) i 0 (omega arith) ∙ getD-drop (marks + base + from) s i 0)))
 
-    same : take (from + 32 - from) (drop from (rowPassing t ink (drop marks s) base)) ≡ passing t (take (from + 32 - from) (drop from ink)) (take (marks + base + from + 32 - (marks + base + from)) (drop (marks + base + from) s)) 32
-    same =
-        let h = block-high A in
-        passing-part t ink (drop base (drop marks s)) (length ink) from (from + 32 - from) (omega arith)
-        ∙ (ap (passing t (take (from + 32 - from) (drop from ink)) (drop from (drop base (drop marks s)))) (let q : from + 32 - from ≡ 32 = omega arith in q)
-        ∙ passing-ext t (take (from + 32 - from) (drop from ink)) (drop from (drop base (drop marks s))) 32 (take (from + 32 - from) (drop from ink)) (take (marks + base + from + 32 - (marks + base + from)) (drop (marks + base + from) s)) (λ i l. refl) mark-same)
+-- A block told
+
+pub passing-turn : (t : Test) (ink marks : List ℕ) (n i a b : ℕ) → suc i < n → a ≡ cond (passes t (getD ink i 0) (getD marks i 0)) 1 0
+    → b ≡ cond (passes t (getD ink (i + 1) 0) (getD marks (i + 1) 0)) 1 0
+    → boolByte (not (eqb a b)) ≡ cond (differ (isInk (passing t ink marks n) i) (isInk (passing t ink marks n) (suc i))) 1 0
+passing-turn t ink marks n i a b l ea eb =
+    let p = isInk (passing t ink marks n) i in
+    let q = isInk (passing t ink marks n) (suc i) in
+    let ea' : a ≡ cond p 1 0 = ea ∙ ap (λ z. cond z 1 0) (sym (passing-ink t ink marks n i (omega arith))) in
+    let eb' : b ≡ cond q 1 0 =
+    eb ∙ (ap (λ z. cond (passes t (getD ink z 0) (getD marks z 0)) 1 0) (add-one i) ∙ ap (λ z. cond z 1 0) (sym (passing-ink t ink marks n (suc i) l))) in
+    byte-turn (eqb a b) ∙ (ap (λ z. cond (eqb z b) 0 1) ea' ∙ (ap (λ z. cond (eqb (cond p 1 0) z) 0 1) eb' ∙ turn-bit p q))
+
+pub mark-fits : (x : ℕ) → Fits w64 (x * 4) → Fits w64 ((x - 1) * 4)
+mark-fits x h = omega arith
+
+pub block-inside : {t : Test} {ink : List ℕ} {from base : ℕ} {s : List ℕ} {at marks : ℕ} → MarkedScanRoom t ink from (from + 32) base s at marks → from ≤ length ink
+block-inside A = let h = block-high A in omega arith
+
+pub block-lengths : {t : Test} {ink : List ℕ} {from base : ℕ} {s : List ℕ} {at marks : ℕ} → MarkedScanRoom t ink from (from + 32) base s at marks → (from ≡ 0 → ⊥)
+    → (length (blockBefore ink from) ≡ 33) × (length (blockBefore s (marks + base + from)) ≡ 33)
+block-lengths {t} {ink} {from} {base} {s} {at} {marks} A some =
+    (before-long ink from some (block-high A), before-long s (marks + base + from) (λ q. some (omega arith)) (block-marked A))
+
+module _ {t : Test} {ink : List ℕ} {from base : ℕ} {s : List ℕ} {at marks : ℕ} (A : MarkedScanRoom t ink from (from + 32) base s at marks) (n : ℕ) (e : n ≡ 32) where
+  told-before : at + n ≤ marks
+  told-before = let r = A .asks .room in let m = A .marked in let q = length-take-le marks s (omega arith) in omega arith
+
+  pub marked-told : {dots told : List ℕ} → TurnsTold dots told 32 → ToldRoom told n (base + from) s at
+  marked-told T =
+      let R = told-room (A .asks) T n e in
+      let b = told-before in
+      let m = A .marked in
+      record { few = R .few; bits = R .bits; dots = R .dots; room = omega arith }
+
+  pub marked-written : (from ≡ 0 → ⊥) → {told : List ℕ}
+      → TurnsTold (passing t (blockBefore ink from) (blockBefore s (marks + base + from)) 33) told 32
+      → {s' : List ℕ} {r : ℕ} → ToldWritten told n (base + from) s s' at r → MarkedScanned t ink from (from + 32) base s s' at marks r
+  marked-written some {told} T {s'} {r} X =
+      let h = block-high A in
+      let same = part-passing t ink s marks base (from - 1) (from + 32 - (from - 1)) (marks + base + from - 1) (marks + base + from + 32 - (marks + base + from - 1)) 33 (omega arith) (omega arith) (omega arith) (omega arith) in
+      record {
+        len = X .len;
+        scanned =
+            written-scanned (rowPassing t ink (drop marks s) base) from some (subst (λ z. TurnsTold z told 32) (sym same) T) (A .asks) n e
+            (written-within X marks told-before);
+        kept = past s' ∙ (ap (drop (marks - (at + n))) (X .kept) ∙ sym (past s));
+      }
+    where
+      past : (l : List ℕ) → drop marks l ≡ drop (marks - (at + n)) (drop (at + n) l)
+      past l = ap (λ z. drop z l) (let b = told-before in let q : marks ≡ at + n + (marks - (at + n)) = omega arith in q) ∙ sym (drop-drop (marks - (at + n)) (at + n) l)
 
 -- A row
 

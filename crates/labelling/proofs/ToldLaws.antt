@@ -1,14 +1,14 @@
 -- Turns told a block at a time, each by its dot and the dot before; and then written.
 use mathlib.Core.Path.{_≡_, refl, sym, ap, _∙_, subst}
 use mathlib.Core.List.{List, [], _∷_, _++_, map, append-assoc, append-nil, map-append, map-map, map-congr-left}
-use mathlib.Core.Bool.{Bool, true, false, cond, not, Bool·beq}
-use Prim.Native.Nat.{ℕ, zero, suc, _+_, _-_, _*_, _%_, _≤_, _<_, min}
+use mathlib.Core.Bool.{Bool, true, false, not, Bool·beq}
+use Prim.Native.Nat.{ℕ, zero, suc, _+_, _-_, _%_, _≤_, _<_, min}
 use native.Mathlib.Nat.{le-refl}
 use native.Mathlib.Numerals.{add-one}
 use native.Mathlib.Decide.{ℕ-discrete}
 use native.Mathlib.Omega.{arith}
 use lib.ListN.{getD, length, set, take, drop, length-set, length-map, length-append, length-take, length-drop}
-use lib.Seq.{getD-set-same, getD-set-other, take-take, drop-drop, drop-set-lt}
+use lib.Seq.{length-take-le, getD-set-same, getD-set-other, take-all, take-take, drop-drop, drop-set-lt}
 use lib.Dec.{ltb}
 use mir.Val.{boolByte}
 use Rattle.labelling.specs.Labels.{isInk}
@@ -104,6 +104,24 @@ module _ {told : List ℕ} {i start : ℕ} {s₀ s : List ℕ} {at k : ℕ} (S :
               ∙ (drop-drop 1 (at + i) s₀ ∙ ap (λ z. drop z s₀) (let e : at + i + 1 ≡ at + (i + 1) = omega arith in e)))));
         }
 
+-- what a list keeps of its own start keeps what is written there
+pub written-within : {told : List ℕ} {n start : ℕ} {s s' : List ℕ} {at r : ℕ} → ToldWritten told n start s s' at r → (m : ℕ) → at + n ≤ m
+    → ToldWritten told n start (take m s) (take m s') at r
+written-within {told} {n} {start} {s} {s'} {at} {r} X m h =
+    let b = written-short X in
+    record {
+      len = simp length-take (ap (min m) (X .len));
+      place = X .place;
+      words = take-take r m s' (omega arith) ∙ (X .words ∙ ap (λ z. z ++ map (λ i. start + i) (toldTurns told n)) (sym (take-take at m s (omega arith))));
+      kept = drop-take (at + n) m s' ∙ (ap (take (m - (at + n))) (X .kept) ∙ sym (drop-take (at + n) m s));
+    }
+  where
+    drop-take : (d m : ℕ) (l : List ℕ) → drop d (take m l) ≡ take (m - d) (drop d l)
+    drop-take zero m l = ap (λ z. take z l) (let e : m ≡ m - 0 = omega arith in e)
+    drop-take (suc d) zero l = ap (λ z. take z (drop (suc d) l)) (let e : 0 ≡ 0 - suc d = omega arith in e)
+    drop-take (suc d) (suc m) [] = sym (take-all (suc m - suc d) [] (omega arith))
+    drop-take (suc d) (suc m) (x ∷ l) = drop-take d m l ∙ ap (λ z. take z (drop d l)) (let e : m - d ≡ suc m - suc d = omega arith in e)
+
 -- The told turns of a row's dots are the row's
 
 pub block-count : (long from n : ℕ) → from + 32 ≤ long → n ≡ min (long - from) 32 → n ≡ 32
@@ -119,6 +137,11 @@ told-room A T n e =
 -- the block's own 32 dots, and the dot before them
 abbrev pub blockBefore : List ℕ → ℕ → List ℕ
 blockBefore row from = take (from + 32 - (from - 1)) (drop (from - 1) row)
+
+pub before-long : (row : List ℕ) (from : ℕ) → (from ≡ 0 → ⊥) → from + 32 ≤ length row → length (blockBefore row from) ≡ 33
+before-long row from some h =
+    let e : from + 32 - (from - 1) ≡ 33 = omega arith in
+    rw e (length-take-le 33 (drop (from - 1) row) (simp length-drop (omega arith)))
 
 -- dots counted from `base`, after others so counted
 moved : (base from : ℕ) (a l : List ℕ) → map (λ j. base + j) a ++ map (λ j. base + from + j) l ≡ map (λ j. base + j) (a ++ map (λ j. from + j) l)

@@ -7,7 +7,10 @@ ghost use lib.ListN.{length};
 ghost use lib.Dec.{eqb};
 ghost use Rattle.memory.specs.Lists.{countIf};
 ghost use Rattle.labelling.specs.Labels.{isInk};
+ghost use Rattle.labelling.specs.Extraction.{TurnsTold};
 ghost use Rattle.labelling.specs.Marked.{passes, passing, MarkedScanRoom, MarkedScanned, MarkedRowRoom, MarkedRowLeft, MarkedRoom, MarkedLeft};
+use crate::runs::smaller;
+use crate::runs::write_turns;
 
 // The dots of a block, which are counted at once.
 const BLOCK: usize = 32;
@@ -101,7 +104,32 @@ fn scan(
     k
 }
 
-// The same for a block of 32 dots, which has no turns where its dots are all as the one before.
+// Tells for each of 32 dots whether it is a turn, by itself and the dot before it, the first of the 33.
+fn tell_passing(test: Test, ink: &[u8], marks: &[u32], told: &mut [u8; BLOCK])
+    requires { ⌜ (length (now ink) ≡ 33) × (length (now marks) ≡ 33) × (length (now told) ≡ 32) ⌝ }
+    ensures { λ _. ⌜ TurnsTold (passing test (now (ink .entry)) (now (marks .entry)) 33) (now (told .exit)) 32 ⌝ }
+{
+    let mut i = 0;
+    while i < BLOCK {
+        told[i] = (passes(test, ink[i], marks[i]) != passes(test, ink[i + 1], marks[i + 1])) as u8;
+        i += 1;
+    }
+}
+
+// The same, one loop for each test.
+fn tell_block(test: Test, ink: &[u8], marks: &[u32], told: &mut [u8; BLOCK])
+    requires { ⌜ (length (now ink) ≡ 33) × (length (now marks) ≡ 33) × (length (now told) ≡ 32) ⌝ }
+    ensures { λ _. ⌜ TurnsTold (passing test (now (ink .entry)) (now (marks .entry)) 33) (now (told .exit)) 32 ⌝ }
+{
+    match test {
+        Test::First => tell_passing(Test::First, ink, marks, told),
+        Test::Second => tell_passing(Test::Second, ink, marks, told),
+        Test::Neither => tell_passing(Test::Neither, ink, marks, told),
+    }
+}
+
+// The same as `scan` for a block of 32 dots, which has no turns where its dots are all as the one before. Else its turns are told at
+// once and then written, as in runs.rt.
 fn scan_block(
     test: Test,
     ink: &[u8],
@@ -121,7 +149,15 @@ fn scan_block(
     if count as usize == BLOCK * (at % 2) {
         return at;
     }
-    scan(test, ink, from, to, base, words, at, marks)
+    if from == 0 {
+        return scan(test, ink, from, to, base, words, at, marks);
+    }
+    let before = from - 1;
+    let mark = first - 1;
+    let mut told = [0u8; BLOCK];
+    tell_block(test, &ink[before..to], &words[mark..end], &mut told);
+    let n = smaller(ink.len() - from, BLOCK);
+    write_turns(&told, n, base + from, words, at)
 }
 
 // Writes the turns of a row whose first dot is `base` to the words from `at` on, and answers where they end.
