@@ -87,12 +87,15 @@ turn-bit true false = refl
 turn-bit false true = refl
 turn-bit false false = refl
 
--- the words from k on as they were, a word before them changed
-rest-on : (s s₀ : List ℕ) (k k' i v : ℕ) → k ≤ k' → i < k' → drop k s ≡ drop k s₀ → drop k' (set s i v) ≡ drop k' s₀
-rest-on s s₀ k k' i v l li e =
+-- the words from k on as they were: so are those from later on
+pub rest-further : (s s₀ : List ℕ) (k k' : ℕ) → k ≤ k' → drop k s ≡ drop k s₀ → drop k' s ≡ drop k' s₀
+rest-further s s₀ k k' l e =
     let q : k + (k' - k) ≡ k' = omega arith in
-    drop-set-lt k' s i v li
-    ∙ (ap (λ z. drop z s) (sym q) ∙ (sym (drop-drop (k' - k) k s) ∙ (ap (drop (k' - k)) e ∙ (drop-drop (k' - k) k s₀ ∙ ap (λ z. drop z s₀) q))))
+    ap (λ z. drop z s) (sym q) ∙ (sym (drop-drop (k' - k) k s) ∙ (ap (drop (k' - k)) e ∙ (drop-drop (k' - k) k s₀ ∙ ap (λ z. drop z s₀) q)))
+
+-- and where a word before them changes
+pub rest-on : (s s₀ : List ℕ) (k k' i v : ℕ) → k ≤ k' → i < k' → drop k s ≡ drop k s₀ → drop k' (set s i v) ≡ drop k' s₀
+rest-on s s₀ k k' i v l li e = drop-set-lt k' s i v li ∙ rest-further s s₀ k k' l e
 
 scan-none : {row : List ℕ} {base : ℕ} {s : List ℕ} {at : ℕ} → RowRoom row base s at → RowScan row base s s at at 0 0
 unfolding turns inkBefore

@@ -16,7 +16,7 @@ use Rattle.labelling.specs.InkRuns.{inkBefore, differ, appendIf, turns}
 use Rattle.labelling.specs.Extraction.{RowScan, ScanRoom, Scanned, TurnsTold, toldTurns, ToldRoom, ToldWritten}
 use Rattle.labelling.proofs.TurnLaws.{bit}
 use Rattle.labelling.proofs.ScanLaws.{append-step, turns-inner, inkBefore-inner}
-use Rattle.labelling.proofs.ExtractLaws.{inner-wider, append-map, length-appendIf, ink-of-part, bit-small, scan-parity}
+use Rattle.labelling.proofs.ExtractLaws.{rest-on, rest-further, inner-wider, append-map, length-appendIf, ink-of-part, bit-small, scan-parity}
 
 -- Told
 
@@ -71,7 +71,7 @@ told-short told (suc i) =
 
 pub written-none : (told : List ℕ) (start : ℕ) (s : List ℕ) (at : ℕ) → ToldWritten told 0 start s s at at
 unfolding toldTurns
-written-none told start s at = record { len = refl; place = omega arith; words = sym (append-nil (take at s)); kept = refl }
+written-none told start s at = record { len = refl; place = omega arith; words = sym (append-nil (take at s)); kept = refl; rest = refl }
 
 module _ {told : List ℕ} {i start : ℕ} {s₀ s : List ℕ} {at k : ℕ} (S : ToldWritten told i start s₀ s at k) where
   pub written-short : k ≤ at + i
@@ -102,6 +102,7 @@ module _ {told : List ℕ} {i start : ℕ} {s₀ s : List ℕ} {at k : ℕ} (S :
               ∙ (sym (drop-drop 1 (at + i) s)
               ∙ (ap (drop 1) (S .kept)
               ∙ (drop-drop 1 (at + i) s₀ ∙ ap (λ z. drop z s₀) (let e : at + i + 1 ≡ at + (i + 1) = omega arith in e)))));
+          rest = rest-on s s₀ (suc k) (suc (k + getD told i 0)) k (start + i) (omega arith) (omega arith) (S .rest);
         }
 
 -- what a list keeps of its own start keeps what is written there
@@ -114,6 +115,7 @@ written-within {told} {n} {start} {s} {s'} {at} {r} X m h =
       place = X .place;
       words = take-take r m s' (omega arith) ∙ (X .words ∙ ap (λ z. z ++ map (λ i. start + i) (toldTurns told n)) (sym (take-take at m s (omega arith))));
       kept = drop-take (at + n) m s' ∙ (ap (take (m - (at + n))) (X .kept) ∙ sym (drop-take (at + n) m s));
+      rest = drop-take (suc r) m s' ∙ (ap (take (m - suc r)) (X .rest) ∙ sym (drop-take (suc r) m s));
     }
   where
     drop-take : (d m : ℕ) (l : List ℕ) → drop d (take m l) ≡ take (m - d) (drop d l)
@@ -196,6 +198,7 @@ module _ (row : List ℕ) (from : ℕ) (some : from ≡ 0 → ⊥) {told : List 
               ∙ (ap (λ z. z ++ map (λ j. base + from + j) L) (S .words)
               ∙ (append-assoc (take start s₀) (map (λ j. base + j) (turns W row from)) (map (λ j. base + from + j) L)
               ∙ ap (λ z. take start s₀ ++ z) (moved base from (turns W row from) L ∙ ap (map (λ j. base + j)) (sym e))));
+          rest = X .rest ∙ rest-further s s₀ (suc at) (suc r) (let a = X .place in omega arith) (S .rest);
         } in
         subst (λ z. RowScan row base s₀ s' start r z (from + 32)) (sym (scan-parity R)) R
 

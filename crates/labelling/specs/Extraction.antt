@@ -63,12 +63,13 @@ pub record ToldRoom (told : List ℕ) (n start : ℕ) (s : List ℕ) (at : ℕ) 
   pub dots : start + n ≤ maxMaskDots
   pub room : at + n ≤ length s
 
--- the told turns stand after what stood before `at`, up to r; what has no room for them is as it was
+-- the told turns stand after what stood before `at`, up to r; word r may have changed, and none after it, nor what has no room for them
 pub record ToldWritten (told : List ℕ) (n start : ℕ) (s s' : List ℕ) (at r : ℕ) : Type 0 where
   pub len : length s' ≡ length s
   pub place : r ≡ at + length (toldTurns told n)
   pub words : take r s' ≡ take at s ++ map (λ i. start + i) (toldTurns told n)
   pub kept : drop (at + n) s' ≡ drop (at + n) s
+  pub rest : drop (suc r) s' ≡ drop (suc r) s
 
 -- the row's turns stand after what stood before `at`, up to r; word r may have changed, and none after it
 pub record RowExtracted (row : List ℕ) (base : ℕ) (s s' : List ℕ) (at r : ℕ) : Type 0 where
