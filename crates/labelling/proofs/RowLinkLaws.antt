@@ -1,8 +1,8 @@
 -- Runs written and linked row by row: the runs of one row more are known, and those known before stay linked.
 use mathlib.Core.Path.{_≡_, refl, sym, ap, _∙_, subst}
-use mathlib.Core.List.{List, _++_}
+use mathlib.Core.List.{List, [], _∷_, _++_}
 use Prim.Native.Nat.{ℕ, zero, suc, _+_, _-_, _*_, _/_, _≤_, _<_}
-use native.Mathlib.Nat.{le-refl, not-suc-le-zero, mul-comm, mul-mod-left, mul-le-mul-right}
+use native.Mathlib.Nat.{le-refl, not-suc-le-zero, mul-comm, mul-mod-left, mul-mod-right, mul-le-mul-right}
 use native.Mathlib.Decide.{decLt}
 use native.Mathlib.Omega.{arith}
 use lib.ListN.{getD, length, set, take, drop, length-set, length-map, List·getD-append}
@@ -252,3 +252,15 @@ link-done {w} {h} {m} {s₀} {s} {q} {above} {here} S l c ec =
           subst (λ z. Forest (firstRun w c (take (2 * c) s)) (drop z s) c) g
           (subst (λ z. Forest (firstRun w z (take (2 * z) s)) (drop q s) z) f (links.plane-forest (S .sweep) l));
     }
+
+-- a mask without runs has nothing to link
+pub link-blank : {w h : ℕ} {m s : List ℕ} → PlaneRoom w h m s → (c : ℕ) → c ≡ runCount w m (w * h) → c ≡ 0 → LinkedRuns w h m s s 0
+link-blank {w} {h} {m} {s} A c e z =
+    record {
+      runs = record { len = refl; count = sym z ∙ e; runs = sym (no-turns (turns w m (w * h)) (turns-whole w (w * h) m (A .wide) (mul-mod-right w h) ∙ ap (λ k. 2 * k) (sym e ∙ z))) };
+      forest = record { down = λ j l. absurd (omega arith); same = λ j l. absurd (omega arith); root = λ j l. absurd (omega arith) };
+    }
+  where
+    no-turns : (t : List ℕ) → length t ≡ 0 → t ≡ []
+    no-turns [] q = refl
+    no-turns (x ∷ t) q = absurd (omega arith)

@@ -15,6 +15,9 @@ pub fn extract_linked(mask: &[u8], w: usize, h: usize, words: &mut [u32]) -> usi
     ensures { λ r. ⌜ LinkedRuns w h (now (mask .entry)) (now (words .entry)) (now (words .exit)) r ⌝ }
 {
     let runs = count_runs(mask, w, h);
+    if runs == 0 {
+        return 0;
+    }
     let parents = 2 * runs;
     let mut above = 0;
     let mut here = 0;

@@ -4,7 +4,7 @@ use mathlib.Core.Path.{ap}
 use Prim.Native.Nat.{_-_, _*_}
 use Rattle.labelling.proofs.ExtractLaws.{plane-inside, plane-row}
 use Rattle.labelling.proofs.StartLaws.{runs-low}
-use Rattle.labelling.proofs.RowLinkLaws.{LinkSweep, link-none, link-place, link-asks, link-more, link-done}
+use Rattle.labelling.proofs.RowLinkLaws.{LinkSweep, link-blank, link-none, link-place, link-asks, link-more, link-done}
 use Rattle.labelling.proofs.linked.extract_linked.Statement.{statement}
 use Rattle.labelling.proofs.linked.extract_linked.Tie as tie
 
@@ -17,14 +17,17 @@ abbrev μ-loop : tie.MeasureT-loop
 count-runs-requires : tie.Need-count-runs-requires Inv-loop μ-loop
 count-runs-requires c κs = ((c .before .before) .pre .0 .wide, (c .before .before) .pre .0 .whole, (c .before .before) .pre .0 .dots)
 
+returns : tie.Need-returns Inv-loop μ-loop
+returns c = link-blank ((c .before .before .before .before) .pre .0) _ ((c .before .count-runs) .ensures) ((c .if1) .taken)
+
 mul-parents : tie.Need-mul-parents Inv-loop μ-loop
-mul-parents c = let e = (c .count-runs) .ensures in let b = runs-low ((c .before .before .before) .args .w) ((c .before .before .before) .args .mask .now) ((c .before .before .before) .args .w * (c .before .before .before) .args .h) in omega (arith, (c .before .before .before) .pre .0 .dots)
+mul-parents c = let e = (c .before .count-runs) .ensures in let b = runs-low ((c .before .before .before .before) .args .w) ((c .before .before .before .before) .args .mask .now) ((c .before .before .before .before) .args .w * (c .before .before .before .before) .args .h) in omega (arith, (c .before .before .before .before) .pre .0 .dots)
 
 loop-holds : tie.Need-loop-holds Inv-loop μ-loop
-loop-holds c = link-none _ ((c .before .before .before) .pre .0) ((c .before .before .before) .pre .1) (ap (λ z. 2 * z) ((c .count-runs) .ensures))
+loop-holds c = link-none _ ((c .before .before .before .before) .pre .0) ((c .before .before .before .before) .pre .1) (ap (λ z. 2 * z) ((c .before .count-runs) .ensures))
 
 add-end : tie.Need-add-end Inv-loop μ-loop
-add-end c = let h = plane-inside ((c .before .loop) .inv .scan) ((c .loop-test) .taken) in omega (arith, (c .before .before .before .before .before) .pre .0 .dots, (c .before .before .before .before .before) .pre .0 .whole)
+add-end c = let h = plane-inside ((c .before .loop) .inv .scan) ((c .loop-test) .taken) in omega (arith, (c .before .before .before .before .before .before) .pre .0 .dots, (c .before .before .before .before .before .before) .pre .0 .whole)
 
 sub-extract-row : tie.Need-sub-extract-row Inv-loop μ-loop
 sub-extract-row c = search needs
@@ -62,8 +65,8 @@ loop-again c = link-more ((c .before .before .before .before .before .before .be
 same-length : tie.Need-same-length Inv-loop μ-loop
 same-length c = (c .before .loop) .inv .scan .len
 
-returns : tie.Need-returns Inv-loop μ-loop
-returns c = link-done ((c .before .loop) .inv) ((c .loop-test) .left) ((c .before .before .count-runs) .result) ((c .before .before .count-runs) .ensures)
+returns-2 : tie.Need-returns-2 Inv-loop μ-loop
+returns-2 c = link-done ((c .before .loop) .inv) ((c .loop-test) .left) ((c .before .before .before .count-runs) .result) ((c .before .before .before .count-runs) .ensures)
 
 pub extract-linked-spec : {M : Type 1} → statement M
 extract-linked-spec =
@@ -72,6 +75,7 @@ extract-linked-spec =
     Inv-loop
     μ-loop
     count-runs-requires
+    returns
     mul-parents
     loop-holds
     add-end
@@ -87,4 +91,4 @@ extract-linked-spec =
     loop-less
     loop-again
     same-length
-    returns)
+    returns-2)
