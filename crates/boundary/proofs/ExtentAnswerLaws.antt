@@ -3,10 +3,10 @@ use mathlib.Core.Path.{_≡_, refl, ap, _∙_}
 use mathlib.Core.Bool.{Bool}
 use mathlib.Core.List.{List}
 use Prim.Native.Nat.{ℕ}
-use Rattle.sorting.specs.Answers.{ExtentsOutcome, extentsOutcome, runExtents}
-use Rattle.sorting.specs.declared.extents.Along.{Along}
-use Rattle.sorting.specs.declared.extents.ExtentsAnswer.{ExtentsAnswer}
-use Rattle.sorting.specs.declared.extents.ExtentsAnswer.the-variants.{Done, Refused}
+use Rattle.extents.specs.Answers.{ExtentsOutcome, extentsOutcome, runExtents}
+use Rattle.extents.specs.declared.entry.Along.{Along}
+use Rattle.extents.specs.declared.entry.ExtentsAnswer.{ExtentsAnswer}
+use Rattle.extents.specs.declared.entry.ExtentsAnswer.the-variants.{Done, Refused}
 use Rattle.boundary.specs.Answers.{refusalWord}
 use Rattle.boundary.specs.ExtentAnswers.{alongOf, extentsWord, ExtentsTold}
 

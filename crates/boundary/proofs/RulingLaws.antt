@@ -11,9 +11,10 @@ use Rattle.memory.specs.Limits.{maxMaskSide, maxMaskDots}
 use Rattle.memory.specs.Lists.{table}
 use Rattle.memory.specs.Words.{over}
 use Rattle.rounding.proofs.Tests.{yes}
-use Rattle.sorting.specs.Answers.{isMaskSide}
-use Rattle.sorting.specs.Rulings.{cutMark}
-use Rattle.sorting.specs.Scans.{PlaneFits, RulingsRoom}
+use Rattle.extents.specs.Answers.{isMaskSide}
+use Rattle.rulings.specs.Rulings.{cutMark}
+use Rattle.extents.specs.Scans.{PlaneFits}
+use Rattle.rulings.specs.Sweeps.{RulingsRoom}
 use Rattle.boundary.specs.Sorting.{rulingsFit, RulingsTold}
 use Rattle.boundary.proofs.LevelLaws.{is-true, is-false, split}
 

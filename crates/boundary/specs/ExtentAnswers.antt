@@ -3,11 +3,11 @@ use mathlib.Core.Path.{_≡_}
 use mathlib.Core.Bool.{Bool, true, false}
 use mathlib.Core.List.{List}
 use Prim.Native.Nat.{ℕ}
-use Rattle.sorting.specs.Answers.{ExtentsOutcome}
-use Rattle.sorting.specs.declared.extents.Along.{Along}
-use Rattle.sorting.specs.declared.extents.Along.the-variants.{Rows, Columns}
-use Rattle.sorting.specs.declared.extents.ExtentsAnswer.{ExtentsAnswer}
-use Rattle.sorting.specs.declared.extents.ExtentsAnswer.the-variants.{Done, Refused}
+use Rattle.extents.specs.Answers.{ExtentsOutcome}
+use Rattle.extents.specs.declared.entry.Along.{Along}
+use Rattle.extents.specs.declared.entry.Along.the-variants.{Rows, Columns}
+use Rattle.extents.specs.declared.entry.ExtentsAnswer.{ExtentsAnswer}
+use Rattle.extents.specs.declared.entry.ExtentsAnswer.the-variants.{Done, Refused}
 use Rattle.boundary.specs.Answers.{refusalWord}
 
 -- along the columns, or along the rows

@@ -12,8 +12,8 @@ use Rattle.memory.specs.Refusals.{refuseIf}
 use Rattle.memory.specs.Words.{over}
 use Rattle.params.specs.Valid.{zero}
 use Rattle.params.specs.declared.LayoutParams.{LayoutParams}
-use Rattle.sorting.specs.Answers.{isMaskSide}
-use Rattle.sorting.specs.Rulings.{cutHorizontal, cutVertical, cutMark}
+use Rattle.extents.specs.Answers.{isMaskSide}
+use Rattle.rulings.specs.Rulings.{cutHorizontal, cutVertical, cutMark}
 use Rattle.sorting.specs.Sortings.{componentsOf, mostCuts}
 use Rattle.sorting.specs.declared.Unit.{Unit}
 use Rattle.sorting.specs.declared.Unit.the-variants.{Measured, Assumed}

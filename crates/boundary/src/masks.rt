@@ -5,12 +5,12 @@ ghost use Prim.Native.Nat.{_*_};
 ghost use lib.ListN.{length, drop};
 ghost use Rattle.memory.specs.Limits.{scratchWords};
 ghost use Rattle.labelling.specs.Answer.{labelled};
-ghost use Rattle.sorting.specs.Answers.{runExtents};
+ghost use Rattle.extents.specs.Answers.{runExtents};
 ghost use Rattle.boundary.specs.LabelAnswers.{labelWord, LabelTold};
 ghost use Rattle.boundary.specs.ExtentAnswers.{alongOf, extentsWord, ExtentsTold};
+use extents::Along;
+use extents::ExtentsAnswer;
 use labelling::LabelAnswer;
-use sorting::Along;
-use sorting::ExtentsAnswer;
 
 fn label_word(answer: LabelAnswer) -> u64
     ensures { λ r. ⌜ r ≡ labelWord answer ⌝ }
@@ -65,5 +65,5 @@ pub extern "C" fn novlizeb_run_extents(
     ensures { λ r. ⌜ ExtentsTold (runExtents (now (mask .entry)) width height (alongOf columns) (now (extents .entry))) r (now (extents .exit)) ⌝ }
 {
     let along = along_of(columns);
-    extents_word(sorting::run_extents(mask, width, height, along, extents))
+    extents_word(extents::run_extents(mask, width, height, along, extents))
 }

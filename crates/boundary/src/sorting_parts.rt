@@ -7,9 +7,9 @@ ghost use lib.ListN.{length, drop};
 ghost use Rattle.memory.specs.Limits.{scratchWords};
 ghost use Rattle.memory.specs.Words.{over};
 ghost use Rattle.params.specs.Valid.{zero};
-ghost use Rattle.sorting.specs.Answers.{isMaskSide};
+ghost use Rattle.extents.specs.Answers.{isMaskSide};
 ghost use Rattle.sorting.specs.Kinds.{kindBySize};
-ghost use Rattle.sorting.specs.Rulings.{runMin, thickMax};
+ghost use Rattle.rulings.specs.Rulings.{runMin, thickMax};
 ghost use Rattle.boundary.specs.Frames.{told};
 ghost use Rattle.boundary.specs.Sorting.{rulingsFit, RulingsTold, cutRulings, unitFor, sizeSheet};
 use crate::frames::judge_frame;
@@ -83,7 +83,7 @@ pub extern "C" fn novlizeb_thin_rulings(
     if !rulings_fit(ink.len(), width, height, run_min, behind, from) {
         return false;
     }
-    sorting::thin_rulings(ink, width, height, run_min, thick_max, words, from);
+    rulings::thin_rulings(ink, width, height, run_min, thick_max, words, from);
     true
 }
 

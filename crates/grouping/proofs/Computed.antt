@@ -4,14 +4,15 @@ use Rattle.memory.specs.Lists.{table, upto, keep, countIf, occurs, total, great
 use Rattle.memory.specs.Refusals.{refuseIf}
 use Rattle.rounding.specs.Rounding.{roundHalfAway}
 use Rattle.labelling.specs.Classes.{renamed, join, joinIf, joinOne, joinAll, firsts}
-use Rattle.labelling.specs.Labels.{isInk, touches, isFirst, labelAt, componentTo, labelling}
+use Rattle.memory.specs.Masks.{isInk}
+use Rattle.labelling.specs.Labels.{touches, isFirst, labelAt, componentTo, labelling}
 use Rattle.levelling.specs.Shears.{magnitude, applied, leastEntry, shearOf}
 use Rattle.levelling.specs.Frames.{frame, rowOf, columnOf}
 use Rattle.levelling.specs.Mapping.{toPage, rectToPage}
 use Rattle.levelling.specs.Planes as Planes
 use Rattle.levelling.specs.Planes.{levelAt, levelled}
-use Rattle.sorting.specs.Extents.{inkAt, maskOf, behind, ahead, runThrough, extent, rowExtents, columnExtents}
-use Rattle.sorting.specs.Rulings.{runMin, thickMax, widened, inThinRuling, cutHorizontal, cutVertical, afterCut}
+use Rattle.extents.specs.Extents.{inkAt, maskOf, behind, ahead, runThrough, extent, rowExtents, columnExtents}
+use Rattle.rulings.specs.Rulings.{runMin, thickMax, widened, inThinRuling, cutHorizontal, cutVertical, afterCut}
 use Rattle.sorting.specs.Units.{median, underExtents, measurable, unitFrom, unitOf}
 use Rattle.sorting.specs.Kinds.{kindAt}
 use Rattle.sorting.specs.Sorted.{sorted, boxesOf, rulesOf, graphicsOf, kindCounts}

@@ -16,13 +16,13 @@ use Rattle.memory.proofs.TableLaws.{length-table, getD-table, table-ext}
 use Rattle.labelling.specs.declared.rect.Rect.{Rect}
 use Rattle.memory.proofs.PartLaws.{tail-part, tail-put}
 use Rattle.params.specs.declared.LayoutParams.{LayoutParams}
-use Rattle.sorting.specs.Lengths.{_·_, dots}
+use Rattle.rounding.specs.Lengths.{_·_, dots}
 use Rattle.grouping.specs.Columns.{cover, covered, enoughCover, columnRuns, columnsOf, CoverSteps}
 use Rattle.grouping.specs.Words.{Lines, Inside, lineBox, lineBoxes, fields, columnRecord}
 use Rattle.grouping.specs.Counts.{counts}
 use Rattle.grouping.specs.declared.column.Column.{Column}
 use Rattle.grouping.proofs.ListLaws.{Each, each-table, map-table, keep-same}
-use Rattle.sorting.proofs.OverLaws.{over-at}
+use Rattle.extents.proofs.OverLaws.{over-at}
 use Rattle.grouping.proofs.TableWords.{over-length}
 use Rattle.grouping.proofs.CoverLaws.{cover-first, cover-next, cover-ended, cover-length}
 

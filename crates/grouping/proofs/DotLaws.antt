@@ -19,7 +19,7 @@ use Rattle.grouping.specs.Readings.{inBox, listed, columnsAndRows, dotLi
 use Rattle.grouping.specs.Dots.{listedAt, FrameWords}
 use Rattle.grouping.proofs.ListLaws.{keep-snoc-yes, keep-snoc-no, upto-suc, keep-few}
 use Rattle.grouping.proofs.CountLaws.{count-length, count-below, count-yes, count-no, count-mono}
-use Rattle.sorting.proofs.MaskLaws.{dot-column, dot-row, dot-inside}
+use Rattle.extents.proofs.MaskLaws.{dot-column, dot-row, dot-inside}
 
 -- where the two shears send a dot, with what was proved of the place
 pub record Place (f : Frame) (kinds : List ℕ) (c y row column : ℕ) : Type 0 where

@@ -6,9 +6,9 @@ use native.Mathlib.Nat.{not-suc-le-zero, le-refl}
 use native.Mathlib.Omega.{arith}
 use borrow.Author.Tests.{lt-ltb, le-ltb}
 use lib.Dec.{leb, ltb}
-use Rattle.sorting.specs.Extents.{behind, ahead, runThrough}
+use Rattle.extents.specs.Extents.{behind, ahead, runThrough}
 use Rattle.grouping.specs.Smoothing.{joined}
-use Rattle.sorting.proofs.RunLaws.{behind-off, ahead-off, runThrough-ends}
+use Rattle.extents.proofs.RunLaws.{behind-off, ahead-off, runThrough-ends}
 use Rattle.grouping.proofs.RunLaws.{behind-run, ahead-run}
 
 and-true : (x : Bool) → (x && true) ≡ x

@@ -17,9 +17,9 @@ use Rattle.memory.proofs.TableLaws.{length-table, getD-table}
 use Rattle.labelling.specs.Rects.{height}
 use Rattle.labelling.specs.declared.rect.Rect.{Rect}
 use Rattle.params.specs.declared.LayoutParams.{LayoutParams}
-use Rattle.sorting.specs.Lengths.{float, _·_, dots}
+use Rattle.rounding.specs.Lengths.{float, _·_, dots}
 use Rattle.sorting.specs.Units.{median}
-use Rattle.sorting.specs.Scans.{CountsOf}
+use Rattle.sorting.specs.Counts.{CountsOf}
 use Rattle.grouping.specs.Blocks.{nearestGaps, leastWith, lineHeight, hardCap, maxGap}
 use Rattle.grouping.specs.Words.{Lines, lineBox, lineBoxes}
 use Rattle.grouping.specs.Counts.{counts, below}

@@ -13,7 +13,7 @@ use lib.Seq.{take-suc, take-length, getD-take, getD-set-same, getD-set-other}
 use lib.Dec.{eqb, leb}
 use Rattle.memory.specs.Lists.{table, upto, keep, occurs, sortBy}
 use Rattle.sorting.specs.Units.{median}
-use Rattle.sorting.specs.Scans.{CountsOf}
+use Rattle.sorting.specs.Counts.{CountsOf}
 use Rattle.grouping.specs.Readings.{differences, pitches}
 use Rattle.labelling.specs.Classes.{firstOf}
 use Rattle.labelling.specs.declared.rect.Rect.{Rect}

@@ -3,8 +3,8 @@ use mathlib.Core.Path.{_≡_, _∙_}
 use mathlib.Core.Bool.{cond}
 use Prim.Native.Nat.{ℕ, _+_, _*_, _/_, _%_, _<_}
 use lib.ListN.{getD}
-use Rattle.sorting.specs.Extents.{Plane, maskOf}
-use Rattle.sorting.proofs.MaskLaws.{dot-column, dot-row, dot-inside}
+use Rattle.extents.specs.Extents.{Plane, maskOf}
+use Rattle.extents.proofs.MaskLaws.{dot-column, dot-row, dot-inside}
 use Rattle.memory.proofs.TableLaws.{getD-table}
 
 -- what a plane's mask holds at a place

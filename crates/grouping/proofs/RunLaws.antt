@@ -4,8 +4,8 @@ use mathlib.Core.Bool.{Bool, true, false, cond}
 use Prim.Native.Nat.{ℕ, zero, suc, _+_, _-_, _≤_, _<_}
 use native.Mathlib.Nat.{not-suc-le-zero, le-refl}
 use native.Mathlib.Omega.{arith}
-use Rattle.sorting.specs.Extents.{behind, ahead}
-use Rattle.sorting.proofs.RunLaws.{behind-on}
+use Rattle.extents.specs.Extents.{behind, ahead}
+use Rattle.extents.proofs.RunLaws.{behind-on}
 
 -- j places from s on pass, and none just before s
 pub behind-run : (p : ℕ → Bool) (s j : ℕ) → behind p s ≡ 0 → ((k : ℕ) → s ≤ k → k < s + j → p k ≡ true) → behind p (s + j) ≡ j

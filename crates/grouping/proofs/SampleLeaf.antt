@@ -7,7 +7,7 @@ use lib.Ieee.{Float, binary64, ofBits}
 use Rattle.params.specs.declared.LayoutParams.{LayoutParams}
 use Rattle.params.specs.Valid.{valid}
 use Rattle.labelling.specs.declared.rect.Rect.{Rect}
-use Rattle.sorting.specs.Lengths.{float}
+use Rattle.rounding.specs.Lengths.{float}
 use Rattle.grouping.specs.Layouts.{Page, page, layoutRefusal}
 use Rattle.grouping.specs.Readings.{summary, twentyLineMeasure, dotList}
 use Rattle.grouping.specs.Figures.{figures, headFigures, lineFigures, blockFigures, glyphFigures, columnFigures}

@@ -11,7 +11,7 @@ use Rattle.labelling.specs.declared.rect.Rect.{Rect}
 use Rattle.labelling.specs.declared.component.Component.{Component}
 use Rattle.levelling.specs.Frames.{Frame, frame, rowOf, columnOf}
 use Rattle.levelling.specs.Mapping.{toPage}
-use Rattle.sorting.specs.Lengths.{float}
+use Rattle.rounding.specs.Lengths.{float}
 use Rattle.sorting.specs.Units.{median}
 use Rattle.grouping.specs.Smoothing.{smoothed}
 use Rattle.grouping.specs.Columns.{column, columnsOf}

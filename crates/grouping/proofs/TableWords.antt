@@ -14,7 +14,7 @@ use lib.Dec.{eqb}
 use Rattle.memory.specs.Lists.{table, occurs}
 use Rattle.memory.specs.Words.{over}
 use Rattle.memory.proofs.TableLaws.{length-table, getD-table, table-step}
-use Rattle.sorting.proofs.OverLaws.{over-at}
+use Rattle.extents.proofs.OverLaws.{over-at}
 use Rattle.grouping.specs.Counts.{counts, below}
 use Rattle.grouping.specs.Words.{fields}
 use Rattle.grouping.proofs.CountLaws.{occurs-same, occurs-other}

@@ -8,13 +8,14 @@ use lib.Ieee.{Float, le}
 use lib.ListN.{getD, length}
 use lib.Dec.{eqb, leb}
 use Rattle.memory.specs.Lists.{table, keep, upto, occurs}
+use Rattle.memory.proofs.BoolLaws.{and-left, and-right}
 use Rattle.labelling.specs.Rects.{height}
 use Rattle.labelling.specs.Classes.{firstOf}
 use Rattle.labelling.specs.Components.{noDots}
 use Rattle.labelling.specs.declared.rect.Rect.{Rect}
 use Rattle.labelling.specs.declared.component.Component.{Component}
 use Rattle.params.specs.declared.LayoutParams.{LayoutParams}
-use Rattle.sorting.specs.Lengths.{float, _·_, dots}
+use Rattle.rounding.specs.Lengths.{float, _·_, dots}
 use Rattle.grouping.specs.Smoothing.{glyphAt, joined, smoothed}
 use Rattle.grouping.specs.Lines.{LabelledGlyph, SmoothedLine, smoothedLine, isLine, keysAtMost, lineKeys, keptLines}
 use Rattle.grouping.specs.Blocks.{Block, blockFirsts, blockNumber, blocksOf}
@@ -56,14 +57,6 @@ pub record Line (p : LayoutParams) (unit : Float) (l : SmoothedLine) : Type 0 wh
   pub glyphs : p .«line_min_glyphs» ≤ l .glyphs
   pub low : le (p .«line_min_height_xh» · unit) (float (height (l .bbox))) ≡ true
   pub high : le (float (height (l .bbox))) (p .«line_max_height_xh» · unit) ≡ true
-
-and-left : (a b : Bool) → (a && b) ≡ true → a ≡ true
-and-left true b e = refl
-and-left false b e = e
-
-and-right : (a b : Bool) → (a && b) ≡ true → b ≡ true
-and-right true b e = e
-and-right false b e = absurd (mathlib.Core.Bool.true≢false (sym e))
 
 line : (p : LayoutParams) (unit : Float) (l : SmoothedLine) → isLine p unit l ≡ true → Line p unit l
 unfolding isLine

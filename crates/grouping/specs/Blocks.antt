@@ -10,7 +10,7 @@ use Rattle.labelling.specs.Rects.{width, height, union}
 use Rattle.labelling.specs.Classes.{firstOf, firsts}
 use Rattle.labelling.specs.declared.rect.Rect.{Rect}
 use Rattle.params.specs.declared.LayoutParams.{LayoutParams}
-use Rattle.sorting.specs.Lengths.{float, _·_, dots}
+use Rattle.rounding.specs.Lengths.{float, _·_, dots}
 use Rattle.sorting.specs.Units.{median}
 
 -- the gap from line a to line b: y0 of b − y1 of a − 1; below 0 it is 0, which passes the same limits

@@ -9,7 +9,7 @@ use lib.Dec.{ltb, leb}
 use Rattle.memory.specs.Lists.{table, upto, keep, greatest}
 use Rattle.labelling.specs.declared.rect.Rect.{Rect}
 use Rattle.params.specs.declared.LayoutParams.{LayoutParams}
-use Rattle.sorting.specs.Lengths.{float, _·_, dots}
+use Rattle.rounding.specs.Lengths.{float, _·_, dots}
 use Rattle.grouping.specs.declared.column.Column.{Column}
 
 -- how many lines lie over frame column x

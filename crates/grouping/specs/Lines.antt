@@ -13,7 +13,7 @@ use Rattle.labelling.specs.Labels.{Labelling}
 use Rattle.labelling.specs.declared.rect.Rect.{Rect}
 use Rattle.labelling.specs.declared.component.Component.{Component}
 use Rattle.params.specs.declared.LayoutParams.{LayoutParams}
-use Rattle.sorting.specs.Lengths.{float, _·_}
+use Rattle.rounding.specs.Lengths.{float, _·_}
 use Rattle.sorting.specs.Units.{median}
 use Rattle.sorting.specs.Kinds.{glyphKind}
 

@@ -9,7 +9,7 @@ use Rattle.memory.specs.Lists.{upto, keep}
 use Rattle.rounding.specs.Rounding.{positiveZero}
 use Rattle.labelling.specs.declared.rect.Rect.{Rect}
 use Rattle.levelling.specs.Frames.{Frame, rowOf, columnOf}
-use Rattle.sorting.specs.Lengths.{float}
+use Rattle.rounding.specs.Lengths.{float}
 use Rattle.sorting.specs.Units.{median, unitValue}
 use Rattle.grouping.specs.Blocks.{Block, noRect}
 use Rattle.grouping.specs.Layouts.{Layout, TextLine}

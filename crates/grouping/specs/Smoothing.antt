@@ -7,8 +7,8 @@ use lib.Ieee.{Float}
 use lib.ListN.{getD}
 use lib.Dec.{eqb, ltb, leb}
 use Rattle.params.specs.declared.LayoutParams.{LayoutParams}
-use Rattle.sorting.specs.Lengths.{_·_, dots}
-use Rattle.sorting.specs.Extents.{Plane, maskOf, runThrough, behind, ahead}
+use Rattle.rounding.specs.Lengths.{_·_, dots}
+use Rattle.extents.specs.Extents.{Plane, maskOf, runThrough, behind, ahead}
 use Rattle.sorting.specs.Kinds.{glyphKind}
 
 -- the gap: round(`smear_xh` × unit)

@@ -12,7 +12,7 @@ use lib.ListN.{getD, length, set, take, drop, length-set, length-map, length-app
 use lib.Seq.{getD-take, getD-drop, length-take-le, drop-drop, drop-set-lt}
 use lib.Dec.{eqb, ltb}
 use Rattle.memory.specs.Lists.{countIf}
-use Rattle.labelling.specs.Labels.{isInk}
+use Rattle.memory.specs.Masks.{isInk}
 use Rattle.labelling.specs.InkRuns.{inkBefore, differ, appendIf, turns, runCount}
 use Rattle.labelling.specs.Extraction.{rowTurns, RowRoom, RowScan, ScanRoom, Scanned, RowExtracted, PlaneRoom, Extracted}
 use Rattle.labelling.proofs.CountLaws.{count-zero, count-full}

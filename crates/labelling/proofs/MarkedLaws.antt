@@ -16,7 +16,7 @@ use Rattle.memory.specs.Limits.{maxMaskDots}
 use Rattle.memory.proofs.TableLaws.{length-table, getD-table, table-ext}
 use Rattle.memory.proofs.PartLaws.{part-is-table}
 use Rattle.memory.proofs.CountLaws.{count-none}
-use Rattle.labelling.specs.Labels.{isInk}
+use Rattle.memory.specs.Masks.{isInk}
 use Rattle.labelling.specs.InkRuns.{differ, turns}
 use Rattle.labelling.specs.Extraction.{RowScan, ScanRoom, Scanned, TurnsTold, ToldRoom, ToldWritten, RowRoom, RowExtracted, PlaneRoom}
 use Rattle.labelling.specs.Marked.{passes, passing, rowPassing, MarkedScanRoom, MarkedScanned, MarkedRowRoom, MarkedRowLeft, MarkedRoom, MarkedLeft}

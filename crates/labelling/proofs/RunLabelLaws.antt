@@ -12,7 +12,8 @@ use lib.Dec.{eqb}
 use Rattle.memory.specs.Lists.{countIf, table}
 use Rattle.labelling.specs.Classes.{firsts}
 use Rattle.labelling.specs.Forests.{Named}
-use Rattle.labelling.specs.Labels.{isInk, touches, isFirst, labelAt, componentTo, labelling}
+use Rattle.memory.specs.Masks.{isInk}
+use Rattle.labelling.specs.Labels.{touches, isFirst, labelAt, componentTo, labelling}
 use Rattle.labelling.specs.InkRuns.{inkBefore, turns, runCount, runOf, startOf, endOf, Runs, touchRuns, isRoot, componentNumber, runLabel}
 use Rattle.memory.proofs.TableLaws.{table-ext}
 use Rattle.labelling.proofs.TouchLaws.{run-of, starts-rise}

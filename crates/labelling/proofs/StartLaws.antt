@@ -10,7 +10,7 @@ use lib.ListN.{getD, length, take, drop, length-append, length-map, length-drop}
 use lib.Seq.{length-take-le}
 use lib.Dec.{eqb}
 use Rattle.memory.specs.Lists.{countIf}
-use Rattle.labelling.specs.Labels.{isInk}
+use Rattle.memory.specs.Masks.{isInk}
 use Rattle.labelling.specs.InkRuns.{inkBefore, turns, opensRun, startsAfter, runCount}
 use Rattle.labelling.specs.Extraction.{rowTurns}
 use Rattle.labelling.proofs.CountLaws.{count-low}

@@ -14,7 +14,8 @@ use Rattle.memory.proofs.TableLaws.{length-table, getD-table}
 use Rattle.labelling.specs.Chains.{Chain, here, rise, fall, Firsts}
 use Rattle.labelling.specs.Classes.{firstOf, firsts}
 use Rattle.labelling.specs.Components.{noDots, absorbed}
-use Rattle.labelling.specs.Labels.{isInk, touches, isFirst, labelAt, componentTo, labelling}
+use Rattle.memory.specs.Masks.{isInk}
+use Rattle.labelling.specs.Labels.{touches, isFirst, labelAt, componentTo, labelling}
 use Rattle.labelling.specs.declared.component.Component.{Component}
 use Rattle.labelling.proofs.CountLaws.{count-up, count-one, count-reach}
 use Rattle.labelling.proofs.ExtremeLaws.{Least, Greatest, extreme, min-either, max-either}

@@ -11,7 +11,7 @@ use lib.ListN.{getD, length, set, take, drop, length-set, length-map, length-app
 use lib.Seq.{length-take-le, getD-set-same, getD-set-other, take-all, take-take, drop-drop, drop-set-lt}
 use lib.Dec.{ltb}
 use mir.Val.{boolByte}
-use Rattle.labelling.specs.Labels.{isInk}
+use Rattle.memory.specs.Masks.{isInk}
 use Rattle.labelling.specs.InkRuns.{inkBefore, differ, appendIf, turns}
 use Rattle.labelling.specs.Extraction.{RowScan, ScanRoom, Scanned, TurnsTold, toldTurns, ToldRoom, ToldWritten}
 use Rattle.labelling.proofs.TurnLaws.{bit}

@@ -13,7 +13,8 @@ use Rattle.memory.specs.Lists.{countIf}
 use Rattle.labelling.specs.Classes.{firstOf, firsts}
 use Rattle.labelling.specs.Chains.{Chain, here, rise, fall, Firsts}
 use Rattle.labelling.specs.Forests.{Named}
-use Rattle.labelling.specs.Labels.{isInk, touches, isFirst, labelAt}
+use Rattle.memory.specs.Masks.{isInk}
+use Rattle.labelling.specs.Labels.{touches, isFirst, labelAt}
 use Rattle.labelling.specs.InkRuns.{Runs, touchRuns, isRoot}
 use Rattle.labelling.proofs.FirstLaws.{chain-trans, chain-sym, firsts-right, firsts-unique}
 use Rattle.labelling.proofs.TouchLaws.{Near, near-of, near-to, near-cases, near-beside, run-of, starts-rise, beside-same, touch-up, touch-dots}

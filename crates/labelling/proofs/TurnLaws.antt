@@ -11,7 +11,7 @@ use lib.ListN.{getD, length, length-append, List·getD-append, List·getD-eq-def
 use lib.Seq.{getD-at}
 use lib.Dec.{eqb}
 use Rattle.memory.specs.Lists.{countIf}
-use Rattle.labelling.specs.Labels.{isInk}
+use Rattle.memory.specs.Masks.{isInk}
 use Rattle.labelling.specs.InkRuns.{inkBefore, differ, appendIf, turns, opensRun, runCount, runOf, startOf, endOf, Runs}
 use Rattle.labelling.proofs.TouchLaws.{row-same}
 

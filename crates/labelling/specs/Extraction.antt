@@ -5,7 +5,7 @@ use mathlib.Core.List.{List, [], _++_, map}
 use Prim.Native.Nat.{ℕ, zero, suc, _+_, _-_, _*_, _/_, _%_, _≤_, _<_}
 use lib.ListN.{getD, length, take, drop}
 use Rattle.memory.specs.Limits.{maxMaskSide, maxMaskDots}
-use Rattle.labelling.specs.Labels.{isInk}
+use Rattle.memory.specs.Masks.{isInk}
 use Rattle.labelling.specs.InkRuns.{inkBefore, differ, appendIf, turns, runCount}
 
 -- the words that the turns of a row w wide may take

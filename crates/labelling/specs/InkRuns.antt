@@ -6,7 +6,7 @@ use Prim.Native.Nat.{ℕ, zero, suc, _+_, _-_, _*_, _/_, _%_, _≤_, _<_}
 use lib.ListN.{getD}
 use lib.Dec.{eqb, leb}
 use Rattle.memory.specs.Lists.{countIf}
-use Rattle.labelling.specs.Labels.{isInk}
+use Rattle.memory.specs.Masks.{isInk}
 use Rattle.labelling.specs.Components.{noDots, absorbed}
 use Rattle.labelling.specs.declared.component.Component.{Component}
 

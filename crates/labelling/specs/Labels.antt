@@ -5,13 +5,10 @@ use mathlib.Core.List.{List}
 use lib.ListN.{getD}
 use lib.Dec.{eqb, ltb, leb}
 use Rattle.memory.specs.Lists.{table, countIf}
+use Rattle.memory.specs.Masks.{isInk}
 use Rattle.labelling.specs.Classes.{firstOf, firsts}
 use Rattle.labelling.specs.Components.{noDots, absorbed}
 use Rattle.labelling.specs.declared.component.Component.{Component}
-
--- any non-zero byte is ink
-unfoldable pub isInk : List ℕ → ℕ → Bool
-isInk m i = ltb 0 (getD m i 0)
 
 -- two ink dots whose columns and rows differ by at most one: 8-connected neighbours
 unfoldable pub touches : ℕ → List ℕ → ℕ → ℕ → Bool

@@ -4,7 +4,8 @@ use mathlib.Core.List.{List, [], _∷_}
 use Prim.Native.Nat.{ℕ}
 use Rattle.memory.specs.Lists.{table, upto, countIf}
 use Rattle.labelling.specs.Classes.{firstOf, renamed, join, joinIf, joinOne, joinAll, firsts}
-use Rattle.labelling.specs.Labels.{isInk, touches, isFirst, labelAt}
+use Rattle.memory.specs.Masks.{isInk}
+use Rattle.labelling.specs.Labels.{touches, isFirst, labelAt}
 use Rattle.labelling.specs.InkRuns.{inkBefore, differ, appendIf, turns, opensRun, runCount, runOf, startOf, endOf, touchRuns, isRoot, componentNumber, runLabel}
 
 -- 101 / 110: a run that ends a row and one that starts the next are two

@@ -6,7 +6,7 @@ ghost use Prim.Native.Nat.{_+_};
 ghost use lib.ListN.{length};
 ghost use lib.Dec.{eqb};
 ghost use Rattle.memory.specs.Lists.{countIf};
-ghost use Rattle.labelling.specs.Labels.{isInk};
+ghost use Rattle.memory.specs.Masks.{isInk};
 ghost use Rattle.labelling.specs.Extraction.{TurnsTold};
 ghost use Rattle.labelling.specs.Marked.{passes, passing, MarkedScanRoom, MarkedScanned, MarkedRowRoom, MarkedRowLeft, MarkedRoom, MarkedLeft};
 use crate::runs::smaller;

@@ -5,7 +5,7 @@ ghost use Prim.Native.Nat.{_+_, _≤_, min};
 ghost use lib.ListN.{length};
 ghost use lib.Dec.{eqb};
 ghost use Rattle.memory.specs.Lists.{countIf};
-ghost use Rattle.labelling.specs.Labels.{isInk};
+ghost use Rattle.memory.specs.Masks.{isInk};
 ghost use Rattle.labelling.specs.Extraction.{ScanRoom, Scanned, TurnsTold, ToldRoom, ToldWritten, RowRoom, RowExtracted, PlaneRoom, Extracted};
 
 // The dots of a block, which are counted at once.

@@ -14,3 +14,5 @@ pub mod RecordLaws
 pub mod FloatLaws
 -- a test that is passed
 pub mod RefusalLaws
+-- two tests that both pass
+pub mod BoolLaws

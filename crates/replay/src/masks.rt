@@ -1,9 +1,9 @@
 // The kinds of case that have a mask: labelling and run extents called by themselves.
 ghost use Prim.Native.Nat.{_<_};
 use crate::text;
+use extents::Along;
+use extents::ExtentsAnswer;
 use labelling::LabelAnswer;
-use sorting::Along;
-use sorting::ExtentsAnswer;
 
 // The most dots of a mask.
 const MOST_DOTS: usize = 1024;
@@ -187,7 +187,7 @@ fn extents_of_mask(
         return false;
     }
     read_mask(&body[MASK_FROM..], mask);
-    let answer = sorting::run_extents(mask, size.width, size.height, along, extents);
+    let answer = extents::run_extents(mask, size.width, size.height, along, extents);
     match answer {
         ExtentsAnswer::Done => hash(extents) == text::word(body, words - 1),
         ExtentsAnswer::Refused(_) => false,

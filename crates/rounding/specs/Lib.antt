@@ -7,3 +7,5 @@ pub mod Sums
 pub mod Drift
 -- worked values of all of these
 pub mod Examples
+-- lengths in f64: a count as a float, a product rounded once, a length in whole dots
+pub mod Lengths

@@ -12,7 +12,8 @@ use lib.Dec.{eqb}
 use Rattle.memory.specs.Lists.{upto, keep, countIf, occurs, total}
 use Rattle.memory.specs.Limits.{maxMaskDots}
 use Rattle.memory.proofs.CountLaws.{count-ext, occurs-table}
-use Rattle.labelling.specs.Labels.{isInk, labelling}
+use Rattle.memory.specs.Masks.{isInk}
+use Rattle.labelling.specs.Labels.{labelling}
 use Rattle.labelling.specs.Sizes.{HoldsSizes}
 use Rattle.labelling.proofs.SizeLaws.{size-at}
 use Rattle.labelling.proofs.Theorems.{label-within, label-blank, records-right}

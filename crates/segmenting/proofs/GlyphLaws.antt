@@ -18,7 +18,7 @@ use Rattle.memory.proofs.TableLaws.{length-table}
 use Rattle.labelling.specs.Rects.{height}
 use Rattle.labelling.specs.declared.rect.Rect.{Rect}
 use Rattle.sorting.specs.Units.{median}
-use Rattle.sorting.specs.Scans.{CountsOf}
+use Rattle.sorting.specs.Counts.{CountsOf}
 use Rattle.segmenting.specs.LineWords.{Filled, labelAt, boxAt, areaAt, glyphsAmong, glyphRecordAt, WrittenGlyph, WrittenGlyphs, ownGlyphs, ownInk, ownHeights, lineFields, lineRecordAt, OwnRoom, CountedHeight, LineRoom, KeptFrom}
 use Rattle.grouping.proofs.ListLaws.{Each, keep-snoc-yes, keep-snoc-no, keep-few, map-append}
 use Rattle.grouping.proofs.CountLaws.{occurs-same, occurs-other}

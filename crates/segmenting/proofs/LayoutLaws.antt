@@ -15,15 +15,16 @@ use Rattle.memory.specs.Words.{over}
 use Rattle.memory.proofs.RecordLaws.{length-encoded}
 use Rattle.memory.proofs.TableLaws.{length-table, getD-table}
 use Rattle.labelling.specs.Components.{noDots, boxOf}
-use Rattle.labelling.specs.Labels.{isInk, Labelling, labelling}
+use Rattle.memory.specs.Masks.{isInk}
+use Rattle.labelling.specs.Labels.{Labelling, labelling}
 use Rattle.labelling.specs.declared.component.Component.{Component}
 use Rattle.labelling.proofs.SizeLaws.{component-boxed}
 use Rattle.labelling.proofs.Theorems.{label-within, label-blank}
 use Rattle.params.specs.declared.LayoutParams.{LayoutParams}
 use Rattle.sorting.specs.Kinds.{glyphKind}
-use Rattle.sorting.specs.Lengths.{_·_, dots}
-use Rattle.sorting.specs.Extents.{Plane, maskOf}
-use Rattle.sorting.specs.Rulings.{afterCut}
+use Rattle.rounding.specs.Lengths.{_·_, dots}
+use Rattle.extents.specs.Extents.{Plane, maskOf}
+use Rattle.rulings.specs.Rulings.{afterCut}
 use Rattle.sorting.specs.Scratch.{horizontalAt, verticalAt, sizesAt, kindsAt, smoothedAt, glyphsAt, inkAfterCut}
 use Rattle.sorting.specs.Sorted.{sorted, rulesOf, graphicsOf, kindCounts}
 use Rattle.sorting.specs.Units.{unitValue}

@@ -13,14 +13,15 @@ use lib.Dec.{eqb}
 use Rattle.memory.specs.Lists.{countIf, occurs, greatest}
 use Rattle.memory.specs.Limits.{maxLines}
 use Rattle.memory.proofs.PartLaws.{tail-part, tail-put}
-use Rattle.labelling.specs.Labels.{Labelling, isInk, labelling}
+use Rattle.labelling.specs.Labels.{Labelling, labelling}
+use Rattle.memory.specs.Masks.{isInk}
 use Rattle.labelling.specs.InkRuns.{runOf}
 use Rattle.labelling.specs.Sizes.{HoldsSizes, SizesRoom, SizesLeft}
 use Rattle.labelling.specs.declared.rect.Rect.{Rect}
 use Rattle.labelling.proofs.SizeLaws.{component-boxed}
 use Rattle.labelling.proofs.Theorems.{label-within}
 use Rattle.params.specs.declared.LayoutParams.{LayoutParams}
-use Rattle.sorting.specs.Lengths.{_·_, dots}
+use Rattle.rounding.specs.Lengths.{_·_, dots}
 use Rattle.sorting.specs.Units.{unitValue}
 use Rattle.sorting.specs.Kinds.{glyphKind}
 use Rattle.sorting.specs.Sorted.{sorted}

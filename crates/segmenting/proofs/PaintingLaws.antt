@@ -11,7 +11,8 @@ use Rattle.memory.specs.Lists.{table}
 use Rattle.memory.specs.Words.{over}
 use Rattle.memory.proofs.TableLaws.{length-table, table-ext}
 use Rattle.memory.proofs.PartLaws.{over-all, part-is-table, part-filled}
-use Rattle.labelling.specs.Labels.{isInk, labelling}
+use Rattle.memory.specs.Masks.{isInk}
+use Rattle.labelling.specs.Labels.{labelling}
 use Rattle.labelling.specs.InkRuns.{startOf, endOf}
 use Rattle.labelling.proofs.Theorems.{label-within}
 use Rattle.labelling.proofs.RunLabelLaws.{gap-blank}

@@ -11,7 +11,7 @@ use borrow.Author.Tests.{le-leb, lt-leb}
 use lib.ListN.{getD}
 use lib.Dec.{eqb}
 use Rattle.memory.proofs.PlaneLaws.{dot-row}
-use Rattle.labelling.specs.Labels.{isInk}
+use Rattle.memory.specs.Masks.{isInk}
 use Rattle.labelling.specs.InkRuns.{inkBefore, turns, runCount, runOf, endOf, Runs}
 use Rattle.labelling.proofs.CountLaws.{count-low}
 use Rattle.labelling.proofs.TouchLaws.{starts-rise}

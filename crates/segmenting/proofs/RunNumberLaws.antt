@@ -10,7 +10,8 @@ use borrow.Author.Tests.{eq-eqb, ne-eqb}
 use lib.ListN.{getD, length}
 use Rattle.memory.specs.Lists.{table, indexFrom}
 use Rattle.memory.proofs.TableLaws.{getD-table, length-table}
-use Rattle.labelling.specs.Labels.{isInk, labelling}
+use Rattle.memory.specs.Masks.{isInk}
+use Rattle.labelling.specs.Labels.{labelling}
 use Rattle.labelling.specs.InkRuns.{turns, runCount, runOf, startOf, endOf, Runs, isRoot, componentNumber, runLabel}
 use Rattle.labelling.specs.Linking.{touching, firstRun}
 use Rattle.labelling.proofs.CountLaws.{count-up, count-one}

@@ -10,9 +10,10 @@ use borrow.Author.Tests.{lt-ltb}
 use lib.ListN.{getD}
 use lib.Dec.{eqb, leb}
 use Rattle.memory.proofs.PlaneLaws.{dot-column, dot-row, dot-inside}
-use Rattle.labelling.specs.Labels.{isInk, labelling}
+use Rattle.memory.specs.Masks.{isInk}
+use Rattle.labelling.specs.Labels.{labelling}
 use Rattle.sorting.specs.Kinds.{glyphKind}
-use Rattle.sorting.proofs.MaskLaws.{isInk-maskOf}
+use Rattle.extents.proofs.MaskLaws.{isInk-maskOf}
 use Rattle.grouping.specs.Smoothing.{glyphAt, joined, smoothed}
 use Rattle.segmenting.specs.RowRuns.{glyphDot, GlyphPlane}
 use Rattle.grouping.proofs.JoinLaws.{joined-on, joined-between, joined-before, joined-after}

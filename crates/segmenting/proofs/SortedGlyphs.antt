@@ -19,7 +19,8 @@ use Rattle.memory.proofs.CountLaws.{count-none}
 use Rattle.memory.proofs.TableLaws.{length-table, getD-table}
 use Rattle.labelling.specs.Rects.{width, height}
 use Rattle.labelling.specs.Components.{noDots, boxOf}
-use Rattle.labelling.specs.Labels.{isInk, labelling}
+use Rattle.memory.specs.Masks.{isInk}
+use Rattle.labelling.specs.Labels.{labelling}
 use Rattle.labelling.specs.InkRuns.{turns, runCount, runOf, startOf}
 use Rattle.labelling.specs.Sizes.{HoldsRuns, HoldsNumbers}
 use Rattle.labelling.specs.declared.component.Component.{Component}
@@ -29,13 +30,13 @@ use Rattle.labelling.proofs.SizeLaws.{held-runs, held-few, held-dots, held-star
 use Rattle.params.specs.Valid as sheet
 use Rattle.params.specs.Facts.{ValidSheet}
 use Rattle.params.specs.declared.LayoutParams.{LayoutParams}
-use Rattle.sorting.specs.Lengths.{float, _·_}
-use Rattle.sorting.specs.Rulings.{runMin, thickMax, cutHorizontal, cutVertical, afterCut}
+use Rattle.rounding.specs.Lengths.{float, _·_}
+use Rattle.rulings.specs.Rulings.{runMin, thickMax, cutHorizontal, cutVertical, afterCut}
 use Rattle.sorting.specs.Units.{sideExtent, unitOf, unitValue}
 use Rattle.sorting.specs.Kinds.{cutKind, glyphKind, isRule, isGraphic, kindOf, kindAt}
 use Rattle.sorting.specs.Sorted.{sorted}
 use Rattle.sorting.specs.Scratch.{inkAfterCut}
-use Rattle.sorting.proofs.MaskLaws.{afterCut-ink}
+use Rattle.rulings.proofs.RulingMasks.{afterCut-ink}
 use Rattle.grouping.specs.Lines.{firstDot}
 use Rattle.segmenting.specs.RowRuns.{glyphDot, glyphRun, glyphRuns, GlyphPlane}
 use Rattle.grouping.proofs.BlockLaws.{getD-map}

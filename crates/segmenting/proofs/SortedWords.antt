@@ -15,7 +15,8 @@ use Rattle.memory.specs.Limits.{maxMaskDots}
 use Rattle.memory.proofs.TableLaws.{length-table, getD-table, table-ext}
 use Rattle.memory.proofs.RecordLaws.{record-at}
 use Rattle.labelling.specs.Components.{noDots, boxOf}
-use Rattle.labelling.specs.Labels.{isInk, labelling}
+use Rattle.memory.specs.Masks.{isInk}
+use Rattle.labelling.specs.Labels.{labelling}
 use Rattle.labelling.specs.Sizes.{HoldsSizes}
 use Rattle.labelling.specs.declared.rect.Rect.{Rect}
 use Rattle.labelling.specs.declared.component.Component.{Component}
@@ -23,11 +24,11 @@ use Rattle.labelling.proofs.SizeLaws.{size-at, component-boxed}
 use Rattle.labelling.proofs.Theorems.{label-within, label-blank}
 use Rattle.params.specs.declared.LayoutParams.{LayoutParams}
 use Rattle.sorting.specs.Kinds.{kindOf, kindAt, ruleKind}
-use Rattle.sorting.specs.Rulings.{runMin, thickMax, cutHorizontal, cutVertical, afterCut}
+use Rattle.rulings.specs.Rulings.{runMin, thickMax, cutHorizontal, cutVertical, afterCut}
 use Rattle.sorting.specs.Units.{unitOf, unitValue}
 use Rattle.sorting.specs.Scratch.{packed, inkAfterCut}
 use Rattle.sorting.specs.Sorted.{sorted, boxesOf, rulesOf}
-use Rattle.sorting.proofs.MaskLaws.{horizontal-blank, vertical-blank, afterCut-ink}
+use Rattle.rulings.proofs.RulingMasks.{horizontal-blank, vertical-blank, afterCut-ink}
 use Rattle.segmenting.specs.Results.{heldBox, heldKind, KindsHeld, ofKind, heldBoxes, heldArea, unpackedBox, unpackedBoxes, heldRules, paintedKind}
 use Rattle.grouping.proofs.BlockLaws.{getD-map}
 use Rattle.grouping.proofs.ListLaws.{keep-snoc-yes, keep-snoc-no, map-append}

@@ -9,7 +9,7 @@ use native.Mathlib.Omega.{arith}
 use borrow.Author.Tests.{eq-eqb, ne-eqb}
 use lib.ListN.{length}
 use lib.Dec.{eqb}
-use Rattle.labelling.specs.Labels.{isInk}
+use Rattle.memory.specs.Masks.{isInk}
 use Rattle.labelling.specs.InkRuns.{inkBefore, differ, appendIf, turns, runCount}
 use Rattle.labelling.proofs.TurnLaws.{bit, scanned, snoc-len}
 use Rattle.labelling.proofs.ScanLaws.{turns-inner, inkBefore-inner}

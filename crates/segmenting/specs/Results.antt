@@ -8,7 +8,8 @@ use lib.Dec.{eqb}
 use Rattle.memory.specs.Lists.{table, upto, keep, total}
 use Rattle.memory.specs.Words.{over}
 use Rattle.memory.specs.Records.{encoded}
-use Rattle.labelling.specs.Labels.{isInk, labelling}
+use Rattle.memory.specs.Masks.{isInk}
+use Rattle.labelling.specs.Labels.{labelling}
 use Rattle.labelling.specs.InkRuns.{startOf, endOf}
 use Rattle.labelling.specs.Sizes.{HoldsNumbers}
 use Rattle.labelling.specs.declared.rect.Rect.{Rect}

@@ -13,12 +13,13 @@ use lib.Dec.{eqb}
 use Rattle.memory.specs.Lists.{table, countIf, occurs, total}
 use Rattle.memory.proofs.TableLaws.{length-table, getD-table}
 use Rattle.labelling.specs.Components.{noDots}
-use Rattle.labelling.specs.Labels.{isInk, labelling}
+use Rattle.memory.specs.Masks.{isInk}
+use Rattle.labelling.specs.Labels.{labelling}
 use Rattle.labelling.specs.declared.component.Component.{Component}
 use Rattle.labelling.proofs.Theorems.{label, count, label-within, label-blank, records-right}
 use Rattle.labelling.proofs.SizeLaws.{component-boxed}
 use Rattle.sorting.specs.Measures.{BoxInside}
-use Rattle.sorting.proofs.MaskLaws.{ink-count}
+use Rattle.extents.proofs.MaskLaws.{ink-count}
 use Rattle.sorting.proofs.AreaLaws.{total-more}
 
 -- each has a dot, so that its box is one of dots of the mask

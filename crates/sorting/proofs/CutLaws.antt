@@ -8,14 +8,15 @@ use lib.ListN.{getD, drop}
 use lib.Seq.{getD-drop}
 use lib.Dec.{eqb, ltb}
 use Rattle.memory.proofs.TableLaws.{table-ext}
-use Rattle.labelling.specs.Labels.{isInk}
+use Rattle.memory.specs.Masks.{isInk}
 use Rattle.labelling.specs.Marked.{passes, passing}
 use Rattle.labelling.specs.declared.marked.Test.{Test}
 use Rattle.labelling.specs.declared.marked.Test.the-variants.{First, Second, Neither}
-use Rattle.sorting.specs.Extents.{Plane, maskOf}
-use Rattle.sorting.specs.Rulings.{cutHorizontal, cutVertical, afterCut, cutMark}
+use Rattle.extents.specs.Extents.{Plane, maskOf}
+use Rattle.rulings.specs.Rulings.{cutHorizontal, cutVertical, afterCut, cutMark}
 use Rattle.sorting.specs.Scratch.{marksAt, horizontalAt}
-use Rattle.sorting.proofs.MaskLaws.{isInk-maskOf, horizontal-blank, vertical-blank, afterCut-ink}
+use Rattle.extents.proofs.MaskLaws.{isInk-maskOf}
+use Rattle.rulings.proofs.RulingMasks.{horizontal-blank, vertical-blank, afterCut-ink}
 use Rattle.sorting.specs.Sortings.{passed}
 
 -- the same marks pass the same dots

@@ -18,9 +18,9 @@ use Rattle.labelling.specs.Rects.{height}
 use Rattle.labelling.specs.Components.{boxOf}
 use Rattle.labelling.specs.declared.component.Component.{Component}
 use Rattle.params.specs.declared.LayoutParams.{LayoutParams}
-use Rattle.sorting.specs.Lengths.{float}
+use Rattle.rounding.specs.Lengths.{float}
 use Rattle.sorting.specs.Units.{measurable, median, unitFrom, unitOf}
-use Rattle.sorting.specs.Scans.{CountsOf, BoxFits}
+use Rattle.sorting.specs.Counts.{CountsOf, BoxFits}
 use Rattle.sorting.specs.declared.Unit.the-variants.{Measured, Assumed}
 use Rattle.sorting.specs.Measures.{Within, Stored, sizedAt, sizedFrom, BoxInside, SizesInside, measuredHeights, HeightsCounted}
 use Rattle.sorting.proofs.StoredLaws.{within-none, within-set, within-trans, within-wider}

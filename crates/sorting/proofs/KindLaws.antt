@@ -13,16 +13,18 @@ use Rattle.memory.proofs.TableLaws.{length-table, getD-table}
 use Rattle.labelling.specs.Classes.{firsts}
 use Rattle.labelling.specs.Rects.{width, height}
 use Rattle.labelling.specs.Components.{boxOf}
-use Rattle.labelling.specs.Labels.{isInk, touches, isFirst, labelAt, labelling}
+use Rattle.memory.specs.Masks.{isInk}
+use Rattle.labelling.specs.Labels.{touches, isFirst, labelAt, labelling}
 use Rattle.labelling.specs.declared.component.Component.{Component}
 use Rattle.params.specs.declared.LayoutParams.{LayoutParams}
-use Rattle.sorting.specs.Rulings.{cutHorizontal, cutVertical, afterCut, runMin, thickMax}
+use Rattle.rulings.specs.Rulings.{cutHorizontal, cutVertical, afterCut, runMin, thickMax}
 use Rattle.sorting.specs.Units.{unitOf, unitValue}
 use Rattle.sorting.specs.Kinds.{kindOf, kindAt, isRule, isGraphic}
 use Rattle.sorting.specs.Sorted.{sorted, kindCounts}
 use Rattle.sorting.proofs.LabelFacts.{label-in, label-none}
 use Rattle.memory.proofs.CountLaws.{occurs-by-place}
-use Rattle.sorting.proofs.MaskLaws.{ink-count, horizontal-blank, vertical-blank, afterCut-ink}
+use Rattle.extents.proofs.MaskLaws.{ink-count}
+use Rattle.rulings.proofs.RulingMasks.{horizontal-blank, vertical-blank, afterCut-ink}
 
 -- a dot's kind goes with its ink: blank and 0, or ink and one of 1 to 5
 pub data KindOfDot : Bool → ℕ → Type 0 where

@@ -1,24 +1,18 @@
 -- What the labelling gives: an ink dot has a label from 1 to the number of components, a blank dot has 0.
-use mathlib.Core.Path.{_≡_, refl, sym}
+use mathlib.Core.Path.{_≡_, sym}
 use mathlib.Core.List.{List}
-use mathlib.Core.Bool.{Bool, true, false, _&&_, true≢false}
+use mathlib.Core.Bool.{true, false}
 use Prim.Native.Nat.{ℕ, suc, _≤_, _<_}
 use native.Mathlib.Omega.{arith}
 use borrow.Author.Tests.{eq-eqb}
 use Rattle.memory.specs.Lists.{countIf}
+use Rattle.memory.proofs.BoolLaws.{and-left, and-right}
 use Rattle.labelling.specs.Classes.{firstOf, firsts}
-use Rattle.labelling.specs.Labels.{isInk, touches, isFirst, labelAt}
+use Rattle.memory.specs.Masks.{isInk}
+use Rattle.labelling.specs.Labels.{touches, isFirst, labelAt}
 use Rattle.labelling.specs.Chains.{Chain, here, rise, fall, Firsts}
 use Rattle.labelling.proofs.FirstLaws.{firsts-right, along}
 use Rattle.labelling.proofs.CountLaws.{count-up}
-
-pub and-left : (a b : Bool) → (a && b) ≡ true → a ≡ true
-and-left true b e = refl
-and-left false b e = e
-
-pub and-right : (a b : Bool) → (a && b) ≡ true → b ≡ true
-and-right true b e = e
-and-right false b e = absurd (true≢false (sym e))
 
 touch-ink : (w : ℕ) (m : List ℕ) (a b : ℕ) → touches w m a b ≡ true → (isInk m a ≡ true) × (isInk m b ≡ true)
 unfolding touches

@@ -1,24 +1,5 @@
 -- what the labelling gives
 pub mod LabelFacts
--- dots of a plane and masks of tests
-pub mod MaskLaws
--- a table over the front of a list, while a loop fills it
-pub mod OverLaws
--- runs of places that pass a test
-pub mod RunLaws
--- extents, run by run along a row
-pub mod ExtentLaws
--- entries of a function put into a part of a list
-pub mod PutLaws
--- extents along columns, by counts down and up, band by band
-pub mod BandLaws
-pub mod CrowdedLaws
--- run extents called by themselves: refused, or done
-pub mod AnswerLaws
--- rows or columns walked alike: marks, runs from probes, extents kept
-pub mod SweepLaws
--- columns walked row by row: counters, and the marks one row more brings
-pub mod ColumnLaws
 -- the median by counts
 pub mod Medians
 -- words stored one after the other from a place on

@@ -12,7 +12,7 @@ use lib.Dec.{eqb, ltb, leb}
 use lib.Seq.{take-suc}
 use Rattle.memory.specs.Lists.{insertBy, sortBy, occurs, total}
 use Rattle.sorting.specs.Units.{median}
-use Rattle.sorting.specs.Scans.{CountsOf}
+use Rattle.sorting.specs.Counts.{CountsOf}
 
 -- how many entries lie below v
 unfoldable pub below : ℕ → List ℕ → ℕ

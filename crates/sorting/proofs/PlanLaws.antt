@@ -10,7 +10,7 @@ use Rattle.labelling.specs.Marked.{MarkedRoom}
 use Rattle.labelling.specs.Sizes.{HoldsRuns, SizesRoom}
 use Rattle.labelling.proofs.SizeLaws.{held-dots}
 use Rattle.params.specs.declared.LayoutParams.{LayoutParams}
-use Rattle.sorting.specs.Scans.{RulingsRoom}
+use Rattle.rulings.specs.Sweeps.{RulingsRoom}
 use Rattle.sorting.specs.Scratch.{SortRoom, marksAt, sizesAt}
 use Rattle.sorting.specs.Sortings.{FrameRoom}
 

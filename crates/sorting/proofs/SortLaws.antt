@@ -20,13 +20,13 @@ use Rattle.labelling.specs.declared.marked.Test.{Test}
 use Rattle.labelling.specs.declared.marked.Test.the-variants.{First, Second, Neither}
 use Rattle.labelling.proofs.CountLaws.{count-low}
 use Rattle.params.specs.declared.LayoutParams.{LayoutParams}
-use Rattle.sorting.specs.Rulings.{runMin, thickMax, cutHorizontal, cutVertical, cutMark}
+use Rattle.rulings.specs.Rulings.{runMin, thickMax, cutHorizontal, cutVertical, cutMark}
 use Rattle.sorting.specs.Units.{unitOf, unitValue}
 use Rattle.sorting.specs.Kinds.{kindOf}
 use Rattle.sorting.specs.Sorted.{sorted}
 use Rattle.sorting.specs.Scratch.{marksAt, horizontalAt, verticalAt, sizesAt, kindsAt, packed, inkAfterCut, mostComponents}
 use Rattle.sorting.specs.declared.Unit.{Unit}
-use Rattle.sorting.proofs.OverLaws.{over-at}
+use Rattle.extents.proofs.OverLaws.{over-at}
 use Rattle.sorting.specs.declared.sort.Cuts.{Cuts}
 use Rattle.sorting.specs.declared.sort.SortAnswer.{SortAnswer}
 use Rattle.sorting.specs.declared.sort.SortAnswer.the-variants.{Sorted, TooMany}

@@ -7,10 +7,10 @@ use lib.ListN.{getD}
 use lib.Dec.{ltb}
 use Rattle.labelling.specs.Rects.{width, height}
 use Rattle.labelling.specs.Components.{boxOf}
-use Rattle.labelling.specs.Labels.{isInk}
+use Rattle.memory.specs.Masks.{isInk}
 use Rattle.labelling.specs.declared.component.Component.{Component}
 use Rattle.params.specs.declared.LayoutParams.{LayoutParams}
-use Rattle.sorting.specs.Lengths.{float, _·_}
+use Rattle.rounding.specs.Lengths.{float, _·_}
 use Rattle.sorting.specs.Units.{sideExtent}
 
 -- in a cut mask

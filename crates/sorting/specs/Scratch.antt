@@ -12,7 +12,7 @@ use Rattle.labelling.specs.Sizes.{HoldsNumbers, HoldsSizes}
 use Rattle.labelling.specs.declared.rect.Rect.{Rect}
 use Rattle.params.specs.Facts.{ValidSheet}
 use Rattle.params.specs.declared.LayoutParams.{LayoutParams}
-use Rattle.sorting.specs.Rulings.{runMin, thickMax, cutHorizontal, cutVertical, afterCut}
+use Rattle.rulings.specs.Rulings.{runMin, thickMax, cutHorizontal, cutVertical, afterCut}
 use Rattle.sorting.specs.Units.{unitOf, unitValue}
 use Rattle.sorting.specs.Sorted.{Sorted, sorted}
 use Rattle.sorting.specs.declared.Unit.{Unit}

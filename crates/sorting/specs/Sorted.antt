@@ -8,7 +8,7 @@ use Rattle.labelling.specs.Labels.{Labelling, labelling}
 use Rattle.labelling.specs.declared.rect.Rect.{Rect}
 use Rattle.labelling.specs.declared.component.Component.{Component}
 use Rattle.params.specs.declared.LayoutParams.{LayoutParams}
-use Rattle.sorting.specs.Rulings.{runMin, thickMax, cutHorizontal, cutVertical, afterCut}
+use Rattle.rulings.specs.Rulings.{runMin, thickMax, cutHorizontal, cutVertical, afterCut}
 use Rattle.sorting.specs.Units.{unitOf, unitValue}
 use Rattle.sorting.specs.Kinds.{kindOf, kindAt, cutKind, ruleKind, graphicKind, glyphKind, speckKind}
 use Rattle.sorting.specs.declared.Unit.{Unit}

@@ -14,7 +14,7 @@ use Rattle.labelling.specs.declared.component.Component.{Component}
 use Rattle.labelling.specs.declared.marked.Test.{Test}
 use Rattle.labelling.specs.declared.marked.Test.the-variants.{Neither}
 use Rattle.params.specs.declared.LayoutParams.{LayoutParams}
-use Rattle.sorting.specs.Rulings.{cutHorizontal, cutVertical, afterCut}
+use Rattle.rulings.specs.Rulings.{cutHorizontal, cutVertical, afterCut}
 use Rattle.sorting.specs.Units.{unitOf, unitValue}
 use Rattle.sorting.specs.Kinds.{kindOf}
 use Rattle.sorting.specs.Sorted.{sorted}

@@ -10,7 +10,7 @@ use Rattle.labelling.specs.Rects.{width, height}
 use Rattle.labelling.specs.Components.{boxOf}
 use Rattle.labelling.specs.declared.component.Component.{Component}
 use Rattle.params.specs.declared.LayoutParams.{LayoutParams}
-use Rattle.sorting.specs.Lengths.{float, _·_}
+use Rattle.rounding.specs.Lengths.{float, _·_}
 use Rattle.sorting.specs.declared.Unit.{Unit}
 use Rattle.sorting.specs.declared.Unit.the-variants.{Measured, Assumed}
 

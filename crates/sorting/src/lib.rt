@@ -1,22 +1,14 @@
-// Sorting: thin rulings, the x-height and the kind of each component (layout.rs). The functions come with their proofs; what they
-// must do is in specs/.
+// Sorting: the x-height and the kind of each component, and a whole ink plane sorted (layout.rs). What the functions must do is in
+// specs/.
 
 ghost use mathlib.Core.Path.{_≡_};
 ghost use Rattle.sorting.specs.Units.{unitValue};
 
-mod bands;
-mod columns;
-mod crowded;
-mod extents;
 mod kinds;
 mod measure;
 mod median;
-mod rulings;
 mod sort;
 
-pub use extents::Along;
-pub use extents::ExtentsAnswer;
-pub use extents::run_extents;
 pub use kinds::is_measurable;
 pub use kinds::kind_by_size;
 pub use kinds::kind_of;
@@ -29,7 +21,6 @@ pub use measure::packed_box;
 pub use measure::total_area;
 pub use measure::write_kinds;
 pub use median::median_of_counts;
-pub use rulings::thin_rulings;
 pub use sort::CutAnswer;
 pub use sort::Cuts;
 pub use sort::SortAnswer;

@@ -10,7 +10,7 @@ ghost use Rattle.labelling.specs.Components.{boxOf};
 ghost use Rattle.labelling.specs.declared.component.Component.{Component};
 ghost use Rattle.sorting.specs.Units.{unitOf, unitFrom, unitValue, measurable};
 ghost use Rattle.sorting.specs.Kinds.{kindOf};
-ghost use Rattle.sorting.specs.Scans.{CountsOf};
+ghost use Rattle.sorting.specs.Counts.{CountsOf};
 ghost use Rattle.sorting.specs.Measures.{Within, Stored, sizedAt, sizedFrom, BoxInside, SizesInside, HeightsCounted, boxWord, unpacked};
 use crate::Unit;
 use crate::kinds::is_measurable;

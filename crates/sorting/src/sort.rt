@@ -12,12 +12,12 @@ use crate::measure::measure_unit;
 use crate::measure::pack_boxes;
 use crate::measure::total_area;
 use crate::measure::write_kinds;
-use crate::rulings::thin_rulings;
 use labelling::Test;
 use labelling::extract_marked;
 use labelling::extract_runs;
 use labelling::label_sizes;
 use params::LayoutParams;
+use rulings::thin_rulings;
 
 // The unit, the dots of ink before the cut, how many cuts of each kind, and the runs and components after the cut.
 pub struct Sorting {

@@ -3,7 +3,7 @@ use mathlib.Core.Path.{sym, subst}
 use lib.ListN.{getD, take, length-take}
 use lib.Seq.{length-take-le}
 use Rattle.memory.proofs.TableLaws.{length-table}
-use Rattle.sorting.specs.Scans.{CountsOf}
+use Rattle.sorting.specs.Counts.{CountsOf}
 use Rattle.grouping.specs.Words.{lineWords, fields}
 use Rattle.grouping.proofs.ListLaws.{each-table}
 use Rattle.grouping.proofs.MedianWords.{counts-of}

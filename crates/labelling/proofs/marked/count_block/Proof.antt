@@ -2,7 +2,7 @@ use borrow.Author.Needs.{needs}
 use borrow.Author.Tests.{eqb-true}
 use mathlib.Core.Path.{sym, ap, _∙_}
 use Rattle.memory.specs.Lists.{countIf}
-use Rattle.labelling.specs.Labels.{isInk}
+use Rattle.memory.specs.Masks.{isInk}
 use Rattle.labelling.specs.Marked.{passing}
 use Rattle.labelling.proofs.MarkedLaws.{passing-blank}
 use Rattle.labelling.proofs.marked.count_block.Statement.{statement}

@@ -4,7 +4,7 @@ use mathlib.Core.Path.{_≡_, ap, _∙_}
 use Prim.Native.Nat.{_-_, _≤_}
 use lib.ListN.{getD}
 use Rattle.memory.specs.Lists.{countIf}
-use Rattle.labelling.specs.Labels.{isInk}
+use Rattle.memory.specs.Masks.{isInk}
 use Rattle.labelling.specs.Marked.{passes, passing}
 use Rattle.labelling.proofs.ExtractLaws.{ink-none}
 use Rattle.labelling.proofs.MarkedLaws.{bit-least, passing-more}

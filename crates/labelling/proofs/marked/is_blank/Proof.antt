@@ -5,7 +5,7 @@ use Prim.Native.Nat.{_-_, _≤_}
 use lib.ListN.{getD}
 use lib.Dec.{eqb, ltb}
 use Rattle.memory.specs.Lists.{countIf}
-use Rattle.labelling.specs.Labels.{isInk}
+use Rattle.memory.specs.Masks.{isInk}
 use Rattle.labelling.proofs.ExtractLaws.{ink-none}
 use Rattle.labelling.proofs.MarkedLaws.{byte-small, byte-more}
 use Rattle.labelling.proofs.marked.is_blank.Statement.{statement}

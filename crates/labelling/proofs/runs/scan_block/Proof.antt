@@ -3,7 +3,7 @@ use mathlib.Core.Path.{ap, _∙_}
 use Prim.Native.Nat.{_+_, _-_}
 use lib.ListN.{take, drop}
 use Rattle.memory.specs.Lists.{countIf}
-use Rattle.labelling.specs.Labels.{isInk}
+use Rattle.memory.specs.Masks.{isInk}
 use Rattle.labelling.proofs.ExtractLaws.{block-still, block-long}
 use Rattle.labelling.proofs.ToldLaws.{block-count, told-room, written-scanned}
 use Rattle.labelling.proofs.runs.scan_block.Statement.{statement}

@@ -1,5 +1,5 @@
 use native.Mathlib.Omega.{arith}
-use Rattle.sorting.specs.Rulings.{runMin}
+use Rattle.rulings.specs.Rulings.{runMin}
 use borrow.Author.Needs.{needs}
 use Rattle.sorting.proofs.kinds.run_min.Statement.{statement}
 use Rattle.sorting.proofs.kinds.run_min.Tie as tie

@@ -1,5 +1,5 @@
 use native.Mathlib.Omega.{arith}
-use Rattle.sorting.specs.Rulings.{thickMax}
+use Rattle.rulings.specs.Rulings.{thickMax}
 use borrow.Author.Needs.{needs}
 use Rattle.sorting.proofs.kinds.thick_max.Statement.{statement}
 use Rattle.sorting.proofs.kinds.thick_max.Tie as tie

@@ -5,7 +5,7 @@ use mathlib.Core.Path.{ap, _∙_}
 use lib.ListN.{getD}
 use Rattle.labelling.specs.Rects.{height}
 use Rattle.labelling.specs.declared.rect.Rect.{Rect}
-use Rattle.sorting.proofs.ExtentLaws.{bit-le}
+use Rattle.extents.proofs.ExtentLaws.{bit-le}
 use Rattle.sorting.proofs.HeightLaws.{bit-cond, height-set}
 use Rattle.sorting.proofs.measure.count_height.Statement.{statement}
 use Rattle.sorting.proofs.measure.count_height.Tie as tie

@@ -2,7 +2,7 @@ use native.Mathlib.Omega.{arith}
 use Prim.Native.Nat.{_+_, _-_, _≤_, _<_, zero-le}
 use mathlib.Core.Path.{_≡_, refl, sym, ap, _∙_, subst}
 use Rattle.labelling.specs.declared.component.Component.{Component}
-use Rattle.sorting.specs.Scans.{BoxFits}
+use Rattle.sorting.specs.Counts.{BoxFits}
 use Rattle.sorting.specs.Units.{unitValue}
 use Rattle.sorting.specs.Kinds.{kindOf}
 use Rattle.sorting.specs.Measures.{Stored, sizedAt}

@@ -3,7 +3,7 @@ use borrow.Author.Needs.{needs}
 use Prim.Native.Nat.{ℕ, _≤_}
 use mathlib.Core.Path.{sym, ap, _∙_, subst}
 use Rattle.sorting.specs.Units.{unitValue}
-use Rattle.sorting.specs.Rulings.{runMin, thickMax}
+use Rattle.rulings.specs.Rulings.{runMin, thickMax}
 use Rattle.sorting.specs.Sortings.{cutsLeft}
 use Rattle.sorting.specs.declared.sort.CutAnswer.{CutAnswer}
 use Rattle.sorting.proofs.PlanLaws.{plan-extract, plan-sizes, plan-down, plan-dots, frame-of, frame-kept}

@@ -1,0 +1,14 @@
+// Run extents (layout.rs, extent_through): the length of the run of ink through each dot of a mask, along rows or columns.
+mod bands;
+mod crowded;
+mod entry;
+mod rows;
+mod words;
+
+pub use entry::Along;
+pub use entry::ExtentsAnswer;
+pub use entry::run_extents;
+pub use words::area;
+pub use words::capped;
+pub use words::fill;
+pub use words::stretch_end;

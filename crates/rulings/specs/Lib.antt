@@ -1,0 +1,4 @@
+-- thin rulings: the two cut masks and the ink after the cut
+pub mod Rulings
+-- rows or columns walked alike
+pub mod Sweeps

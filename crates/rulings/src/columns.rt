@@ -1,0 +1,353 @@
+// Thin rulings down the columns, row by row: the dots of a row lie side by side, those of a column a row apart. A counter a column
+// holds the length of the widened run that ends in this row.
+ghost use mathlib.Core.Path.{_≡_};
+ghost use mathlib.Core.Bool.{cond, true, false, _||_};
+ghost use Prim.Native.Nat.{ℕ, _+_, _*_, _-_, _≤_, _<_, min};
+ghost use lib.ListN.{length, getD, set, take, drop};
+ghost use lib.Dec.{ltb};
+ghost use Rattle.extents.specs.Extents.{behind, ahead, runThrough};
+ghost use Rattle.rulings.specs.Sweeps.{spotOf, planeOf, widenedLine, isThin, isRuling, Laid, Marked, UpTo, Counted, CountedOn, Recounted, Risen};
+use crate::lines::Sweep;
+use crate::lines::is_ink;
+use crate::lines::is_widened;
+use crate::lines::run_start;
+use crate::lines::spot;
+use extents::fill;
+use extents::stretch_end;
+
+// Down every column, some stretches of columns at a time.
+pub fn mark_columns(
+    ink: &[u8],
+    words: &mut [u32],
+    marks: usize,
+    g: Sweep,
+    run_min: u32,
+    thick_max: u32,
+)
+    requires { ⌜ (Laid g (length (now ink))) × (g .across ≡ 1) × (0 < «run_min») × (UpTo g (length (now ink)) (drop marks (now words)) 2) × (g .outer ≤ marks) × (marks ≤ length (now words)) ⌝ }
+    ensures { λ _. ⌜ Marked g (length (now (ink .entry))) (isRuling g (now (ink .entry)) «run_min» «thick_max») 2 (drop marks (now (words .entry))) (drop marks (now (words .exit))) 0 (g .outer * g .inner) ⌝ }
+{
+    let outer = g.outer;
+    let mut a: usize = 0;
+    while a < outer {
+        a = mark_stretches(ink, words, marks, g, a, run_min, thick_max);
+    }
+}
+
+// The stretch from column a on, and those behind it that have a long run as it has: their rows are walked at once, dot after dot.
+// Without a long run no row is walked. Answers where the next stretch starts.
+fn mark_stretches(
+    ink: &[u8],
+    words: &mut [u32],
+    marks: usize,
+    g: Sweep,
+    a: usize,
+    run_min: u32,
+    thick_max: u32,
+) -> usize
+    requires { ⌜ (Laid g (length (now ink))) × (g .across ≡ 1) × (a < g .outer) × (0 < «run_min») × (UpTo g (length (now ink)) (drop marks (now words)) 4) × (g .outer ≤ marks) × (marks ≤ length (now words)) ⌝ }
+    ensures { λ r. ⌜ (a < r) × (r ≤ g .outer) × (Risen g (now (ink .entry)) «run_min» «thick_max» a r 0 (g .inner) (drop marks (now (words .entry))) (drop marks (now (words .exit)))) ⌝ }
+{
+    let least = run_min as usize;
+    let b = stretch_end(a, g.outer);
+    if !any_long_run(ink, g, a, b, least) {
+        return b;
+    }
+    let end = long_end(ink, g, b, least);
+    mark_rows(ink, words, marks, g, a, end, run_min, thick_max);
+    end
+}
+
+// Where the stretches from column `from` on end that have a long run each.
+fn long_end(ink: &[u8], g: Sweep, from: usize, run_min: usize) -> usize
+    requires { ⌜ (Laid g (length (now ink))) × (from ≤ g .outer) × (0 < «run_min») × («run_min» ≤ 4294967295) ⌝ }
+    ensures { λ r. ⌜ (from ≤ r) × (r ≤ g .outer) ⌝ }
+{
+    let outer = g.outer;
+    let mut b = from;
+    while b < outer {
+        let next = stretch_end(b, outer);
+        if !any_long_run(ink, g, b, next, run_min) {
+            return b;
+        }
+        b = next;
+    }
+    b
+}
+
+// Row by row; the counter of a column is the word of its number.
+fn mark_rows(
+    ink: &[u8],
+    words: &mut [u32],
+    marks: usize,
+    g: Sweep,
+    a: usize,
+    b: usize,
+    run_min: u32,
+    thick_max: u32,
+)
+    requires { ⌜ (Laid g (length (now ink))) × (g .across ≡ 1) × (a < b) × (b ≤ g .outer) × (0 < «run_min») × (UpTo g (length (now ink)) (drop marks (now words)) 4) × (g .outer ≤ marks) × (marks ≤ length (now words)) ⌝ }
+    ensures { λ _. ⌜ Risen g (now (ink .entry)) «run_min» «thick_max» a b 0 (g .inner) (drop marks (now (words .entry))) (drop marks (now (words .exit))) ⌝ }
+{
+    let inner = g.inner;
+    fill(&mut words[a..b], 0);
+    let mut y: usize = 0;
+    while y < inner {
+        mark_row(ink, words, marks, g, a, b, y, run_min, thick_max);
+        y += 1;
+    }
+}
+
+// One row more.
+fn mark_row(
+    ink: &[u8],
+    words: &mut [u32],
+    marks: usize,
+    g: Sweep,
+    a: usize,
+    b: usize,
+    y: usize,
+    run_min: u32,
+    thick_max: u32,
+)
+    requires { ⌜ (Laid g (length (now ink))) × (g .across ≡ 1) × (a < b) × (b ≤ g .outer) × (y < g .inner) × (0 < «run_min») × (UpTo g (length (now ink)) (drop marks (now words)) 6) × (Counted g (now ink) a b y (now words)) × (g .outer ≤ marks) × (marks ≤ length (now words)) ⌝ }
+    ensures { λ _. ⌜ (Risen g (now (ink .entry)) «run_min» «thick_max» a b y (y + 1) (drop marks (now (words .entry))) (drop marks (now (words .exit)))) × (Counted g (now (ink .entry)) a b (y + 1) (now (words .exit))) ⌝ }
+{
+    count_row(ink, words, g, a, b, y);
+    if any_reached(words, a, b, run_min) {
+        mark_reached(ink, words, marks, g, a, b, y, run_min, thick_max);
+    }
+}
+
+// The columns of a row where some counter has reached run_min.
+fn mark_reached(
+    ink: &[u8],
+    words: &mut [u32],
+    marks: usize,
+    g: Sweep,
+    a: usize,
+    b: usize,
+    y: usize,
+    run_min: u32,
+    thick_max: u32,
+)
+    requires { ⌜ (Laid g (length (now ink))) × (a < b) × (b ≤ g .outer) × (y < g .inner) × (0 < «run_min») × (UpTo g (length (now ink)) (drop marks (now words)) 6) × (Counted g (now ink) a b (y + 1) (now words)) × (g .outer ≤ marks) × (marks ≤ length (now words)) ⌝ }
+    ensures { λ _. ⌜ (Risen g (now (ink .entry)) «run_min» «thick_max» a b y (y + 1) (drop marks (now (words .entry))) (drop marks (now (words .exit)))) × (take marks (now (words .exit)) ≡ take marks (now (words .entry))) ⌝ }
+{
+    let mut o = a;
+    while o < b {
+        mark_place(ink, words, marks, g, o, y, run_min, thick_max);
+        o += 1;
+    }
+}
+
+// One column in row y: its run is long and goes on, or gets long here, so that all of it is marked, or is not long.
+fn mark_place(
+    ink: &[u8],
+    words: &mut [u32],
+    marks: usize,
+    g: Sweep,
+    o: usize,
+    y: usize,
+    run_min: u32,
+    thick_max: u32,
+)
+    requires { ⌜ (Laid g (length (now ink))) × (o < g .outer) × (y < g .inner) × (0 < «run_min») × (UpTo g (length (now ink)) (drop marks (now words)) 8) × (getD (now words) o 0 ≡ behind (widenedLine g (now ink) o) (y + 1)) × (g .outer ≤ marks) × (marks ≤ length (now words)) ⌝ }
+    ensures { λ _. ⌜ (Risen g (now (ink .entry)) «run_min» «thick_max» o (o + 1) y (y + 1) (drop marks (now (words .entry))) (drop marks (now (words .exit)))) × (take marks (now (words .exit)) ≡ take marks (now (words .entry))) ⌝ }
+{
+    let since = words[o];
+    if run_min < since {
+        cut_places(ink, words, marks, g, o, y, y + 1, thick_max);
+        return;
+    }
+    if since == run_min {
+        let from = y + 1 - run_min as usize;
+        cut_places(ink, words, marks, g, o, from, y + 1, thick_max);
+    }
+}
+
+// The thin dots of column o from place `from` up to `to`.
+fn cut_places(
+    ink: &[u8],
+    words: &mut [u32],
+    marks: usize,
+    g: Sweep,
+    o: usize,
+    from: usize,
+    to: usize,
+    thick_max: u32,
+)
+    requires { ⌜ (Laid g (length (now ink))) × (o < g .outer) × (from ≤ to) × (to ≤ g .inner) × (UpTo g (length (now ink)) (drop marks (now words)) 8) × (marks ≤ length (now words)) ⌝ }
+    ensures { λ _. ⌜ (Marked g (length (now (ink .entry))) (isThin g (now (ink .entry)) «thick_max») 2 (drop marks (now (words .entry))) (drop marks (now (words .exit))) (o * g .inner + from) (o * g .inner + to)) × (take marks (now (words .exit)) ≡ take marks (now (words .entry))) ⌝ }
+{
+    let mut i = from;
+    while i < to {
+        cut_place(ink, words, marks, g, i, o, thick_max);
+        i += 1;
+    }
+}
+
+// One dot, marked where it is ink and thin across.
+fn cut_place(
+    ink: &[u8],
+    words: &mut [u32],
+    marks: usize,
+    g: Sweep,
+    i: usize,
+    o: usize,
+    thick_max: u32,
+)
+    requires { ⌜ (Laid g (length (now ink))) × (i < g .inner) × (o < g .outer) × (UpTo g (length (now ink)) (drop marks (now words)) 10) × (marks ≤ length (now words)) ⌝ }
+    ensures { λ _. ⌜ (drop marks (now (words .exit)) ≡ cond (isThin g (now (ink .entry)) «thick_max» i o) (set (drop marks (now (words .entry))) (spotOf g i o) (getD (drop marks (now (words .entry))) (spotOf g i o) 0 + 2)) (drop marks (now (words .entry)))) × (take marks (now (words .exit)) ≡ take marks (now (words .entry))) ⌝ }
+{
+    if is_thin(ink, g, i, o, thick_max) {
+        let at = marks + spot(g, i, o);
+        words[at] = words[at] + 2;
+    }
+}
+
+// Whether a dot is ink and its extent across at most thick_max; no more than thick_max dots beside it are looked at.
+fn is_thin(ink: &[u8], g: Sweep, i: usize, o: usize, thick_max: u32) -> bool
+    requires { ⌜ (Laid g (length (now ink))) × (i < g .inner) × (o < g .outer) ⌝ }
+    ensures { λ r. ⌜ r ≡ isThin g (now (ink .entry)) «thick_max» i o ⌝ }
+{
+    if !is_ink(ink, g, i, o) {
+        return false;
+    }
+    if 65534 <= thick_max {
+        return true;
+    }
+    let most = thick_max as usize;
+    let before = ink_before(ink, g, i, o, most);
+    if most <= before {
+        return false;
+    }
+    ink_after(ink, g, i, o + 1, most - before) < most - before
+}
+
+// How many ink dots in a row end before line o at place i, of at most `most`.
+fn ink_before(ink: &[u8], g: Sweep, i: usize, o: usize, most: usize) -> usize
+    requires { ⌜ (Laid g (length (now ink))) × (i < g .inner) × (o < g .outer) ⌝ }
+    ensures { λ r. ⌜ r ≡ min (behind (planeOf g (now (ink .entry)) i) o) most ⌝ }
+{
+    let end = smaller(most, o);
+    let mut n: usize = 0;
+    while n < end {
+        if !is_ink(ink, g, i, o - 1 - n) {
+            return n;
+        }
+        n += 1;
+    }
+    n
+}
+
+// How many in a row from line o on, of at most `most`.
+fn ink_after(ink: &[u8], g: Sweep, i: usize, o: usize, most: usize) -> usize
+    requires { ⌜ (Laid g (length (now ink))) × (i < g .inner) × (o ≤ g .outer) ⌝ }
+    ensures { λ r. ⌜ r ≡ min (ahead (planeOf g (now (ink .entry)) i) o (g .outer - o)) most ⌝ }
+{
+    let end = smaller(most, g.outer - o);
+    let mut n: usize = 0;
+    while n < end {
+        if !is_ink(ink, g, i, o + n) {
+            return n;
+        }
+        n += 1;
+    }
+    n
+}
+
+// The smaller of two numbers.
+fn smaller(a: usize, b: usize) -> usize
+    ensures { λ r. ⌜ r ≡ min a b ⌝ }
+{
+    if a < b { a } else { b }
+}
+
+// Whether a counter has reached run_min; without a branch, so that many are looked at at a time.
+fn any_reached(words: &[u32], a: usize, b: usize, run_min: u32) -> bool
+    requires { ⌜ (a ≤ b) × (b ≤ length (now words)) ⌝ }
+    ensures { λ r. ⌜ (r ≡ false → (o : ℕ) → a ≤ o → o < b → getD (now (words .entry)) o 0 < «run_min») ⌝ }
+{
+    let mut found = false;
+    let mut o = a;
+    while o < b {
+        found = found | (run_min <= words[o]);
+        o += 1;
+    }
+    found
+}
+
+// The counters of a stretch in row y; those at its ends may lie at the edge of the plane.
+fn count_row(ink: &[u8], words: &mut [u32], g: Sweep, a: usize, b: usize, y: usize)
+    requires { ⌜ (Laid g (length (now ink))) × (g .across ≡ 1) × (a < b) × (b ≤ g .outer) × (y < g .inner) × (Counted g (now ink) a b y (now words)) × (b ≤ length (now words)) ⌝ }
+    ensures { λ _. ⌜ Recounted g (now (ink .entry)) a b y (now (words .entry)) (now (words .exit)) ⌝ }
+{
+    count_end(ink, words, g, a, y);
+    if a + 1 < b {
+        count_end(ink, words, g, b - 1, y);
+        count_between(ink, words, y * g.along, a + 1, b - 1);
+    }
+}
+
+// One counter in row y.
+fn count_end(ink: &[u8], words: &mut [u32], g: Sweep, o: usize, y: usize)
+    requires { ⌜ (Laid g (length (now ink))) × (o < g .outer) × (y < g .inner) × (Counted g (now ink) o (o + 1) y (now words)) × (o < length (now words)) ⌝ }
+    ensures { λ _. ⌜ Recounted g (now (ink .entry)) o (o + 1) y (now (words .entry)) (now (words .exit)) ⌝ }
+{
+    let on = is_widened(ink, g, y, o) as u32;
+    words[o] = on * (words[o] + 1);
+}
+
+// The counters of columns with a column on either side, in the row at `row`.
+fn count_between(ink: &[u8], words: &mut [u32], row: usize, from: usize, to: usize)
+    requires { ⌜ (0 < from) × (from ≤ to) × (row + to < length (now ink)) × (to ≤ length (now words)) × ((o : ℕ) → from ≤ o → o < to → getD (now words) o 0 < 4294967295) ⌝ }
+    ensures { λ _. ⌜ CountedOn (now (ink .entry)) row from to (now (words .entry)) (now (words .exit)) ⌝ }
+{
+    let mut o = from;
+    while o < to {
+        words[o] = count_on(ink[row + o], ink[row + o - 1], ink[row + o + 1], words[o]);
+        o += 1;
+    }
+}
+
+// One more where a dot or one beside it is ink, else none; without a branch, so that a row goes many dots at a time.
+fn count_on(dot: u8, left: u8, right: u8, since: u32) -> u32
+    requires { ⌜ since < 4294967295 ⌝ }
+    ensures { λ r. ⌜ r ≡ cond (ltb 0 dot || ltb 0 left || ltb 0 right) (since + 1) 0 ⌝ }
+{
+    let on = ((0 < dot) | (0 < left) | (0 < right)) as u32;
+    on * (since + 1)
+}
+
+// Whether a column of the stretch has a run of at least run_min.
+fn any_long_run(ink: &[u8], g: Sweep, a: usize, b: usize, run_min: usize) -> bool
+    requires { ⌜ (Laid g (length (now ink))) × (a ≤ b) × (b ≤ g .outer) × (0 < «run_min») × («run_min» ≤ 4294967295) ⌝ }
+    ensures { λ r. ⌜ (r ≡ false → (o i : ℕ) → a ≤ o → o < b → i < g .inner → runThrough (widenedLine g (now (ink .entry)) o) (g .inner) i < «run_min») ⌝ }
+{
+    let mut o = a;
+    while o < b {
+        if has_long_run(ink, g, o, run_min) {
+            return true;
+        }
+        o += 1;
+    }
+    false
+}
+
+// A run of at least run_min from x on covers the place run_min - 1 further, so that few places of most columns are looked at.
+fn has_long_run(ink: &[u8], g: Sweep, o: usize, run_min: usize) -> bool
+    requires { ⌜ (Laid g (length (now ink))) × (o < g .outer) × (0 < «run_min») × («run_min» ≤ 4294967295) ⌝ }
+    ensures { λ r. ⌜ (r ≡ false → (i : ℕ) → i < g .inner → runThrough (widenedLine g (now (ink .entry)) o) (g .inner) i < «run_min») ⌝ }
+{
+    let inner = g.inner;
+    let mut x: usize = 0;
+    while x + run_min <= inner {
+        let start = run_start(ink, g, o, x, x + run_min);
+        if start <= x {
+            return true;
+        }
+        x = start;
+    }
+    false
+}
