@@ -21,13 +21,13 @@ use crate::counts::count_below;
 use crate::number::number_blocks;
 use crate::number::write_numbers;
 use crate::numbers::LINE_WORDS;
-use crate::numbers::greater;
-use crate::numbers::lesser;
-use crate::numbers::wide;
 use crate::record::write_blocks;
 use labelling::Rect;
 use labelling::find;
 use labelling::unite;
+use memory::greater;
+use memory::lesser;
+use memory::wide;
 use params::LayoutParams;
 use sorting::median_of_counts;
 

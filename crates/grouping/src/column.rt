@@ -12,7 +12,7 @@ ghost use Rattle.memory.specs.Limits.{maxFrameWidth};
 ghost use Rattle.grouping.specs.Columns.{cover, enoughCover, columnRuns, columnsOf, extended, CoverSteps};
 ghost use Rattle.grouping.specs.Words.{Lines, lineBoxes, columnRecord};
 use crate::counts::count_field;
-use crate::numbers::greater;
+use memory::greater;
 use params::LayoutParams;
 
 // A column of the page: its first and its last frame column.

@@ -8,7 +8,7 @@ ghost use Rattle.memory.specs.Words.{over};
 ghost use Rattle.grouping.specs.Words.{lineWords, fields};
 ghost use Rattle.grouping.specs.Counts.{counts, below};
 use crate::numbers::LINE_WORDS;
-use crate::numbers::wide;
+use memory::wide;
 
 // The first m words become 0.
 pub fn clear(words: &mut [u32], m: usize)

@@ -9,8 +9,8 @@ ghost use Rattle.memory.specs.Lists.{countIf, keep, upto};
 ghost use Rattle.memory.specs.Words.{over};
 ghost use Rattle.grouping.specs.Readings.{inBox, listed, columnsAndRows, dotList};
 ghost use Rattle.grouping.specs.Dots.{frameOf, listedAt, FrameWords};
-use crate::numbers::wide;
 use labelling::Rect;
+use memory::wide;
 
 // The sides of a page and of its frame.
 pub struct Sides {

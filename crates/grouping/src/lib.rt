@@ -17,7 +17,6 @@ pub use dots::Sides;
 pub use dots::count_dots;
 pub use dots::write_dots;
 pub use numbers::LINE_WORDS;
-pub use numbers::wide;
 pub use pitch::median_pitch;
 pub use pitch::twenty_line_measure;
 pub use summary::Summary;

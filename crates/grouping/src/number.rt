@@ -11,7 +11,7 @@ ghost use Rattle.grouping.specs.Blocks.{opensBlock, blockNumber};
 ghost use Rattle.grouping.specs.Numbering.{NumberedOne, withBlocks};
 ghost use Rattle.grouping.specs.Words.{lineWords};
 use crate::numbers::LINE_WORDS;
-use crate::numbers::wide;
+use memory::wide;
 
 // In place of the parent of each of the n lines, the number of its block; answers how many blocks there are.
 pub fn number_blocks(parents: &mut [u32], n: usize) -> u32

@@ -8,7 +8,7 @@ ghost use Rattle.sorting.specs.Units.{median};
 ghost use Rattle.grouping.specs.Pitches.{centreAt, blockAt, pitchesBelow, walkedPitches, lastCentre, PitchAdded, BlockedLines};
 use crate::counts::clear;
 use crate::numbers::LINE_WORDS;
-use crate::numbers::wide;
+use memory::wide;
 use sorting::median_of_counts;
 
 // The twenty-line measure of n lines in `blocks` blocks: ten times the median pitch.

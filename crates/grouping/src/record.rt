@@ -10,8 +10,8 @@ ghost use Rattle.grouping.specs.Blocks.{blockNumber, blocksOf};
 ghost use Rattle.grouping.specs.Numbering.{blockBox, blockFields, Grown};
 ghost use Rattle.grouping.specs.Words.{Lines, lineWords, blockWords, lineBoxes, blockRecord, putAt};
 use crate::block::line_box;
-use crate::numbers::wide;
 use labelling::Rect;
+use memory::wide;
 
 // The words of a block.
 const BLOCK_WORDS: usize = 5;

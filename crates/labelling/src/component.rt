@@ -4,8 +4,8 @@ ghost use Prim.Native.Nat.{_+_, _≤_, _<_, _^_};
 ghost use Rattle.memory.specs.Limits.{maxMaskSide, maxMaskDots};
 ghost use Rattle.labelling.specs.Components.{noDots, absorbed, absorbedSpan, boxOf};
 use crate::rect::Rect;
-use crate::rect::greater;
-use crate::rect::lesser;
+use memory::greater;
+use memory::lesser;
 
 pub struct Component {
     pub area: u32,

@@ -7,8 +7,8 @@ ghost use Rattle.labelling.specs.Answer.{sideRefusal, lentRefusal, Worka
 use crate::linked::extract_linked;
 use crate::number::number_runs;
 use crate::paint::paint_runs;
-use crate::words::wide;
 use memory::refuse_if;
+use memory::wide;
 
 // 01's limits, under the names that specs/Limits of the crate memory gives them.
 const MAX_MASK_SIDE: u32 = 131072;

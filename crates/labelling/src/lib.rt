@@ -14,7 +14,6 @@ mod runs;
 mod sizes;
 mod span;
 mod tally;
-mod words;
 
 pub use component::Component;
 pub use entry::LabelAnswer;

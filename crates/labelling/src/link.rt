@@ -8,10 +8,10 @@ ghost use Rattle.memory.specs.Limits.{maxMaskSide};
 ghost use Rattle.labelling.specs.Forests.{Found, United, Joined, Kin};
 ghost use Rattle.labelling.specs.InkRuns.{startOf, endOf};
 ghost use Rattle.labelling.specs.Linking.{RunList, Linkable, Joinable, Skipped, Parented, LinkedOne, RowAhead, RowLinked, AllLinked};
-use crate::words::wide;
+use memory::wide;
 
 // How many runs back a parent is near. One farther off lies in slower memory when the numbering reads it.
-const NEAR: usize = 262144;
+const NEAR: usize = 65536;
 
 // The root of run x; each second parent on the way is passed over from now on.
 pub fn find(parents: &mut [u32], x: usize) -> usize

@@ -9,8 +9,8 @@ ghost use Rattle.memory.specs.Lists.{countIf};
 ghost use Rattle.memory.specs.Masks.{isInk};
 ghost use Rattle.labelling.specs.Extraction.{TurnsTold};
 ghost use Rattle.labelling.specs.Marked.{passes, passing, MarkedScanRoom, MarkedScanned, MarkedRowRoom, MarkedRowLeft, MarkedRoom, MarkedLeft};
-use crate::runs::smaller;
 use crate::runs::write_turns;
+use memory::smaller;
 
 // The dots of a block, which are counted at once.
 const BLOCK: usize = 32;

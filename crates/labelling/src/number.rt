@@ -4,7 +4,7 @@ ghost use Prim.Native.Nat.{ℕ, _+_, _≤_, _<_};
 ghost use lib.ListN.{length, getD};
 ghost use Rattle.memory.specs.Limits.{maxCapacity};
 ghost use Rattle.labelling.specs.Numbering.{NumberedOne, Numbered};
-use crate::words::wide;
+use memory::wide;
 
 // Run k gets its number, the runs before it having theirs: a root the next after `count`, else its parent's. Answers the count then.
 fn number_one(parents: &mut [u32], k: usize, count: usize) -> usize

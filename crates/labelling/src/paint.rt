@@ -10,9 +10,9 @@ use crate::span::Reached;
 use crate::span::Span;
 use crate::span::column_sum;
 use crate::span::goes_on;
-use crate::tally::larger;
 use crate::tally::tally_span;
-use crate::words::wide;
+use memory::larger;
+use memory::wide;
 
 // Writes a value to the labels from `from` up to `to`.
 fn fill(labels: &mut [u32], from: usize, to: usize, value: u32)

@@ -2,6 +2,8 @@
 ghost use mathlib.Core.Path.{_≡_};
 ghost use Prim.Native.Nat.{_+_, _≤_};
 ghost use Rattle.labelling.specs.Rects.{width, height, union};
+use memory::greater;
+use memory::lesser;
 
 pub struct Rect {
     pub x0: u32,
@@ -35,18 +37,4 @@ impl Rect {
             y1: greater(self.y1, other.y1),
         }
     }
-}
-
-// The lesser of two numbers.
-pub fn lesser(a: u32, b: u32) -> u32
-    ensures { λ r. ⌜ r ≡ Prim.Native.Nat.min a b ⌝ }
-{
-    if a < b { a } else { b }
-}
-
-// The greater of two numbers.
-pub fn greater(a: u32, b: u32) -> u32
-    ensures { λ r. ⌜ r ≡ Prim.Native.Nat.max a b ⌝ }
-{
-    if a < b { b } else { a }
 }

@@ -1,12 +1,13 @@
 // Runs of ink, row by row: for each run the dot where it starts and the dot after its last, as two words; the end of a row ends a run.
 ghost use mathlib.Core.Path.{_≡_};
 ghost use mathlib.Core.Bool.{cond};
-ghost use Prim.Native.Nat.{_+_, _≤_, min};
+ghost use Prim.Native.Nat.{_+_, _≤_};
 ghost use lib.ListN.{length};
 ghost use lib.Dec.{eqb};
 ghost use Rattle.memory.specs.Lists.{countIf};
 ghost use Rattle.memory.specs.Masks.{isInk};
 ghost use Rattle.labelling.specs.Extraction.{ScanRoom, Scanned, TurnsTold, ToldRoom, ToldWritten, RowRoom, RowExtracted, PlaneRoom, Extracted};
+use memory::smaller;
 
 // The dots of a block, which are counted at once.
 const BLOCK: usize = 32;
@@ -59,13 +60,6 @@ fn scan(row: &[u8], from: usize, to: usize, base: usize, words: &mut [u32], at: 
         x += 1;
     }
     k
-}
-
-// The smaller of two numbers.
-pub fn smaller(a: usize, b: usize) -> usize
-    ensures { λ r. ⌜ r ≡ min a b ⌝ }
-{
-    if a < b { a } else { b }
 }
 
 // Tells for each of 32 dots whether it is a turn, by itself and the dot before it, the first of the 33. No dot waits for another, so

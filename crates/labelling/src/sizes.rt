@@ -16,8 +16,8 @@ use crate::record::raise;
 use crate::span::Extent;
 use crate::span::Reached;
 use crate::span::measure_span;
-use crate::tally::larger;
-use crate::words::wide;
+use memory::larger;
+use memory::wide;
 
 // Writes a component's area and box over five words.
 fn write_size(words: &mut [u32], c: Component)

@@ -7,7 +7,7 @@ ghost use lib.ListN.{getD, length, take};
 ghost use Rattle.memory.specs.Limits.{maxMaskSide};
 ghost use Rattle.labelling.specs.Components.{columnSum};
 ghost use Rattle.labelling.specs.Spans.{SpanAhead, SpanOf};
-use crate::words::wide;
+use memory::wide;
 
 // The run after it, the column of its last dot, its dots and the sum of their columns.
 pub struct Span {

@@ -1,18 +1,10 @@
 // The record of a component, and a span absorbed by it.
 ghost use mathlib.Core.Path.{_≡_};
-ghost use Prim.Native.Nat.{max};
 ghost use Rattle.labelling.specs.Tallying.{SpanTallyable, tallied};
 use crate::component::Component;
 use crate::record::absorb_words;
 use crate::record::encode;
 use crate::span::Span;
-
-// The greater of two numbers.
-pub fn larger(a: usize, b: usize) -> usize
-    ensures { λ r. ⌜ r ≡ max a b ⌝ }
-{
-    if a < b { b } else { a }
-}
 
 // The dots of a span absorbed by the record of the component with this number: a new one where `count` have one and this is past
 // them. The span lies in row y and starts in column x.

@@ -14,6 +14,7 @@ use crate::lines::run_start;
 use crate::lines::spot;
 use extents::fill;
 use extents::stretch_end;
+use memory::smaller;
 
 // Down every column, some stretches of columns at a time.
 pub fn mark_columns(
@@ -255,13 +256,6 @@ fn ink_after(ink: &[u8], g: Sweep, i: usize, o: usize, most: usize) -> usize
         n += 1;
     }
     n
-}
-
-// The smaller of two numbers.
-fn smaller(a: usize, b: usize) -> usize
-    ensures { λ r. ⌜ r ≡ min a b ⌝ }
-{
-    if a < b { a } else { b }
 }
 
 // Whether a counter has reached run_min; without a branch, so that many are looked at at a time.

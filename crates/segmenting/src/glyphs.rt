@@ -7,8 +7,8 @@ ghost use Rattle.memory.specs.Lists.{occurs};
 ghost use Rattle.memory.specs.Limits.{maxCapacity};
 ghost use Rattle.sorting.specs.Kinds.{glyphKind};
 ghost use Rattle.segmenting.specs.LineWords.{Filled, kindWord, firstNumber, LabelRoom, labelAt, labelsAt, CountRoom, boxAt, glyphFields, glyphRecordAt, GlyphRoom, WrittenGlyph, WrittenGlyphs};
-use grouping::wide;
 use labelling::Rect;
+use memory::wide;
 
 // The kind of a glyph.
 const GLYPH: u32 = 4;

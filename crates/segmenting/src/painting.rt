@@ -6,9 +6,9 @@ ghost use Rattle.memory.specs.Lists.{table};
 ghost use Rattle.memory.specs.Words.{over};
 ghost use Rattle.labelling.specs.Labels.{labelling};
 ghost use Rattle.segmenting.specs.Results.{paintedKind, RunPaintable, RunPainted, Paintable};
-use grouping::wide;
 use memory::copy_bytes;
 use memory::fill_bytes;
+use memory::wide;
 
 // The ink from dot `done` up to run k, and the kind of its component on the run; answers where the run ends.
 fn paint_run(

@@ -3,11 +3,12 @@
 ghost use mathlib.Core.Path.{_≡_};
 ghost use mathlib.Core.Bool.{true, cond, _&&_};
 ghost use mathlib.Core.List.{List};
-ghost use Prim.Native.Nat.{ℕ, _+_, _-_, _*_, _≤_, _<_, max};
+ghost use Prim.Native.Nat.{ℕ, _+_, _-_, _*_, _≤_, _<_};
 ghost use lib.ListN.{length, getD, set};
 ghost use lib.Dec.{ltb, leb};
 ghost use Rattle.segmenting.specs.RowRuns.{SmoothRoom, SmoothLeft, Page, startAt, glyphOf, PartWalk, RunAdded};
-use grouping::wide;
+use memory::larger;
+use memory::wide;
 
 // The kind of a glyph.
 const GLYPH: u32 = 4;
@@ -120,7 +121,7 @@ fn smooth_run(part: &mut [u32], places: Places, gap: usize, walk: Walk) -> Walk
     Walk {
         passed: j + 1,
         smoothed: walk.smoothed,
-        components: most(walk.components, number),
+        components: larger(walk.components, number),
         last: walk.last,
     }
 }
@@ -144,7 +145,7 @@ fn smooth_glyph(part: &mut [u32], places: Places, gap: usize, walk: Walk, number
     Walk {
         passed: j + 1,
         smoothed,
-        components: most(walk.components, number),
+        components: larger(walk.components, number),
         last: wide(end),
     }
 }
@@ -180,11 +181,4 @@ fn mark_first(words: &mut [u32], at: usize, components: usize, number: usize, n:
     if components < number {
         words[at + number - 1] = (n - 1) as u32;
     }
-}
-
-// The greater of two counts.
-fn most(a: usize, b: usize) -> usize
-    ensures { λ r. ⌜ r ≡ max a b ⌝ }
-{
-    if a < b { b } else { a }
 }

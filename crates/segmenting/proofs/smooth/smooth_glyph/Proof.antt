@@ -41,8 +41,8 @@ mark-first-requires c κs = let p = c .before .before .before .before .before .b
 add-t12 : tie.Need-add-t12
 add-t12 c = search needs
 
-most-requires : tie.Need-most-requires
-most-requires c κs = search needs
+larger-requires : tie.Need-larger-requires
+larger-requires c κs = search needs
 
 wide-requires-2 : tie.Need-wide-requires-2
 wide-requires-2 c κs = search needs
@@ -51,7 +51,7 @@ same-length : tie.Need-same-length
 same-length c = search needs
 
 returns : tie.Need-returns
-returns c = (refl, λ g front first y eg W ly l here en glyph. part-glyph-pass W l ly here glyph (part-start W l) (part-end W l) (part-joins W l (c .before .before .before .before .before .before .before .before .before .before .before .wide .result) (c .before .before .before .before .before .before .before .before .before .before .before .before .before .before .before .args .gap) (c .before .before .before .before .before .before .before .before .before .before .joins-last .result) (c .before .before .before .before .before .before .before .before .before .before .before .wide .ensures ∙ part-start W l) eg (c .before .before .before .before .before .before .before .before .before .before .joins-last .ensures)) (c .before .before .before .before .before .before .before .before .add-run .ensures) (c .before .most .result) (c .before .before .before .before .before .before .before .before .before .before .before .before .before .before .before .args .number) (c .wide2 .result) (c .wide2 .ensures) (en ∙ part-number W l) (c .before .most .ensures) (c .before .before .before .before .mark-first .ensures))
+returns c = (refl, λ g front first y eg W ly l here en glyph. part-glyph-pass W l ly here glyph (part-start W l) (part-end W l) (part-joins W l (c .before .before .before .before .before .before .before .before .before .before .before .wide .result) (c .before .before .before .before .before .before .before .before .before .before .before .before .before .before .before .args .gap) (c .before .before .before .before .before .before .before .before .before .before .joins-last .result) (c .before .before .before .before .before .before .before .before .before .before .before .wide .ensures ∙ part-start W l) eg (c .before .before .before .before .before .before .before .before .before .before .joins-last .ensures)) (c .before .before .before .before .before .before .before .before .add-run .ensures) (c .before .larger .result) (c .before .before .before .before .before .before .before .before .before .before .before .before .before .before .before .args .number) (c .wide2 .result) (c .wide2 .ensures) (en ∙ part-number W l) (c .before .larger .ensures) (c .before .before .before .before .mark-first .ensures))
 
 pub smooth-glyph-spec : {M : Type 1} → statement M
 smooth-glyph-spec =
@@ -69,7 +69,7 @@ smooth-glyph-spec =
     add-run-requires
     mark-first-requires
     add-t12
-    most-requires
+    larger-requires
     wide-requires-2
     same-length
     returns)

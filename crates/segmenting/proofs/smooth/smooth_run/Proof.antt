@@ -42,11 +42,11 @@ returns c = (c .before .before .smooth-glyph .ensures .0, λ g front first y eg 
 add-t9 : tie.Need-add-t9
 add-t9 c = search needs
 
-most-requires : tie.Need-most-requires
-most-requires c κs = search needs
+larger-requires : tie.Need-larger-requires
+larger-requires c κs = search needs
 
 returns-2 : tie.Need-returns-2
-returns-2 c = (refl, λ g front first y eg W ly l here. part-pass W l (c .most .result) (c .most .ensures ∙ ap (max (c .before .before .before .before .before .before .args .walk .components)) (c .before .before .before .wide .ensures ∙ part-number W l)) (part-other W l (c .before .before .before .wide .result) (c .before .before .before .wide .ensures ∙ part-number W l) (c .before .if1 .left)))
+returns-2 c = (refl, λ g front first y eg W ly l here. part-pass W l (c .larger .result) (c .larger .ensures ∙ ap (max (c .before .before .before .before .before .before .args .walk .components)) (c .before .before .before .wide .ensures ∙ part-number W l)) (part-other W l (c .before .before .before .wide .result) (c .before .before .before .wide .ensures ∙ part-number W l) (c .before .if1 .left)))
 
 pub smooth-run-spec : {M : Type 1} → statement M
 smooth-run-spec =
@@ -64,5 +64,5 @@ smooth-run-spec =
     same-length
     returns
     add-t9
-    most-requires
+    larger-requires
     returns-2)
