@@ -21,11 +21,11 @@ use Rattle.grouping.specs.Blocks.{blockFirsts}
 use Rattle.grouping.specs.Layouts.{layout, layoutRefusal, textLine}
 use Rattle.segmenting.specs.Answers.{left, leftBy, segmented, SegmentRoom, SortedRoom}
 use Rattle.segmenting.specs.Results.{resultsLeft}
-use Rattle.segmenting.specs.Segments.{rowsOf, glyphsIn, linesIn, RowsHeld, SortedPage}
+use Rattle.smoothing.specs.Segments.{rowsOf, glyphsIn, linesIn, RowsHeld, SortedPage}
 use Rattle.segmenting.specs.Writing.{boxesOfLines, figuresOf, ResultsRoom}
 use Rattle.segmenting.specs.declared.page.SegmentAnswer.the-variants.{Segmented, Refused}
 use Rattle.segmenting.specs.declared.results.Segmentation.{Segmentation}
-use Rattle.segmenting.specs.declared.rows.Rows.{Rows}
+use Rattle.smoothing.specs.declared.rows.Rows.{Rows}
 
 max-more : (a : ℕ) {x y : ℕ} → x ≤ y → max a x ≤ max a y
 max-more a l = omega arith

@@ -31,7 +31,7 @@ use Rattle.sorting.specs.Units.{unitValue}
 use Rattle.sorting.specs.declared.sort.Sorting.{Sorting}
 use Rattle.sorting.proofs.PlanLaws.{frame-of, plan-dots, plan-across, plan-down, plan-runs}
 use Rattle.sorting.proofs.ComponentLaws.{areas-ink}
-use Rattle.segmenting.specs.LineWords.{glyphsOf, kindWord, HoldsGlyphs, HoldsRows}
+use Rattle.smoothing.specs.LineWords.{glyphsOf, kindWord, HoldsGlyphs, HoldsRows}
 use Rattle.grouping.specs.Blocks.{opensBlock, blockOf, blockFirsts, blocksOf}
 use Rattle.grouping.specs.Columns.{cover, covered, columnsOf}
 use Rattle.grouping.specs.Lines.{LabelledGlyph, firstDot, SmoothedLine, keptLines}
@@ -39,14 +39,14 @@ use Rattle.grouping.specs.Smoothing.{smoothingGap, smoothed}
 use Rattle.grouping.specs.Words.{Inside, glyphRecord, putAt}
 use Rattle.segmenting.specs.Results.{rulesAt, graphicsAt, glyphRecordsAt, boxWords, resultsLeft, heldArea, KindsHeld, paintedKind, Paintable, unpackedBoxes}
 use Rattle.grouping.specs.Layouts.{layout, textLine, glyphBox}
-use Rattle.segmenting.specs.Segments.{rowsOf, glyphsIn, linesIn, glyphLabel, HoldsPage}
-use Rattle.segmenting.specs.declared.rows.Rows.{Rows}
+use Rattle.smoothing.specs.Segments.{rowsOf, glyphsIn, linesIn, glyphLabel, HoldsPage}
+use Rattle.smoothing.specs.declared.rows.Rows.{Rows}
 use Rattle.segmenting.specs.Writing.{rulesRead, graphicsRead, BoxRoom, LinesHeld, linesLeft, boxesOfLines, GroupRoom, groupsLeft, figuresOf, countedFigures, ResultsRoom}
 use Rattle.segmenting.specs.declared.groups.GroupCounts.{GroupCounts}
 use Rattle.segmenting.specs.declared.lists.BoxCounts.{BoxCounts}
 use Rattle.segmenting.specs.declared.results.KindDots.{KindDots}
 use Rattle.segmenting.proofs.AreaLaws.{sorted-area, sorted-cut}
-use Rattle.segmenting.proofs.LineLaws.{labelled-glyphs}
+use Rattle.smoothing.proofs.LineLaws.{labelled-glyphs}
 use Rattle.grouping.proofs.ColumnWords.{runs-few}
 use Rattle.grouping.proofs.ListLaws.{keep-few}
 use Rattle.grouping.proofs.TableWords.{occurs-length}

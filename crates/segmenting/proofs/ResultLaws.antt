@@ -27,7 +27,7 @@ use Rattle.segmenting.specs.Writing.{rulesRead, graphicsRead, BoxRoom, B
 use Rattle.grouping.specs.Words.{Inside, Lines, ByTop, Groupable, lineBox, lineBoxes, lineRecord, blockRecord, columnRecord, putAt}
 use Rattle.grouping.proofs.BlockLaws.{getD-map}
 use Rattle.segmenting.proofs.BoxLaws.{length-boxes, boxes-few, rules-few}
-use Rattle.segmenting.proofs.LineRecords.{blocks-set, text-lines, record-boxes, plain-boxes}
+use Rattle.smoothing.proofs.LineRecords.{blocks-set, text-lines, record-boxes, plain-boxes}
 use Rattle.segmenting.proofs.PutLaws.{part-length, put-part, put-long, put-before, put-behind, over-put}
 
 -- Rules and graphics

@@ -16,7 +16,7 @@ use Rattle.sorting.specs.Scratch.{horizontalAt, verticalAt, sizesAt, kindsAt, s
 use Rattle.grouping.specs.Layouts.{glyphBox}
 use Rattle.grouping.specs.Lines.{keptLines}
 use Rattle.grouping.specs.Words.{glyphRecord, putAt}
-use Rattle.segmenting.specs.LineWords.{glyphsOf, Filled, lineRows, OrderRoom, orderedRow, OrderedLines, NumberRoom, orderAt, GlyphRoom, WrittenGlyphs, lineRecordAt, LinesRoom}
+use Rattle.smoothing.specs.LineWords.{glyphsOf, Filled, lineRows, OrderRoom, orderedRow, OrderedLines, NumberRoom, orderAt, GlyphRoom, WrittenGlyphs, lineRecordAt, LinesRoom}
 use Rattle.segmenting.specs.Results.{glyphRecordsAt, linesAt}
 use Rattle.segmenting.specs.Writing.{plainRecords, LinesHeld, LinesOrdered, linesLeft}
 use Rattle.segmenting.proofs.PutLaws.{part-length, put-part}

@@ -21,14 +21,14 @@ use Rattle.sorting.specs.Kinds.{glyphKind}
 use Rattle.sorting.specs.Scratch.{horizontalAt, verticalAt, sizesAt, kindsAt, smoothedAt, glyphsAt}
 use Rattle.grouping.specs.Layouts.{glyphBox}
 use Rattle.grouping.specs.Lines.{LabelledGlyph, SmoothedLine, smoothedLine, keptLines, lineNumber}
-use Rattle.segmenting.specs.LineWords.{glyphsOf, Filled, labelAt, boxAt, lineRows, RowRoom, OrderRoom, orderedRow, OrderedLines, NumberRoom, orderAt, areaAt, glyphsAmong, glyphRecordAt, GlyphRoom, WrittenGlyphs, lineRecordAt, OwnRoom, KeptFrom, LinesRoom, HoldsGlyphs, HoldsRows}
+use Rattle.smoothing.specs.LineWords.{glyphsOf, Filled, labelAt, boxAt, lineRows, RowRoom, OrderRoom, orderedRow, OrderedLines, NumberRoom, orderAt, areaAt, glyphsAmong, glyphRecordAt, GlyphRoom, WrittenGlyphs, lineRecordAt, OwnRoom, KeptFrom, LinesRoom, HoldsGlyphs, HoldsRows}
 use Rattle.segmenting.specs.Results.{linesAt}
 use Rattle.segmenting.specs.Writing.{plainLine, plainRecords, LinesHeld, LinesOrdered, GroupRoom}
 use Rattle.grouping.specs.Words.{Inside, lineRecord, glyphRecord, putAt}
-use Rattle.segmenting.proofs.LineLaws.{held-box, label-of, glyphOf, glyphs-are, lineOf, lines-are, labels-are, order-is, numbers-are}
-use Rattle.segmenting.proofs.LineRecords.{glyph-records, line-records}
-use Rattle.segmenting.proofs.LineRooms.{areas-are, glyphs-kept, rows-kept, lines-room, order-labels, order-rows}
-use Rattle.segmenting.proofs.RowLaws.{rows-few, rows-low}
+use Rattle.smoothing.proofs.LineLaws.{held-box, label-of, glyphOf, glyphs-are, lineOf, lines-are, labels-are, order-is, numbers-are}
+use Rattle.smoothing.proofs.LineRecords.{glyph-records, line-records}
+use Rattle.smoothing.proofs.LineRooms.{areas-are, glyphs-kept, rows-kept, lines-room, order-labels, order-rows}
+use Rattle.smoothing.proofs.RowLaws.{rows-few, rows-low}
 use Rattle.grouping.proofs.BlockLaws.{getD-map}
 use Rattle.grouping.proofs.ListLaws.{each-at}
 use Rattle.grouping.proofs.Theorems.{lines-go-by-top}

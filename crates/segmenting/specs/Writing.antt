@@ -22,12 +22,12 @@ use Rattle.grouping.specs.Blocks.{blockFirsts, blocksOf}
 use Rattle.grouping.specs.Columns.{columnsOf}
 use Rattle.grouping.specs.Layouts.{TextLine, Layout, textLine, glyphBox}
 use Rattle.grouping.specs.Words.{Inside, lineRecord, glyphRecord, blockRecord, columnRecord, putAt}
-use Rattle.segmenting.specs.LineWords.{glyphsOf, lineRows, orderedRow, KeptFrom, HoldsGlyphs, HoldsRows}
+use Rattle.smoothing.specs.LineWords.{glyphsOf, lineRows, orderedRow, KeptFrom, HoldsGlyphs, HoldsRows}
 use Rattle.segmenting.specs.Results.{rulesAt, graphicsAt, glyphRecordsAt, linesAt, blocksAt, resultWords, boxWords, heldBoxes, heldRules}
-use Rattle.segmenting.specs.Segments.{RowsHeld}
+use Rattle.smoothing.specs.Segments.{RowsHeld}
 use Rattle.segmenting.specs.declared.results.Segmentation.{Segmentation}
 use Rattle.segmenting.specs.declared.results.KindDots.{KindDots}
-use Rattle.segmenting.specs.declared.rows.Rows.{Rows}
+use Rattle.smoothing.specs.declared.rows.Rows.{Rows}
 use Rattle.segmenting.specs.declared.lists.BoxCounts.{BoxCounts}
 use Rattle.segmenting.specs.declared.groups.GroupCounts.{GroupCounts}
 

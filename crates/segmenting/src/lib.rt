@@ -1,15 +1,11 @@
 // Segmenting: a whole page, from its ink to its lists (layout.rs, segment). The stages lie in one slice of scratch, laid out in sorting's
 // specs/Scratch; what they leave is in specs/.
 mod boxes;
-mod glyphs;
 mod groups;
-mod lines;
 mod lists;
 mod page;
 mod painting;
 mod results;
-mod rows;
-mod smooth;
 mod text;
 
 pub use page::SegmentAnswer;

@@ -12,9 +12,9 @@ use crate::groups::write_groups;
 use crate::lists::BoxCounts;
 use crate::lists::write_box_lists;
 use crate::painting::paint_kinds;
-use crate::rows::Rows;
 use crate::text::write_glyph_lines;
 use params::LayoutParams;
+use smoothing::Rows;
 use sorting::Sorting;
 use sorting::Unit;
 

@@ -5,13 +5,13 @@ ghost use Prim.Native.Nat.{ℕ};
 ghost use lib.ListN.{length};
 ghost use Rattle.labelling.specs.declared.component.Component.{Component};
 ghost use Rattle.grouping.specs.Lines.{keptLines};
-ghost use Rattle.segmenting.specs.LineWords.{glyphsOf};
+ghost use Rattle.smoothing.specs.LineWords.{glyphsOf};
 ghost use Rattle.segmenting.specs.Writing.{LinesHeld, LinesOrdered, linesLeft};
-use crate::glyphs::write_glyphs;
-use crate::lines::number_labels;
-use crate::lines::order_lines;
-use crate::lines::write_lines;
 use params::LayoutParams;
+use smoothing::number_labels;
+use smoothing::order_lines;
+use smoothing::write_glyphs;
+use smoothing::write_lines;
 
 // Writes the labels of the lines in their order and the line of each label, where the boxes of the cuts stood; answers how many lines
 // there are.

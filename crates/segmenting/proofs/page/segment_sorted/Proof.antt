@@ -1,5 +1,5 @@
-use Rattle.segmenting.specs.Segments.{rowsLeft}
-use Rattle.segmenting.specs.declared.rows.RowsAnswer.{RowsAnswer}
+use Rattle.smoothing.specs.Segments.{rowsLeft}
+use Rattle.smoothing.specs.declared.rows.RowsAnswer.{RowsAnswer}
 use mathlib.Core.Path.{refl, sym, _∙_, subst}
 use Rattle.segmenting.proofs.AnswerLaws.{rows-refused, lines-refused, page-segmented, rows-ask, results-ask}
 use borrow.Author.Needs.{needs}

@@ -4,8 +4,8 @@ use native.Mathlib.Omega.{arith}
 use Rattle.sorting.specs.Scratch.{inkAfterCut}
 use Rattle.sorting.specs.Sorted.{sorted}
 use Rattle.grouping.specs.Lines.{keptLines}
-use Rattle.segmenting.specs.LineWords.{glyphsOf}
-use Rattle.segmenting.specs.Segments.{rowsOf, glyphLabel}
+use Rattle.smoothing.specs.LineWords.{glyphsOf}
+use Rattle.smoothing.specs.Segments.{rowsOf, glyphLabel}
 use Rattle.segmenting.specs.Writing.{LinesHeld}
 use Rattle.segmenting.proofs.LayoutLaws.{paint-ask, counts-ask, boxes-ask, text-ask, group-ask, figures-ask, figures-are, results-are, kinds-painted}
 use borrow.Author.Needs.{needs}

@@ -1,0 +1,88 @@
+-- What scratch holds stays while other words change, and gives what the functions ask.
+use mathlib.Core.Path.{_≡_, sym, ap, _∙_}
+use mathlib.Core.List.{List, map}
+use Prim.Native.Nat.{ℕ, suc, _+_, _*_, _≤_, _<_}
+use native.Mathlib.Omega.{arith}
+use lib.Ieee.{Float}
+use lib.ListN.{getD, length}
+use Rattle.memory.specs.Lists.{table, occurs}
+use Rattle.memory.proofs.TableLaws.{table-ext}
+use Rattle.labelling.specs.Components.{noDots}
+use Rattle.labelling.specs.Sizes.{HoldsSizes}
+use Rattle.labelling.specs.declared.component.Component.{Component}
+use Rattle.params.specs.declared.LayoutParams.{LayoutParams}
+use Rattle.grouping.specs.Lines.{LabelledGlyph}
+use Rattle.smoothing.specs.LineWords.{glyphsOf, Filled, labelsAt, lineRows, orderedRow, OrderedLines, areaAt, OwnRoom, LineRoom, KeptFrom, LinesRoom, HoldsGlyphs, HoldsRows}
+use Rattle.grouping.proofs.ListLaws.{each-at, map-table}
+use Rattle.smoothing.proofs.RowLaws.{rows-low}
+use Rattle.smoothing.proofs.LineLaws.{held-area, held-kept, counts-are, own-count}
+use Rattle.smoothing.proofs.LineRecords.{whole}
+
+-- the areas in scratch are those of the components
+pub areas-are : (cs : List Component) (s : List ℕ) (sizes : ℕ) → HoldsSizes cs s sizes → table (areaAt s sizes) (length cs) ≡ map (λ (c : Component). c .area) cs
+areas-are cs s sizes held =
+    table-ext (areaAt s sizes) (λ k. getD cs k noDots .area) (length cs) (λ k l. held-area cs s sizes held k l)
+    ∙ (sym (map-table (λ (c : Component). c .area) (λ k. getD cs k noDots) (length cs)) ∙ ap (map (λ (c : Component). c .area)) (whole cs noDots))
+
+-- glyphs and smoothed components stay while only words before them change
+pub glyphs-kept : (cs : List Component) (ks : List ℕ) (labels : ℕ → ℕ) (sizes kinds at : ℕ) (s s' : List ℕ) → at ≤ sizes → at ≤ kinds → sizes + 5 * length cs ≤ length s → KeptFrom at s s'
+    → HoldsGlyphs cs ks labels sizes kinds s → HoldsGlyphs cs ks labels sizes kinds s'
+glyphs-kept cs ks labels sizes kinds at s s' a b room r h =
+    record {
+      held = held-kept cs s s' sizes room (r .len) (λ i l m. r .same i (omega arith)) (h .held);
+      words = λ k l. r .same (kinds + k) (omega arith) ∙ h .words k l;
+      known = h .known;
+      labelled = h .labelled;
+    }
+
+pub rows-kept : (gs : List LabelledGlyph) (rows : List Component) (smoothed glyphs at : ℕ) (s s' : List ℕ) → at ≤ smoothed → at ≤ glyphs → smoothed + 5 * length rows ≤ length s → KeptFrom at s s'
+    → HoldsRows gs rows smoothed glyphs s → HoldsRows gs rows smoothed glyphs s'
+rows-kept gs rows smoothed glyphs at s s' a b room r h =
+    record { held = held-kept rows s s' smoothed room (r .len) (λ i l m. r .same i (omega arith)) (h .held); counts = λ t l. r .same (glyphs + t) (omega arith) ∙ h .counts t l }
+
+-- what `count_glyphs` leaves
+pub rows-held : (cs : List Component) (ks : List ℕ) (labels : ℕ → ℕ) (sizes kinds : ℕ) (rows : List Component) (smoothed glyphs : ℕ) (s s' : List ℕ) → HoldsGlyphs cs ks labels sizes kinds s
+    → HoldsSizes rows s smoothed → smoothed + 5 * length rows ≤ glyphs → glyphs ≤ length s
+    → Filled (λ t. occurs (suc t) (labelsAt s kinds (length cs))) glyphs (length rows) s s' → HoldsRows (glyphsOf cs ks labels) rows smoothed glyphs s'
+rows-held cs ks labels sizes kinds rows smoothed glyphs s s' h held before room r =
+    record {
+      held = held-kept rows s s' smoothed (omega arith) (r .len) (λ i l m. r .before i (omega arith)) held;
+      counts = λ t l. r .inside t l ∙ counts-are cs ks labels sizes kinds s h (suc t) (omega arith);
+    }
+
+-- what `write_lines` asks
+pub lines-room : (cs : List Component) (ks : List ℕ) (labels : ℕ → ℕ) (heights values order n sizes kinds smoothed glyphs out : ℕ) (rows : List Component) (s : List ℕ)
+    → HoldsGlyphs cs ks labels sizes kinds s → HoldsRows (glyphsOf cs ks labels) rows smoothed glyphs s → OwnRoom heights values sizes kinds (length cs) s
+    → heights + values ≤ order → order + n ≤ smoothed → smoothed + 5 * length rows ≤ glyphs → glyphs + length rows ≤ length s
+    → ((i : ℕ) → i < n → (0 < getD s (order + i) 0) × (getD s (order + i) 0 ≤ length rows)) → n * 8 ≤ out
+    → LinesRoom order n heights values sizes kinds (length cs) smoothed glyphs s out
+lines-room cs ks labels heights values order n sizes kinds smoothed glyphs out rows s h g own a b d e labelled room =
+    record {
+      before-order = a;
+      order-room = omega arith;
+      labels = λ i l. labelled i l .0;
+      lines = λ i l. line (orderedRow s order i) (let z = labelled i l in omega arith);
+      room = room;
+    }
+  where
+    line : (t : ℕ) → t < length rows → LineRoom heights values sizes kinds (length cs) smoothed glyphs t s
+    line t l =
+        record {
+          own = own;
+          before-smoothed = omega arith;
+          before-glyphs = omega arith;
+          smoothed-room = omega arith;
+          glyphs-room = omega arith;
+          counted = g .counts t l ∙ sym (own-count cs ks labels sizes kinds s h (suc t) (omega arith));
+        }
+
+-- what `order_lines` leaves: labels of smoothed components
+module _ (p : LayoutParams) (unit : Float) (smoothed glyphs rows order r : ℕ) (s s' : List ℕ) (o : OrderedLines (lineRows p unit s smoothed glyphs rows) order s s' r) (i : ℕ) (l : i < r) where
+  pub order-labels : (0 < getD s' (order + i) 0) × (getD s' (order + i) 0 ≤ rows)
+  order-labels =
+      let a = o .words .inside i l in
+      let b = each-at (λ t. t < rows) (lineRows p unit s smoothed glyphs rows) (rows-low p unit s smoothed glyphs rows) i 0 (let d = o .count in omega arith) in
+      (omega arith, omega arith)
+
+  pub order-rows : orderedRow s' order i ≡ getD (lineRows p unit s smoothed glyphs rows) i 0
+  order-rows = let a = o .words .inside i l in omega arith

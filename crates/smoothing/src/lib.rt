@@ -1,0 +1,14 @@
+// Smoothing and lines: from the sorted ink to the smoothed components, the lines that they are and the glyphs of each (layout.rs). The
+// stages lie in one slice of scratch, laid out in sorting's specs/Scratch.
+mod glyphs;
+mod lines;
+mod rows;
+mod smooth;
+
+pub use glyphs::write_glyphs;
+pub use lines::number_labels;
+pub use lines::order_lines;
+pub use lines::write_lines;
+pub use rows::Rows;
+pub use rows::RowsAnswer;
+pub use rows::group_rows;
