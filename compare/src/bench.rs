@@ -3,12 +3,15 @@
 
 use std::time::{Duration, Instant};
 
+use crate::pages::{Kind, KINDS};
+
 /// How often each side is timed, at the most and at the least; between them, until the time is up.
 const MOST_TURNS: u32 = 25;
 const LEAST_TURNS: u32 = 5;
 const TIME: Duration = Duration::from_millis(800);
 
-pub struct Bench;
+/// What is timed: these kinds of pages, or all where there is none.
+pub struct Bench(Vec<Kind>);
 
 impl Bench {
     /// No side of a stage is called more often.
@@ -16,7 +19,7 @@ impl Bench {
 
     /// Memory that is given back is kept from now on, and none is asked of the system afresh: the original allocates in
     /// every call, and is to find pages that were touched before, as the memory that we are lent was.
-    pub fn new() -> Self {
+    pub fn new(kinds: Vec<Kind>) -> Self {
         const M_TRIM_THRESHOLD: i32 = -1;
         const M_MMAP_MAX: i32 = -4;
         extern "C" {
@@ -24,10 +27,17 @@ impl Bench {
         }
         let set = unsafe { mallopt(M_MMAP_MAX, 0) & mallopt(M_TRIM_THRESHOLD, -1) };
         assert!(set == 1, "the allocator takes no options");
-        Bench
+        Bench(kinds)
     }
 
-    /// One line, `STAGE PAGE ratio R`: the Rust's time over ours. Each side hands its answers to `black_box` itself.
+    /// The kinds of pages that are timed; a page of one dot never is.
+    pub fn kinds(&self) -> Vec<Kind> {
+        let asked = |kind: &Kind| self.0.is_empty() || self.0.contains(kind);
+        KINDS.into_iter().filter(|kind| *kind != Kind::Dot).filter(asked).collect()
+    }
+
+    /// One line, `STAGE PAGE ratio R, ours A, the Rust B milliseconds`: the Rust's time over ours, then both. Each side hands its
+    /// answers to `black_box` itself.
     pub fn stage(&mut self, stage: &str, page: &str, mut rust: impl FnMut(), mut ours: impl FnMut()) {
         let [times] = self.together(|| [Times::once(&mut rust, &mut ours)]);
         self.line(stage, page, times);
@@ -35,8 +45,8 @@ impl Bench {
 
     /// The line of a stage with these times.
     pub fn line(&mut self, stage: &str, page: &str, times: Times) {
-        let ratio = times.rust.as_secs_f64() / times.ours.as_secs_f64();
-        println!("{stage} {page} ratio {ratio:.2}");
+        let [rust, ours] = [times.rust, times.ours].map(|time| time.as_secs_f64() * 1e3);
+        println!("{stage} {page} ratio {:.2}, ours {ours:.2}, the Rust {rust:.2} milliseconds", rust / ours);
     }
 
     /// One line, `STAGE PAGE ours A, the Rust B nanoseconds a dot`.

@@ -1,8 +1,8 @@
 //! Compares this project's functions with the original Rust's, times both, and writes the list that the gate replays.
 //!
-//! `compare run [PART..]` compares, `compare bench [PART..]` times, `compare flat [EXPONENT]` gives the cost of a dot on pages of
+//! `compare run [PART..]` compares, `compare bench [PART.. PAGE..]` times, `compare flat [EXPONENT]` gives the cost of a dot on pages of
 //! growing size, `compare list` writes the list to standard output, `compare definitions N` the Rust's answers for N pages as
-//! equations over this project's definitions. No PART means all. The parts are in `parts/`; `parts/mod.rs` says how to add
+//! equations over this project's definitions. No PART or PAGE means all. The parts are in `parts/`; `parts/mod.rs` says how to add
 //! one. The bash scripts `run`, `bench`, `list` and `definitions` build all that is needed and call this.
 
 mod bench;
@@ -28,6 +28,9 @@ fn main() -> ExitCode {
     if command == "flat" {
         return flat(names);
     }
+    if command == "bench" {
+        return bench(names);
+    }
     if let ("definitions", [pages]) = (command.as_str(), names) {
         return pages.parse().map_or_else(
             |_| usage(),
@@ -42,12 +45,6 @@ fn main() -> ExitCode {
     };
     match command.as_str() {
         "run" => run(&chosen, names.is_empty()),
-        "bench" => {
-            for part in chosen {
-                (part.bench)(&mut bench::Bench::new());
-            }
-            ExitCode::SUCCESS
-        }
         "list" => {
             print!("{}", list::whole());
             ExitCode::SUCCESS
@@ -93,6 +90,19 @@ fn run(chosen: &[&Part], all: bool) -> ExitCode {
     }
 }
 
+/// Times the parts named, on the kinds of pages named.
+fn bench(words: &[String]) -> ExitCode {
+    let (pages, names): (Vec<String>, Vec<String>) = words.iter().cloned().partition(|word| pages::named(word).is_some());
+    let Some(chosen) = chosen(&names) else {
+        return usage();
+    };
+    let kinds: Vec<pages::Kind> = pages.iter().filter_map(|page| pages::named(page)).collect();
+    for part in chosen {
+        (part.bench)(&mut bench::Bench::new(kinds.clone()));
+    }
+    ExitCode::SUCCESS
+}
+
 /// The cost of a dot, on pages of 2^20 dots up to 2^24, or as high as the argument says.
 fn flat(words: &[String]) -> ExitCode {
     let most = match words {
@@ -103,14 +113,14 @@ fn flat(words: &[String]) -> ExitCode {
     let Some(most) = most else {
         return usage();
     };
-    parts::labelling::flat(&mut bench::Bench::new(), most);
+    parts::labelling::flat(&mut bench::Bench::new(Vec::new()), most);
     ExitCode::SUCCESS
 }
 
 fn usage() -> ExitCode {
     let names: Vec<&str> = PARTS.iter().map(|part| part.name).collect();
     eprintln!(
-        "usage: compare run|bench [PART..], compare flat [20..28], compare list or compare definitions N; parts: {}",
+        "usage: compare run [PART..], compare bench [PART.. PAGE..], compare flat [20..28], compare list or compare definitions N; parts: {}",
         names.join(" ")
     );
     ExitCode::from(2)

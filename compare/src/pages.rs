@@ -66,6 +66,11 @@ impl std::fmt::Display for Kind {
     }
 }
 
+/// The kind of this name.
+pub fn named(name: &str) -> Option<Kind> {
+    KINDS.into_iter().find(|kind| kind.to_string() == name)
+}
+
 impl Kind {
     /// A page of this kind. Neither side is 0.
     pub fn page(self, width: usize, height: usize, random: &mut Random) -> Vec<u8> {

@@ -11,7 +11,7 @@ use crate::lent::Words;
 use crate::list::{hash, packed, List};
 use crate::masks::{self, near, shown, LARGE_SHAPES, SIDES};
 use crate::ours::{self, Answer};
-use crate::pages::{Kind, KINDS};
+use crate::pages::KINDS;
 use crate::random::Random;
 use crate::tally::Tally;
 
@@ -109,7 +109,7 @@ const PAGE: (usize, usize) = (2048, 3072);
 fn bench(bench: &mut Bench) {
     let (width, height) = PAGE;
     let mut extents = vec![1; width * height];
-    for kind in KINDS.into_iter().filter(|kind| !matches!(kind, Kind::Dot)) {
+    for kind in bench.kinds() {
         let mask = kind.page(width, height, &mut Random::new());
         for (stage, columns) in [("extents-rows", false), ("extents-columns", true)] {
             bench.stage(

@@ -246,8 +246,7 @@ fn accepted(kind: Kind, most: usize) -> (usize, Vec<u8>) {
 /// Square pages of 4096 a side. A kind that has more than 65,535 pieces at that size is refused by document 01, so it is timed at
 /// the half, or half of that, at which it is accepted; the line then says so, as `noise10-512`.
 fn bench(bench: &mut Bench) {
-    let kinds = KINDS.iter().filter(|kind| !matches!(kind, Kind::Dot));
-    for &kind in kinds {
+    for kind in bench.kinds() {
         let (side, mask) = accepted(kind, 4096);
         let mut room = Room::new(side * side);
         assert!(room.label(&mask, side).number == 0, "{kind} is accepted");

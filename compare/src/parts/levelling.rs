@@ -350,7 +350,7 @@ const SLOPES: [f64; 7] = [0.0, 0.02, -0.02, 0.3, -0.3, 1.0, -1.0];
 fn bench(bench: &mut Bench) {
     let (width, height) = (2048, 3072);
     let sheet = sheet();
-    for kind in KINDS.into_iter().filter(|kind| !matches!(kind, Kind::Dot)) {
+    for kind in bench.kinds() {
         let plane = kind.page(width, height, &mut Random::new());
         for slope in SLOPES {
             let rust = level_mask(plane.clone(), width, height, 1.0, slope, &sheet);

@@ -213,7 +213,7 @@ fn compare(tally: &mut Tally) {
 fn bench(bench: &mut Bench) {
     let (width, height, run_min, thick_max) = (2048usize, 3072usize, 76u32, 6u32);
     let mut words = vec![1; 2 * height + width * height];
-    for kind in KINDS.into_iter().filter(|kind| !matches!(kind, Kind::Dot)) {
+    for kind in bench.kinds() {
         let ink = kind.page(width, height, &mut Random::new());
         bench.stage(
             "rulings",
@@ -235,7 +235,7 @@ fn bench(bench: &mut Bench) {
 /// Both cut masks made and labelled, with the same limits, noise on pages small enough that neither has too many components.
 fn bench_cuts(bench: &mut Bench) {
     let (run_min, thick_max) = (76u32, 6u32);
-    for kind in KINDS.into_iter().filter(|kind| !matches!(kind, Kind::Dot)) {
+    for kind in bench.kinds() {
         let (width, height) = match kind {
             Kind::Noise(70) => (1024, 1024),
             _ => (2048, 3072),

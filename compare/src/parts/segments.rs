@@ -429,12 +429,14 @@ fn leaf_sheet() -> LayoutParams {
 /// Levelling and segmenting, by these skews and slopes; noise on pages small enough that no labelling has too many components.
 fn bench(bench: &mut Bench) {
     let p = leaf_sheet();
-    let pages = KINDS.into_iter().filter(|kind| !matches!(kind, Kind::Dot)).map(|kind| match kind {
+    let kinds = bench.kinds();
+    let pages = kinds.iter().map(|&kind| match kind {
         Kind::Noise(10) => (kind, 512, 512),
         Kind::Noise(_) => (kind, 1024, 1024),
         _ => (kind, 2048, 3072),
     });
-    for (kind, width, height) in pages.chain([(Kind::Text, 8192, 8192), (Kind::Table, 8192, 8192)]) {
+    let large = kinds.iter().filter(|kind| matches!(kind, Kind::Text | Kind::Table)).map(|&kind| (kind, 8192, 8192));
+    for (kind, width, height) in pages.chain(large) {
         let mask = kind.page(width, height, &mut Random::new());
         for (skew, slope) in [(0.0, 0.0), (0.6, 0.010_472)] {
             stages(bench, &p, &mask, width, skew, slope, &format!("{kind}-{width}x{height} slope {slope}"));
