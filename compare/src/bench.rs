@@ -33,7 +33,11 @@ impl Bench {
     /// The kinds of pages that are timed; a page of one dot never is.
     pub fn kinds(&self) -> Vec<Kind> {
         let asked = |kind: &Kind| self.0.is_empty() || self.0.contains(kind);
-        KINDS.into_iter().filter(|kind| *kind != Kind::Dot).filter(asked).collect()
+        KINDS
+            .into_iter()
+            .filter(|kind| *kind != Kind::Dot)
+            .filter(asked)
+            .collect()
     }
 
     /// One line, `STAGE PAGE ratio R, ours A, the Rust B milliseconds`: the Rust's time over ours, then both. Each side hands its
@@ -46,7 +50,10 @@ impl Bench {
     /// The line of a stage with these times.
     pub fn line(&mut self, stage: &str, page: &str, times: Times) {
         let [rust, ours] = [times.rust, times.ours].map(|time| time.as_secs_f64() * 1e3);
-        println!("{stage} {page} ratio {:.2}, ours {ours:.2}, the Rust {rust:.2} milliseconds", rust / ours);
+        println!(
+            "{stage} {page} ratio {:.2}, ours {ours:.2}, the Rust {rust:.2} milliseconds",
+            rust / ours
+        );
     }
 
     /// One line, `STAGE PAGE ours A, the Rust B nanoseconds a dot`.

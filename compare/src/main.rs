@@ -92,7 +92,8 @@ fn run(chosen: &[&Part], all: bool) -> ExitCode {
 
 /// Times the parts named, on the kinds of pages named.
 fn bench(words: &[String]) -> ExitCode {
-    let (pages, names): (Vec<String>, Vec<String>) = words.iter().cloned().partition(|word| pages::named(word).is_some());
+    let (pages, names): (Vec<String>, Vec<String>) =
+        words.iter().cloned().partition(|word| pages::named(word).is_some());
     let Some(chosen) = chosen(&names) else {
         return usage();
     };
