@@ -48,6 +48,7 @@ lent-pass dots mask P labels components scratch =
 pub record SidesGood (w h : ℕ) : Type 0 where
   pub wide : 0 < w
   pub narrow : w ≤ maxMaskSide
+  pub high : 0 < h
   pub low : h ≤ maxMaskSide
   pub dots : w * h ≤ maxMaskDots
 
@@ -60,7 +61,8 @@ sides-good w h e =
     let p₄ = refusal-passed (ltb maxMaskSide h) 0 _ (p₃ .later) in
     let p₅ = refusal-passed (ltb maxMaskDots (w * h)) 0 _ (p₄ .later) in
     let n = eqb-false w 0 (p₁ .passed) in
-    record { wide = omega arith; narrow = ltb-false maxMaskSide w (p₂ .passed); low = ltb-false maxMaskSide h (p₄ .passed); dots = ltb-false maxMaskDots (w * h) (p₅ .passed) }
+    let k = eqb-false h 0 (p₃ .passed) in
+    record { wide = omega arith; narrow = ltb-false maxMaskSide w (p₂ .passed); high = omega arith; low = ltb-false maxMaskSide h (p₄ .passed); dots = ltb-false maxMaskDots (w * h) (p₅ .passed) }
 
 pub record LentGood (dots mask P labels components scratch : ℕ) : Type 0 where
   pub whole : mask ≡ dots
@@ -175,6 +177,7 @@ module _ (w h : ℕ) (m : List ℕ) (P : ℕ) (labels components scratch : List 
           record {
             wide = S .wide;
             narrow = S .narrow;
+            high = S .high;
             low = S .low;
             dots = S .dots;
             whole = L .whole;

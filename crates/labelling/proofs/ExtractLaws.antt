@@ -27,7 +27,7 @@ pub inner-wider : (w x : ℕ) → x < w → suc x % suc w ≡ 0 → ⊥
 inner-wider w x l e = let q : suc x % suc w ≡ suc x = mod-eq-of-lt (let h : suc x < suc w = omega arith in h) in omega arith
 
 -- no dot but the last ends a row
-pub inner-row : (w x : ℕ) → suc x < w → suc x % w ≡ 0 → ⊥
+inner-row : (w x : ℕ) → suc x < w → suc x % w ≡ 0 → ⊥
 inner-row w x l e = let q : suc x % w ≡ suc x = mod-eq-of-lt l in omega arith
 
 -- the turns before the row's end is looked at
@@ -414,21 +414,21 @@ module _ (w : ℕ) (m row : List ℕ) (y : ℕ) (hw : 0 < w) (same : (x : ℕ) �
 
 -- row y of a mask h rows high, which starts at dot `base`
 module _ (w h : ℕ) (m : List ℕ) (base y : ℕ) (hw : 0 < w) (whole : length m ≡ w * h) (base-is : base ≡ y * w) (l : y < h) where
-  pub row-inside : base + w ≤ length m
+  row-inside : base + w ≤ length m
   row-inside =
       let c : w * h ≡ h * w = mul-comm w h in
       let q : suc y * w ≤ h * w = mul-le-mul-right w l in
       let r : suc y * w ≡ y * w + w = suc-mul y w in
       omega arith
 
-  pub row-length : length (take (base + w - base) (drop base m)) ≡ w
+  row-length : length (take (base + w - base) (drop base m)) ≡ w
   row-length = let i = row-inside in let e : base + w - base ≡ w = omega arith in rw e (length-take-le w (drop base m) (simp length-drop (omega arith)))
 
-  pub next-base : base + w ≡ (y + 1) * w
+  next-base : base + w ≡ (y + 1) * w
   next-base = let n : suc y * w ≡ y * w + w = suc-mul y w in (let q : base + w ≡ suc y * w = omega arith in q) ∙ ap (λ z. z * w) (sym (add-one y))
 
   -- one row more
-  pub turns-row : turns w m ((y + 1) * w) ≡ turns w m (y * w) ++ rowTurns (take (base + w - base) (drop base m)) base
+  turns-row : turns w m ((y + 1) * w) ≡ turns w m (y * w) ++ rowTurns (take (base + w - base) (drop base m)) base
   turns-row =
       let row = take (base + w - base) (drop base m) in
       ap (turns w m) (sym next-base ∙ ap (λ z. z + w) base-is)

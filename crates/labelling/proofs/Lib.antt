@@ -32,8 +32,6 @@ pub mod RunLinkLaws
 pub mod NumberLaws
 -- turns written row by row
 pub mod ExtractLaws
--- runs counted by their starts, without their turns
-pub mod StartLaws
 -- turns written and runs linked, row by row
 pub mod RowLinkLaws
 -- turns told a block at a time, then written

@@ -11,7 +11,7 @@ use lib.Seq.{getD-take, getD-drop, getD-set-same, getD-set-other, getD-append-ad
 use Rattle.memory.specs.Lists.{table}
 use Rattle.memory.proofs.TableLaws.{length-table, getD-table}
 use Rattle.labelling.specs.InkRuns.{startOf, endOf}
-use Rattle.labelling.specs.Painting.{Front, Filled, Paintable, OnRuns, OffRuns, Painted, PaintSweep}
+use Rattle.labelling.specs.Painting.{Front, Filled, Cleared, Paintable, OnRuns, OffRuns, Painted, PaintSweep}
 
 -- Filling: the labels from `from` up to i have the value v
 
@@ -48,6 +48,11 @@ fill-first {l} {l'} {from} {to} {v} q h X =
     at : (i : ℕ) → from ≤ i → i < to → Dec (i ≡ from) → getD l' i 0 ≡ v
     at i a b (yes e) = X .low i (omega arith) ∙ (ap (λ z. getD (set l from v) z 0) e ∙ getD-set-same l from v 0 (omega arith))
     at i a b (no ne) = X .here i (omega arith) b
+
+-- Clearing: nothing, or up to `to`
+
+pub clear-none : (l : List ℕ) (clear end limit : ℕ) → end ≤ clear → clear ≤ limit → Cleared l l clear end limit clear
+clear-none l clear end limit h k = record { from = le-refl clear; reach = h; upto = k; filled = fill-none l clear 0 }
 
 -- A front by its entries
 

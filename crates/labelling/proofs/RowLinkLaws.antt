@@ -1,22 +1,20 @@
 -- Runs written and linked row by row: the runs of one row more are known, and those known before stay linked.
 use mathlib.Core.Path.{_≡_, refl, sym, ap, _∙_, subst}
-use mathlib.Core.List.{List, [], _∷_, _++_}
-use Prim.Native.Nat.{ℕ, zero, suc, _+_, _-_, _*_, _/_, _≤_, _<_}
-use native.Mathlib.Nat.{le-refl, not-suc-le-zero, mul-comm, mul-mod-left, mul-mod-right, mul-le-mul-right}
+use mathlib.Core.List.{List, _++_}
+use Prim.Native.Nat.{ℕ, suc, _+_, _-_, _*_, _/_, _≤_, _<_}
+use native.Mathlib.Nat.{le-refl, not-suc-le-zero, mul-comm, mul-left-comm, mul-mod-left, mul-le-mul-right}
 use native.Mathlib.Decide.{decLt}
 use native.Mathlib.Omega.{arith}
-use lib.ListN.{getD, length, set, take, drop, length-set, length-map, List·getD-append}
-use lib.Seq.{getD-take, getD-drop, getD-set-same, getD-set-other, getD-append-add, length-take-le, take-set-le}
-use Rattle.labelling.specs.Forests.{Forest}
-use Rattle.labelling.specs.InkRuns.{turns, opensRun, runCount, runOf, startOf, endOf, Runs, touchRuns}
-use Rattle.labelling.specs.Extraction.{rowTurns, RowExtracted, PlaneRoom, Extracted}
-use Rattle.labelling.specs.Linking.{touching, firstRun, Linked, RowAhead, RowLinked, LinkedRuns}
-use Rattle.labelling.proofs.CountLaws.{count-up}
+use lib.ListN.{getD, length, take, drop, length-map, List·getD-append}
+use lib.Seq.{getD-take, getD-append-add, length-take-le}
+use Rattle.labelling.specs.InkRuns.{turns, runCount, runOf, startOf, endOf, Runs, touchRuns}
+use Rattle.labelling.specs.Extraction.{rowTurns, RowExtracted, Extracted}
+use Rattle.labelling.specs.Linking.{touching, Linked, RowAhead, RowLinked, LinkRoom, LinkedRuns}
 use Rattle.labelling.proofs.FirstLaws.{getD-map}
 use Rattle.labelling.proofs.LinkLaws.{seen-wider}
 use Rattle.labelling.proofs.ParentLaws.{forest-same}
-use Rattle.labelling.proofs.RunLabelLaws.{turns-whole, runs-whole}
-use Rattle.labelling.proofs.StartLaws.{runs-low}
+use Rattle.labelling.proofs.RunLabelLaws.{runs-low, turns-whole, runs-whole}
+use Rattle.labelling.proofs.ScanLaws.{turns-fit}
 use Rattle.labelling.proofs.ExtractLaws as scans
 use Rattle.labelling.proofs.RunLinkLaws as links
 
@@ -41,31 +39,29 @@ linked-more w c c' t t' p p' j l lj same parents L =
 
 -- Row by row
 
--- the rows before row y are read, and their runs linked; the parents begin at word q, behind all runs of the mask
+-- the rows before row y are read, and their runs linked; the parents begin at word q
 pub record LinkSweep (w h : ℕ) (m s₀ s : List ℕ) (q above here base y : ℕ) : Type 0 where
+  pub asks : LinkRoom w h m s₀ q
   pub scan : scans.PlaneScan w h m s₀ s (2 * here) base y
   pub sweep : links.PlaneSweep w here q h s s above here base y
-  pub place : q ≡ 2 * runCount w m (w * h)
-  pub room : 3 * runCount w m (w * h) ≤ length s₀
 
-pub link-none : {w h : ℕ} {m s : List ℕ} (q : ℕ) → PlaneRoom w h m s → 3 * runCount w m (w * h) ≤ length s → q ≡ 2 * runCount w m (w * h) → LinkSweep w h m s s q 0 0 0 0
-link-none {w} {h} {m} {s} q A room place =
+pub link-none : {w h : ℕ} {m s : List ℕ} {q : ℕ} → LinkRoom w h m s q → LinkSweep w h m s s q 0 0 0 0
+link-none {w} {h} {m} {s} {q} A =
     record {
-      scan = scans.plane-none A;
+      asks = A;
+      scan = scans.plane-none (A .plane);
       sweep =
           links.plane-none w 0 q h s
           (record {
-            wide = A .wide;
-            narrow = A .narrow;
+            wide = A .plane .wide;
+            narrow = A .plane .narrow;
             few = omega arith;
             place = omega arith;
-            room = omega arith;
+            room = let r = A .room in omega arith;
             order = record { some = λ k l. absurd (not-suc-le-zero l); rising = λ j k l l₂. absurd (not-suc-le-zero l₂) };
           })
-          (A .low)
+          (A .plane .low)
           (λ k l. absurd (not-suc-le-zero l));
-      place = place;
-      room = room;
     }
 
 -- a row's turns start at its first dot or later
@@ -79,7 +75,7 @@ turns-low base row i l =
 module _ {w h : ℕ} {m s₀ s : List ℕ} {q above here base y : ℕ} (S : LinkSweep w h m s₀ s q above here base y) (l : y < h) where
   module _ (s₁ : List ℕ) (r : ℕ) (X : RowExtracted (take (base + w - base) (drop base m)) base s s₁ (2 * here) r) where
     hw : 0 < w
-    hw = S .scan .asks .wide
+    hw = S .asks .plane .wide
 
     read : scans.PlaneScan w h m s₀ s₁ r (base + w) (y + 1)
     read = scans.plane-more (S .scan) l s₁ r X
@@ -97,98 +93,77 @@ module _ {w h : ℕ} {m s₀ s : List ℕ} {q above here base y : ℕ} (S : Link
     end-low : (y + 1) * w ≤ w * h
     end-low = let c = mul-comm w h in let d : (y + 1) * w ≤ h * w = mul-le-mul-right w (let x : y + 1 ≤ h = omega arith in x) in omega arith
 
-    -- no more than the mask has
+    -- the turns of the rows read take no more words than there are before the parents, and leave one
+    turns-before : r < q
+    turns-before =
+        let p = read .place in
+        let f = turns-fit w m hw (y + 1) in
+        let g : (y + 1) * ((w + 1) / 2) ≤ h * ((w + 1) / 2) = mul-le-mul-right ((w + 1) / 2) (let x : y + 1 ≤ h = omega arith in x) in
+        let e : h * (2 * ((w + 1) / 2)) ≡ 2 * (h * ((w + 1) / 2)) = mul-left-comm h 2 ((w + 1) / 2) in
+        let a = S .asks .place in
+        omega arith
+
     known-low : 2 * known ≤ q
-    unfolding runCount
-    known-low = let k = known-is .1 in let u = count-up (opensRun w m) ((y + 1) * w) (w * h) end-low in let p = S .place in omega arith
+    known-low = let k = known-is .0 in let u = turns-before in omega arith
+
+    -- so no parent has changed
+    parents-kept : drop q s₁ ≡ drop q s
+    parents-kept = scans.rest-further s₁ s (suc r) q turns-before (X .rest)
+
+    known-few : known ≤ w * h
+    known-few = let a = runs-low w m ((y + 1) * w) in let b = known-is .1 in let c = end-low in omega arith
 
     known-more : here ≤ known
     known-more = let e = X .upto in let k = known-is .0 in omega arith
 
-    -- the place of the parents lies within the words
-    pub link-place : q < length s₁
-    link-place =
-        let n = read .len in
-        let p = S .place in
-        let c = S .room in
-        let a = S .scan .asks .room in
-        let g : 1 * (2 * ((w + 1) / 2)) ≤ h * (2 * ((w + 1) / 2)) = mul-le-mul-right (2 * ((w + 1) / 2)) (let x : 1 ≤ h = omega arith in x) in
-        let b = hw in
-        omega arith
-
-    -- the words with the first run's parent put back
-    abbrev put : List ℕ
-    put = set s₁ q 0
-
-    put-long : length put ≡ length s₀
-    put-long = length-set s₁ q 0 ∙ read .len
-
     -- the turns of the runs now known: those known before, then the row's
-    put-turns : take (2 * known) put ≡ take (2 * here) s ++ rowTurns (take (base + w - base) (drop base m)) base
-    put-turns = take-set-le (2 * known) s₁ q 0 known-low ∙ (ap (λ z. take z s₁) (known-is .0) ∙ X .words)
+    all-turns : take (2 * known) s₁ ≡ take (2 * here) s ++ rowTurns (take (base + w - base) (drop base m)) base
+    all-turns = ap (λ z. take z s₁) (known-is .0) ∙ X .words
 
     front-long : length (take (2 * here) s) ≡ 2 * here
     front-long = length-take-le (2 * here) s (let p = S .sweep .list .place in let r = S .sweep .list .room in omega arith)
 
-    old-word : (i : ℕ) → i < 2 * here → getD (take (2 * known) put) i 0 ≡ getD (take (2 * here) s) i 0
-    old-word i h = ap (λ z. getD z i 0) put-turns ∙ List·getD-append (take (2 * here) s) _ 0 i (let n = front-long in omega arith)
+    old-word : (i : ℕ) → i < 2 * here → getD (take (2 * known) s₁) i 0 ≡ getD (take (2 * here) s) i 0
+    old-word i h = ap (λ z. getD z i 0) all-turns ∙ List·getD-append (take (2 * here) s) _ 0 i (let n = front-long in omega arith)
 
-    new-start : (a : ℕ) → here ≤ a → a < known → base ≤ startOf (take (2 * known) put) a
+    new-start : (a : ℕ) → here ≤ a → a < known → base ≤ startOf (take (2 * known) s₁) a
     new-start a h k =
         let row = take (base + w - base) (drop base m) in
         let i = 2 * a - 2 * here in
         let n = front-long in
         let u = X .upto in
         let d = known-is .0 in
-        let e = ap (λ z. getD z (2 * a) 0) put-turns
+        let e = ap (λ z. getD z (2 * a) 0) all-turns
         ∙ (ap (λ z. getD (take (2 * here) s ++ rowTurns row base) z 0) (let q : 2 * a ≡ length (take (2 * here) s) + i = omega arith in q)
         ∙ getD-append-add (take (2 * here) s) (rowTurns row base) i 0) in
         let g = turns-low base row i (omega arith) in
         omega arith
 
-    all-runs : Runs w m ((y + 1) * w) known (startOf (take (2 * known) put)) (endOf (take (2 * known) put) 0) (runOf w m)
+    all-runs : Runs w m ((y + 1) * w) known (startOf (take (2 * known) s₁)) (endOf (take (2 * known) s₁) 0) (runOf w m)
     all-runs =
-        let T = take-set-le (2 * known) s₁ q 0 known-low ∙ (ap (λ z. take z s₁) (known-is .0) ∙ read .words) in
-        subst (λ z. Runs w m ((y + 1) * w) z (startOf (take (2 * known) put)) (endOf (take (2 * known) put) 0) (runOf w m)) (sym (known-is .1))
+        let T = ap (λ z. take z s₁) (known-is .0) ∙ read .words in
+        subst (λ z. Runs w m ((y + 1) * w) z (startOf (take (2 * known) s₁)) (endOf (take (2 * known) s₁) 0) (runOf w m)) (sym (known-is .1))
         (subst (λ t. Runs w m ((y + 1) * w) (runCount w m ((y + 1) * w)) (startOf t) (endOf t 0) (runOf w m)) (sym T) (runs-whole w ((y + 1) * w) m hw (mul-mod-left (y + 1) w)))
 
-    -- the parents as they were: word r, which may have changed, is the first of them at most
-    old-parent : (j : ℕ) → j < here → getD (drop q put) j 0 ≡ getD (drop q s) j 0
-    old-parent zero k =
-        let d = S .sweep .linked .forest .down 0 k in
-        let e = getD-drop q put 0 0 ∙ (ap (λ z. getD put z 0) (let x : q + 0 ≡ q = omega arith in x) ∙ getD-set-same s₁ q 0 0 link-place) in
-        omega arith
-    old-parent (suc j) k =
-        let g = known-low in
-        let f = known-is .0 in
-        let i = q + suc j - suc r in
-        let e : suc r + i ≡ q + suc j = omega arith in
-        getD-drop q put (suc j) 0
-        ∙ (getD-set-other s₁ q (q + suc j) 0 0 (λ x. omega arith)
-        ∙ (ap (λ z. getD s₁ z 0) (sym e)
-        ∙ (sym (getD-drop (suc r) s₁ i 0)
-        ∙ (ap (λ z. getD z i 0) (X .rest)
-        ∙ (getD-drop (suc r) s i 0 ∙ (ap (λ z. getD s z 0) e ∙ sym (getD-drop q s (suc j) 0)))))))
-
     -- the row's runs are known, and not linked yet
-    written : links.PlaneSweep w known q h put put above here base y
+    written : links.PlaneSweep w known q h s₁ s₁ above here base y
     written =
         let W = S .sweep in
-        let A = S .scan .asks in
+        let A = S .asks .plane in
         let R = all-runs in
         record {
           list =
               record {
                 wide = A .wide;
                 narrow = A .narrow;
-                few = let a = runs-low w m ((y + 1) * w) in let b = known-is .1 in let c = end-low in let d = A .dots in omega arith;
+                few = let b = known-few in let d = A .dots in omega arith;
                 place = known-low;
-                room = let n = put-long in let p = S .place in let c = S .room in let k = known-low in omega arith;
+                room = let n = read .len in let b = known-few in let c = S .asks .room in omega arith;
                 order = record { some = R .some; rising = R .rising };
               };
           tall = A .low;
           inside = λ k u. let a = R .some k u in let b = R .within k u in let c = end-low in let d = mul-comm w h in omega arith;
-          kept = links.kept-none q put;
+          kept = links.kept-none q s₁;
           base-is = W .base-is;
           upto = W .upto;
           low = W .low;
@@ -197,70 +172,52 @@ module _ {w h : ℕ} {m s₀ s : List ℕ} {q above here base y : ℕ} (S : Link
           row-low = λ a u v. let e = old-word (2 * a) (omega arith) in let f = W .row-low a u v in omega arith;
           row-high = λ a u. let e = old-word (2 * a) (omega arith) in let f = W .row-high a u in omega arith;
           rest = new-start;
-          linked = linked-more w here known (take (2 * here) s) (take (2 * known) put) (drop q s) (drop q put) here known-more (le-refl here) old-word old-parent (W .linked);
+          linked =
+              linked-more w here known (take (2 * here) s) (take (2 * known) s₁) (drop q s) (drop q s₁) here known-more (le-refl here) old-word (λ j k. ap (λ z. getD z j 0) parents-kept)
+              (W .linked);
         }
 
-    pub link-asks : RowAhead w known q (base + w) put above here
+    pub link-asks : RowAhead w known q (base + w) s₁ above here
     link-asks = links.plane-ahead written
 
     -- all the runs that are known are of the row
-    row-ends : (s₂ : List ℕ) (next : ℕ) → RowLinked w known q (base + w) put s₂ here next → next ≡ known
+    row-ends : (s₂ : List ℕ) (next : ℕ) → RowLinked w known q (base + w) s₁ s₂ here next → next ≡ known
     row-ends s₂ next L = go (decLt next known)
       where
         go : Dec (next < known) → next ≡ known
         go (yes d) =
             let p = L .row .past d in
-            let e = getD-take (2 * known) put (2 * next) 0 (omega arith) in
+            let e = getD-take (2 * known) s₁ (2 * next) 0 (omega arith) in
             let a = all-runs .some next d in
             let b = all-runs .within next d in
             let c = end-is in
             absurd (omega arith)
         go (no d) = let u = L .row .upto in omega arith
 
-    pub link-more : (s₂ : List ℕ) (next : ℕ) → RowLinked w known q (base + w) put s₂ here next → LinkSweep w h m s₀ s₂ q here next (base + w) (y + 1)
+    pub link-more : (s₂ : List ℕ) (next : ℕ) → RowLinked w known q (base + w) s₁ s₂ here next → LinkSweep w h m s₀ s₂ q here next (base + w) (y + 1)
     link-more s₂ next L =
         let e = row-ends s₂ next L in
         let K = L .linked .kept in
         let W = links.plane-now (links.plane-more written next (L .row) l s₂ (L .linked)) in
         record {
+          asks = S .asks;
           scan =
               record {
                 asks = read .asks;
-                len = K .len ∙ put-long;
+                len = K .len ∙ read .len;
                 upto = read .upto;
                 base-is = read .base-is;
-                words =
-                    ap (λ z. take (2 * z) s₂) e
-                    ∙ (links.kept-front K (2 * known) known-low ∙ (take-set-le (2 * known) s₁ q 0 known-low ∙ (ap (λ z. take z s₁) (known-is .0) ∙ read .words)));
+                words = ap (λ z. take (2 * z) s₂) e ∙ (links.kept-front K (2 * known) known-low ∙ (ap (λ z. take z s₁) (known-is .0) ∙ read .words));
                 place = ap (λ z. 2 * z) e ∙ (known-is .0 ∙ read .place);
               };
           sweep = subst (λ z. links.PlaneSweep w z q h s₂ s₂ here next (base + w) (y + 1)) (sym e) W;
-          place = S .place;
-          room = S .room;
         }
 
-pub link-done : {w h : ℕ} {m s₀ s : List ℕ} {q above here base y : ℕ} → LinkSweep w h m s₀ s q above here base y → h ≤ y → (c : ℕ) → c ≡ runCount w m (w * h) → LinkedRuns w h m s₀ s c
-link-done {w} {h} {m} {s₀} {s} {q} {above} {here} S l c ec =
-    let E = scans.plane-done (S .scan) l in
-    let e : 2 * here / 2 ≡ c = E .count ∙ sym ec in
-    let f : here ≡ c = omega arith in
-    let p = S .place in
-    let g : q ≡ 2 * c = omega arith in
+pub link-done : {w h : ℕ} {m s₀ s : List ℕ} {q above here base y : ℕ} → LinkSweep w h m s₀ s q above here base y → h ≤ y → LinkedRuns w h m s₀ s q here
+link-done {w} {h} {m} {s₀} {s} {q} {above} {here} S l =
     record {
-      runs = subst (Extracted w h m s₀ s) e E;
-      forest =
-          subst (λ z. Forest (firstRun w c (take (2 * c) s)) (drop z s) c) g
-          (subst (λ z. Forest (firstRun w z (take (2 * z) s)) (drop q s) z) f (links.plane-forest (S .sweep) l));
+      runs = subst (Extracted w h m s₀ s) (let e : 2 * here / 2 ≡ here = omega arith in e) (scans.plane-done (S .scan) l);
+      place = S .sweep .list .place;
+      room = S .sweep .list .room;
+      forest = links.plane-forest (S .sweep) l;
     }
-
--- a mask without runs has nothing to link
-pub link-blank : {w h : ℕ} {m s : List ℕ} → PlaneRoom w h m s → (c : ℕ) → c ≡ runCount w m (w * h) → c ≡ 0 → LinkedRuns w h m s s 0
-link-blank {w} {h} {m} {s} A c e z =
-    record {
-      runs = record { len = refl; count = sym z ∙ e; runs = sym (no-turns (turns w m (w * h)) (turns-whole w (w * h) m (A .wide) (mul-mod-right w h) ∙ ap (λ k. 2 * k) (sym e ∙ z))) };
-      forest = record { down = λ j l. absurd (omega arith); same = λ j l. absurd (omega arith); root = λ j l. absurd (omega arith) };
-    }
-  where
-    no-turns : (t : List ℕ) → length t ≡ 0 → t ≡ []
-    no-turns [] q = refl
-    no-turns (x ∷ t) q = absurd (omega arith)

@@ -2,104 +2,189 @@
 use mathlib.Core.Path.{_≡_, refl, sym, ap, _∙_, subst}
 use mathlib.Core.List.{List}
 use Prim.Native.Nat.{ℕ, suc, _+_, _-_, _*_, _/_, _%_, _≤_, _<_, max}
-use native.Mathlib.Nat.{le-refl, div-add-mod', mod-lt, mul-comm, suc-mul, mul-le-mul-right}
+use native.Mathlib.Nat.{le-refl, le-trans, div-add-mod', mod-lt, mul-comm, suc-mul, mul-le-mul-right}
 use native.Mathlib.Decide.{decLt}
 use native.Mathlib.Omega.{arith}
-use lib.ListN.{getD, length, take}
-use lib.Seq.{getD-take}
-use Rattle.memory.specs.Limits.{maxMaskDots}
+use lib.ListN.{getD, length, take, length-append, List·getD-append}
+use lib.Seq.{length-take-le, getD-take, getD-append-add}
+use Rattle.memory.specs.Limits.{maxMaskSide, maxMaskDots}
 use Rattle.memory.specs.Words.{over}
+use Rattle.labelling.specs.Components.{columnSum}
 use Rattle.labelling.specs.InkRuns.{startOf, componentNumber}
 use Rattle.labelling.specs.Linking.{firstRun}
 use Rattle.labelling.specs.Spans.{SpanOf}
 use Rattle.labelling.specs.Tallying.{tallied, SpanTallyable, records, Tallyable, TallySweep}
-use Rattle.labelling.specs.Painting.{Filled, Paintable, Painted, PaintSweep, PaintsOn, SpanPaintable, SpanPainted, RowPaintable, RowPainted}
+use Rattle.labelling.specs.Painting.{numbered, Filled, Cleared, Paintable, Painted, PaintSweep, PaintsOn, SpanPaintable, SpanPainted, RowPaintable, RowPainted}
 use Rattle.labelling.proofs.PaintLaws.{paint-none, paint-clear, paint-asks, paint-more, paint-done}
 use Rattle.labelling.proofs.RecordSweepLaws.{tally-none, tally-long, tally-asks, tally-more, tally-done}
-use Rattle.labelling.proofs.SpanLaws.{row-found, place-ends, first-place, next-place}
+use Rattle.labelling.proofs.SpanLaws.{row-found, Place, place-ends, span-room, first-place, first-span, next-place, next-span}
+
+-- Turns and numbers that stand apart
+
+module _ (c : ℕ) (t numbers : List ℕ) (ht : 2 * c ≤ length t) where
+  front-long : length (take (2 * c) t) ≡ 2 * c
+  front-long = length-take-le (2 * c) t ht
+
+  numbered-turn : (i : ℕ) → i < 2 * c → getD (numbered c t numbers) i 0 ≡ getD t i 0
+  numbered-turn i l = List·getD-append (take (2 * c) t) numbers 0 i (let e = front-long in omega arith) ∙ getD-take (2 * c) t i 0 l
+
+  numbered-number : (k : ℕ) → getD (numbered c t numbers) (2 * c + k) 0 ≡ getD numbers k 0
+  numbered-number k = ap (λ z. getD (numbered c t numbers) (z + k) 0) (sym front-long) ∙ getD-append-add (take (2 * c) t) numbers k 0
+
+  numbered-long : 3 * c ≤ length (numbered c t numbers) → c ≤ length numbers
+  numbered-long h = let a = length-append (take (2 * c) t) numbers in let e = front-long in omega arith
 
 -- A span
 
-pub paints-then : {s : List ℕ} {c : ℕ} {l₁ l₂ l₃ : List ℕ} {clear a b k : ℕ} → PaintsOn s c l₁ l₂ clear a b → PaintsOn s c l₂ l₃ clear b k → PaintsOn s c l₁ l₃ clear a k
-paints-then I J n l₀ S = J n l₀ (I n l₀ S)
+pub paints-then : {s : List ℕ} {c : ℕ} {l₁ l₂ l₃ : List ℕ} {limit a x b y k z : ℕ} → PaintsOn s c l₁ l₂ limit a x b y → PaintsOn s c l₂ l₃ limit b y k z → PaintsOn s c l₁ l₃ limit a x k z
+paints-then I J n l₀ h S = J n l₀ h (I n l₀ h S)
 
-module _ {w c : ℕ} {s l : List ℕ} {base first : ℕ} (P : SpanPaintable w c s l base first) where
+module _ {w c : ℕ} (t numbers : List ℕ) {l : List ℕ} {base first clear : ℕ} (ht : 2 * c ≤ length t) (P : SpanPaintable w c (numbered c t numbers) l base first clear) where
+  pub paints-room : (c ≤ maxMaskDots) × (c ≤ length numbers) × (first < c) × (base + w ≤ maxMaskDots) × (w ≤ maxMaskSide)
+  paints-room = let r = span-room (P .ahead) in let i = P .inside in let d = P .sweep .asks .dots in (r .0, numbered-long c t numbers ht (r .1), r .2, omega arith, r .4)
+
   -- the labels keep their length
-  pub paints-long : {l' : List ℕ} {k : ℕ} → PaintsOn s c l l' (base + w) first k → length l' ≡ length l
-  paints-long I = I (P .n) (P .l₀) (P .sweep) .len ∙ sym (P .sweep .len)
+  pub paints-long : {l' : List ℕ} {k clear' : ℕ} → PaintsOn (numbered c t numbers) c l l' (base + w) first clear k clear' → length l' ≡ length l
+  paints-long I = I (P .n) (P .l₀) (P .inside) (P .sweep) .len ∙ sym (P .sweep .len)
+
+  row-fits : (base + w ≤ length l) × (base + w ≤ maxMaskDots)
+  row-fits = let i = P .inside in let d = P .sweep .asks .dots in let a = P .sweep .asks .labels in let n = P .sweep .len in (omega arith, omega arith)
 
   -- its first run
-  module _ (start end : ℕ) (es : start ≡ getD s (2 * first) 0) (ee : end ≡ getD s (2 * first + 1) 0) where
-    pub first-asks : (start < end) × (end ≤ length l)
-    first-asks = paint-asks (P .sweep) (P .ahead .here) start end es ee
+  module _ (start end : ℕ) (es : start ≡ getD t (2 * first) 0) (ee : end ≡ getD t (2 * first + 1) 0) where
+    first-start : start ≡ getD (numbered c t numbers) (2 * first) 0
+    first-start = es ∙ sym (numbered-turn c t numbers ht (2 * first) (let h = P .ahead .here in omega arith))
 
-    pub first-painted : (l' : List ℕ) → Filled l l' start end (getD s (2 * c + first) 0) → PaintsOn s c l l' (base + w) first (first + 1)
-    first-painted l' X n l₀ S = paint-more S (P .ahead .here) start end es ee (place-ends (first-place (P .ahead) start end es ee) .2) l' X
+    first-end : end ≡ getD (numbered c t numbers) (2 * first + 1) 0
+    first-end = ee ∙ sym (numbered-turn c t numbers ht (2 * first + 1) (let h = P .ahead .here in omega arith))
+
+    pub first-here : Place w c (numbered c t numbers) first base start end
+    first-here = first-place (P .ahead) start end first-start first-end
+
+    pub first-sum : (sum : ℕ) → sum ≡ columnSum (start - base) (suc (end - base - 1 - (start - base)))
+        → SpanOf w c (take (2 * c) (numbered c t numbers)) first (first + 1) (end - base - 1) (end - start) sum
+    first-sum sum e = first-span (P .ahead) start end first-start first-end sum e
+
+    pub first-clears : (clear ≤ base + w) × (end ≤ base + w) × (base + w ≤ length l) × (base + w ≤ maxMaskDots)
+    first-clears = (P .near, place-ends first-here .2, row-fits .0, row-fits .1)
+
+    module _ {l₁ : List ℕ} {r : ℕ} (C : Cleared l l₁ clear end (base + w) r) where
+      pub first-asks : (start < end) × (end ≤ length l₁)
+      first-asks = let e = place-ends first-here in let f = row-fits .0 in let n = C .filled .len in (e .1, omega arith)
+
+      pub first-painted : (l₂ : List ℕ) → Filled l₁ l₂ start end (getD numbers first 0) → PaintsOn (numbered c t numbers) c l l₂ (base + w) first clear (first + 1) r
+      first-painted l₂ X n l₀ h S =
+          paint-more (paint-clear S l₁ r (C .from) (le-trans (C .upto) h) (C .filled)) (P .ahead .here) start end first-start first-end (C .reach) l₂
+          (subst (λ z. Filled l₁ l₂ start end z) (sym (numbered-number c t numbers ht first)) X)
 
   -- and the next, run k
-  module _ {k last dots sum : ℕ} (S : SpanOf w c (take (2 * c) s) first k last dots sum) (label : ℕ) (el : label ≡ getD s (2 * c + first) 0)
-      (G : (k < c) × (getD s (2 * c + k) 0 ≡ label) × (getD s (2 * k) 0 < base + w)) (start end : ℕ) (es : start ≡ getD s (2 * k) 0) (ee : end ≡ getD s (2 * k + 1) 0) where
-    pub next-asks : {l₁ : List ℕ} → PaintsOn s c l l₁ (base + w) first k → (start < end) × (end ≤ length l₁)
-    next-asks I = paint-asks (I (P .n) (P .l₀) (P .sweep)) (G .0) start end es ee
+  module _ {k last dots sum : ℕ} (S : SpanOf w c (take (2 * c) (numbered c t numbers)) first k last dots sum) (number : ℕ) (el : number ≡ getD numbers first 0)
+      (G : (k < c) × (getD numbers k 0 ≡ number) × (getD t (2 * k) 0 < base + w)) (start end : ℕ) (es : start ≡ getD t (2 * k) 0) (ee : end ≡ getD t (2 * k + 1) 0) where
+    next-start : start ≡ getD (numbered c t numbers) (2 * k) 0
+    next-start = es ∙ sym (numbered-turn c t numbers ht (2 * k) (let h = G .0 in omega arith))
 
-    pub next-painted : {l' l₁ : List ℕ} {a : ℕ} → PaintsOn s c l' l₁ (base + w) a k → (l₂ : List ℕ) → Filled l₁ l₂ start end label → PaintsOn s c l' l₂ (base + w) a (k + 1)
-    next-painted {l'} {l₁} I l₂ X n l₀ T =
-        paint-more (I n l₀ T) (G .0) start end es ee (place-ends (next-place (P .ahead) S label el G start end es ee) .2) l₂ (subst (λ z. Filled l₁ l₂ start end z) (sym (G .1)) X)
+    next-end : end ≡ getD (numbered c t numbers) (2 * k + 1) 0
+    next-end = ee ∙ sym (numbered-turn c t numbers ht (2 * k + 1) (let h = G .0 in omega arith))
+
+    own-number : number ≡ getD (numbered c t numbers) (2 * c + first) 0
+    own-number = el ∙ sym (numbered-number c t numbers ht first)
+
+    next-one : (k < c) × (getD (numbered c t numbers) (2 * c + k) 0 ≡ number) × (getD (numbered c t numbers) (2 * k) 0 < base + w)
+    next-one = (G .0, numbered-number c t numbers ht k ∙ G .1, let e = numbered-turn c t numbers ht (2 * k) (let h = G .0 in omega arith) in let g = G .2 in omega arith)
+
+    pub next-here : Place w c (numbered c t numbers) k base start end
+    next-here = next-place (P .ahead) S number own-number next-one start end next-start next-end
+
+    pub next-sum : (more : ℕ) → more ≡ columnSum (start - base) (suc (end - base - 1 - (start - base)))
+        → SpanOf w c (take (2 * c) (numbered c t numbers)) first (k + 1) (end - base - 1) (dots + (end - start)) (sum + more)
+    next-sum more e = next-span (P .ahead) S number own-number next-one start end next-start next-end more e
+
+    module _ {l₁ : List ℕ} {clear₁ : ℕ} (I : PaintsOn (numbered c t numbers) c l l₁ (base + w) first clear k clear₁) where
+      pub next-clears : clear₁ ≤ base + w → (clear₁ ≤ base + w) × (end ≤ base + w) × (base + w ≤ length l₁) × (base + w ≤ maxMaskDots)
+      next-clears h = let e = paints-long I in let f = row-fits .0 in (h, place-ends next-here .2, omega arith, row-fits .1)
+
+      pub next-asks : {l₂ : List ℕ} {r : ℕ} → Cleared l₁ l₂ clear₁ end (base + w) r → (start < end) × (end ≤ length l₂)
+      next-asks C = let e = place-ends next-here in let f = row-fits .0 in let n = C .filled .len in let m = paints-long I in (e .1, omega arith)
+
+    pub next-painted : {l' l₁ l₂ : List ℕ} {a x clear₁ r : ℕ} → PaintsOn (numbered c t numbers) c l' l₁ (base + w) a x k clear₁ → Cleared l₁ l₂ clear₁ end (base + w) r
+        → (l₃ : List ℕ) → Filled l₂ l₃ start end number → PaintsOn (numbered c t numbers) c l' l₃ (base + w) a x (k + 1) r
+    next-painted {l'} {l₁} {l₂} {a} {x} {clear₁} {r} I C l₃ X n l₀ h T =
+        paint-more (paint-clear (I n l₀ h T) l₂ r (C .from) (le-trans (C .upto) h) (C .filled)) (G .0) start end next-start next-end (C .reach) l₃
+        (subst (λ z. Filled l₂ l₃ start end z) (sym (next-one .1)) X)
 
 -- A row: the runs from `first` up to k are painted and tallied, and run k lies in row y or past it
 
-pub record RowSweep (w c : ℕ) (s l l' comps comps' : List ℕ) (y first before k count : ℕ) : Type 0 where
-  pub painted : PaintsOn s c l l' (y * w + w) first k
+pub record RowSweep (w c : ℕ) (s l l' comps comps' : List ℕ) (y first before clear k count clear' : ℕ) : Type 0 where
+  pub painted : PaintsOn s c l l' (y * w + w) first clear k clear'
+  pub near : clear' ≤ y * w + w
   pub tallied : (comps₀ : List ℕ) → TallySweep w c s comps₀ comps first before → TallySweep w c s comps₀ comps' k count
   pub from : k < c → y * w ≤ startOf (take (2 * c) s) k
 
-module _ {w c : ℕ} {s l comps : List ℕ} {y first before : ℕ} (R : RowPaintable w c s l comps y first before) where
-  pub row-none : RowSweep w c s l l comps comps y first before first before
-  row-none = record { painted = λ n l₀ S. S; tallied = λ comps₀ T. T; from = R .from }
+module _ {w c : ℕ} (t numbers : List ℕ) {l comps : List ℕ} {y first before clear : ℕ} (ht : 2 * c ≤ length t) (R : RowPaintable w c (numbered c t numbers) l comps y first before clear) where
+  pub row-none : RowSweep w c (numbered c t numbers) l l comps comps y first before clear first before clear
+  row-none = record { painted = λ n l₀ h S. S; near = R .near; tallied = λ comps₀ T. T; from = R .from }
 
-  pub row-room : (c ≤ maxMaskDots) × (3 * c ≤ length s) × (y * w + w ≤ maxMaskDots)
-  row-room = let i = R .sweep .inside in let d = R .sweep .asks .dots in (R .tally .asks .list .few, R .tally .asks .list .room, omega arith)
+  pub row-room : (c ≤ maxMaskDots) × (c ≤ length numbers) × (y * w + w ≤ maxMaskDots)
+  row-room = let i = R .inside in let d = R .sweep .asks .dots in (R .tally .asks .list .few, numbered-long c t numbers ht (R .tally .asks .list .room), omega arith)
 
-  module _ {l₁ comps₁ : List ℕ} {k count : ℕ} (I : RowSweep w c s l l₁ comps comps₁ y first before k count) where
-    row-sweep : PaintSweep s c (R .l₀) l₁ (R .n) k (y * w + w)
-    row-sweep = I .painted (R .n) (R .l₀) (R .sweep)
+  module _ {l₁ comps₁ : List ℕ} {k count clear₁ : ℕ} (I : RowSweep w c (numbered c t numbers) l l₁ comps comps₁ y first before clear k count clear₁) where
+    row-sweep : PaintSweep (numbered c t numbers) c (R .l₀) l₁ (R .n) k clear₁
+    row-sweep = I .painted (R .n) (R .l₀) (R .inside) (R .sweep)
 
-    row-tally : TallySweep w c s (R .comps₀) comps₁ k count
+    row-tally : TallySweep w c (numbered c t numbers) (R .comps₀) comps₁ k count
     row-tally = I .tallied (R .comps₀) (R .tally)
 
     pub row-long : (length l₁ ≡ length l) × (length comps₁ ≡ length comps)
     row-long = (row-sweep .len ∙ sym (R .sweep .len), tally-long row-tally ∙ sym (tally-long (R .tally)))
 
-    pub row-done : (k < c → y * w + w ≤ startOf (take (2 * c) s) k) → RowPainted w c s l l₁ comps comps₁ y first before k count
-    row-done h = record { painted = I .painted; tallied = I .tallied; past = h }
+    pub row-done : (k < c → y * w + w ≤ getD t (2 * k) 0) → RowPainted w c (numbered c t numbers) l l₁ comps comps₁ y first before clear k count clear₁
+    row-done h =
+        record {
+          painted = I .painted;
+          near = I .near;
+          tallied = I .tallied;
+          past = λ q. let e = numbered-turn c t numbers ht (2 * k) (omega arith) in let g = getD-take (2 * c) (numbered c t numbers) (2 * k) 0 (omega arith) in let p = h q in omega arith;
+        }
 
-    module _ (lk : k < c) (start : ℕ) (es : start ≡ getD s (2 * k) 0) where
-      pub row-start : (start ≡ startOf (take (2 * c) s) k) × (y * w ≤ start)
-      row-start = let e = es ∙ sym (getD-take (2 * c) s (2 * k) 0 (omega arith)) in let f = I .from lk in (e, omega arith)
+    module _ (lk : k < c) (start : ℕ) (es : start ≡ getD t (2 * k) 0) where
+      pub row-start : (start ≡ startOf (take (2 * c) (numbered c t numbers)) k) × (y * w ≤ start)
+      row-start =
+          let e = es ∙ (sym (numbered-turn c t numbers ht (2 * k) (omega arith)) ∙ sym (getD-take (2 * c) (numbered c t numbers) (2 * k) 0 (omega arith))) in
+          let f = I .from lk in
+          (e, omega arith)
 
       module _ (h : start < y * w + w) where
-        row-is : y ≡ startOf (take (2 * c) s) k / w
-        row-is = let e = row-start .0 in let f = I .from lk in row-found (startOf (take (2 * c) s) k) w y f (omega arith)
+        row-is : y ≡ startOf (take (2 * c) (numbered c t numbers)) k / w
+        row-is = let e = row-start .0 in let f = I .from lk in row-found (startOf (take (2 * c) (numbered c t numbers)) k) w y f (omega arith)
 
-        column-is : start - y * w ≡ startOf (take (2 * c) s) k % w
-        column-is = let e = row-start .0 in let m = ap (λ z. z * w) row-is in let d = div-add-mod' (startOf (take (2 * c) s) k) w in omega arith
+        column-is : start - y * w ≡ startOf (take (2 * c) (numbered c t numbers)) k % w
+        column-is = let e = row-start .0 in let m = ap (λ z. z * w) row-is in let d = div-add-mod' (startOf (take (2 * c) (numbered c t numbers)) k) w in omega arith
 
-        pub row-span : SpanPaintable w c s l₁ (y * w) k
-        row-span = record { n = R .n; l₀ = R .l₀; sweep = row-sweep; ahead = record { comps = R .comps₀; asks = R .tally .asks; here = lk; row = ap (λ z. z * w) row-is } }
+        pub row-span : SpanPaintable w c (numbered c t numbers) l₁ (y * w) k clear₁
+        row-span =
+            record {
+              n = R .n;
+              l₀ = R .l₀;
+              inside = R .inside;
+              sweep = row-sweep;
+              near = I .near;
+              ahead = record { comps = R .comps₀; asks = R .tally .asks; here = lk; row = ap (λ z. z * w) row-is };
+            }
 
-        module _ (number : ℕ) (en : number ≡ getD s (2 * c + k) 0) {l₂ : List ℕ} {next last dots sum : ℕ} (X : SpanPainted w c s l₁ l₂ (y * w + w) k next last dots sum) where
-          number-is : number ≡ componentNumber (firstRun w c (take (2 * c) s)) k
-          number-is = en ∙ R .tally .asks .numbers k lk
+        module _ (number : ℕ) (en : number ≡ getD numbers k 0) {l₂ : List ℕ} {next clear₂ last dots sum : ℕ} (X : SpanPainted w c (numbered c t numbers) l₁ l₂ (y * w + w) k clear₁ next clear₂ last dots sum) where
+          number-is : number ≡ componentNumber (firstRun w c (take (2 * c) (numbered c t numbers))) k
+          number-is = en ∙ (sym (numbered-number c t numbers ht k) ∙ R .tally .asks .numbers k lk)
 
           pub row-asks : SpanTallyable comps₁ number count (start - y * w) last dots sum y
           row-asks = tally-asks row-tally lk (X .span) number (start - y * w) y number-is column-is row-is
 
-          pub row-more : (comps₂ : List ℕ) (count₂ : ℕ) → comps₂ ≡ tallied comps₁ number count (start - y * w) last dots sum y → count₂ ≡ max count number
-              → RowSweep w c s l l₂ comps comps₂ y first before next count₂
-          row-more comps₂ count₂ ew ec =
+          pub row-more : (comps₂ : List ℕ) (count₂ : ℕ) → (comps₂ ≡ tallied comps₁ number count (start - y * w) last dots sum y) × (count₂ ≡ max count number)
+              → RowSweep w c (numbered c t numbers) l l₂ comps comps₂ y first before clear next count₂ clear₂
+          row-more comps₂ count₂ e =
               record {
-                painted = λ n l₀ S. X .painted n l₀ (I .painted n l₀ S);
-                tallied = λ comps₀ T. tally-more (I .tallied comps₀ T) lk (X .span) number (start - y * w) y number-is column-is row-is comps₂ count₂ ew ec;
+                painted = paints-then (I .painted) (X .painted);
+                near = X .near;
+                tallied = λ comps₀ T. tally-more (I .tallied comps₀ T) lk (X .span) number (start - y * w) y number-is column-is row-is comps₂ count₂ (e .0) (e .1);
                 from = λ q. let a = I .from lk in let b = X .span .some in let z = R .tally .asks .list .order .some k lk in let v = R .tally .asks .list .order .rising k next b q in omega arith;
               }
 
@@ -113,7 +198,7 @@ pub record PlaneSweep (w c h : ℕ) (s l₀ l comps₀ comps : List ℕ) (k coun
 pub plane-none : {w c h : ℕ} {s l comps : List ℕ} → Paintable s c l (w * h) → Tallyable w c s comps → PlaneSweep w c h s l l comps comps 0 0 0
 plane-none P T = record { sweep = paint-none P; tally = tally-none T; from = λ _. omega arith }
 
-module _ {w c h : ℕ} {s l₀ l comps₀ comps : List ℕ} {k count clear : ℕ} (I : PlaneSweep w c h s l₀ l comps₀ comps k count clear) where
+module _ {w c h : ℕ} (t numbers : List ℕ) {l₀ l comps₀ comps : List ℕ} {k count clear : ℕ} (ht : 2 * c ≤ length t) (I : PlaneSweep w c h (numbered c t numbers) l₀ l comps₀ comps k count clear) where
   pub plane-long : (length l ≡ length l₀) × (length comps ≡ length comps₀)
   plane-long = (I .sweep .len, tally-long (I .tally))
 
@@ -121,13 +206,13 @@ module _ {w c h : ℕ} {s l₀ l comps₀ comps : List ℕ} {k count clear : ℕ
   pub plane-fits : (clear ≤ w * h) × (w * h ≤ maxMaskDots) × (w * h ≤ length l)
   plane-fits = let a = I .sweep .asks .labels in let n = I .sweep .len in (I .sweep .inside, I .sweep .asks .dots, omega arith)
 
-  pub plane-read : k < c → (2 * k < length s) × (0 < w)
-  plane-read lk = let r = I .tally .asks .list .room in (omega arith, I .tally .asks .list .wide)
+  pub plane-read : k < c → (2 * k < length t) × (0 < w)
+  plane-read lk = (omega arith, I .tally .asks .list .wide)
 
   -- run k lies in row y
-  module _ (lk : k < c) (start y : ℕ) (es : start ≡ getD s (2 * k) 0) (ey : y ≡ start / w) where
-    start-is : start ≡ startOf (take (2 * c) s) k
-    start-is = es ∙ sym (getD-take (2 * c) s (2 * k) 0 (omega arith))
+  module _ (lk : k < c) (start y : ℕ) (es : start ≡ getD t (2 * k) 0) (ey : y ≡ start / w) where
+    start-is : start ≡ startOf (take (2 * c) (numbered c t numbers)) k
+    start-is = es ∙ (sym (numbered-turn c t numbers ht (2 * k) (omega arith)) ∙ sym (getD-take (2 * c) (numbered c t numbers) (2 * k) 0 (omega arith)))
 
     here : (y * w ≤ start) × (start < y * w + w) × (y * w + w ≤ w * h)
     here =
@@ -150,53 +235,49 @@ module _ {w c h : ℕ} {s l₀ l comps₀ comps : List ℕ} {k count clear : ℕ
             go (yes z) = z
             go (no z) = let r : h * w ≤ y * w = mul-le-mul-right w (let u : h ≤ y = omega arith in u) in let q = mul-comm w h in absurd (omega arith)
 
-    -- the row lies within the plane, past what is cleared
-    pub plane-row : (clear ≤ y * w + w) × (y * w + w ≤ length l) × (y * w + w ≤ w * h)
-    plane-row = let a = here .0 in let b = here .1 in let d = here .2 in let f = I .from lk in let e = start-is in let n = plane-fits .2 in (omega arith, omega arith, here .2)
+    pub plane-ahead : RowPaintable w c (numbered c t numbers) l comps y k count clear
+    plane-ahead =
+        record {
+          n = w * h;
+          l₀ = l₀;
+          inside = here .2;
+          sweep = I .sweep;
+          near = let b = here .1 in let f = I .from lk in let e = start-is in omega arith;
+          comps₀ = comps₀;
+          tally = I .tally;
+          from = λ q. let a = here .0 in let e = start-is in omega arith;
+        }
 
-    module _ (l₁ : List ℕ) (X : Filled l l₁ clear (y * w + w) 0) where
-      pub plane-ahead : RowPaintable w c s l₁ comps y k count
-      plane-ahead =
-          record {
-            n = w * h;
-            l₀ = l₀;
-            sweep = paint-clear (I .sweep) l₁ (y * w + w) (plane-row .0) (plane-row .2) X;
-            comps₀ = comps₀;
-            tally = I .tally;
-            from = λ q. let a = here .0 in let e = start-is in omega arith;
-          }
+    module _ {l₂ comps₂ : List ℕ} {next count₂ clear₂ : ℕ} (Q : RowPainted w c (numbered c t numbers) l l₂ comps comps₂ y k count clear next count₂ clear₂) where
+      pub plane-more : PlaneSweep w c h (numbered c t numbers) l₀ l₂ comps₀ comps₂ next count₂ clear₂
+      plane-more = record { sweep = Q .painted (w * h) l₀ (here .2) (I .sweep); tally = Q .tallied comps₀ (I .tally); from = λ q. le-trans (Q .near) (Q .past q) }
 
-      module _ {l₂ comps₂ : List ℕ} {next count₂ : ℕ} (Q : RowPainted w c s l₁ l₂ comps comps₂ y k count next count₂) where
-        pub plane-more : PlaneSweep w c h s l₀ l₂ comps₀ comps₂ next count₂ (y * w + w)
-        unfolding plane-ahead
-        plane-more = record { sweep = Q .painted (w * h) l₀ (plane-ahead .sweep); tally = Q .tallied comps₀ (I .tally); from = Q .past }
+      -- run k is among those painted
+      pub plane-on : k < next
+      plane-on = go (decLt k next)
+        where
+          go : Dec (k < next) → k < next
+          go (yes z) = z
+          go (no z) = absurd (behind (decLt next k))
+            where
+              late : y * w + w ≤ startOf (take (2 * c) (numbered c t numbers)) next
+              late = Q .past (omega arith)
 
-        -- run k is among those painted
-        pub plane-on : k < next
-        plane-on = go (decLt k next)
-          where
-            go : Dec (k < next) → k < next
-            go (yes z) = z
-            go (no z) = absurd (behind (decLt next k))
-              where
-                late : y * w + w ≤ startOf (take (2 * c) s) next
-                late = Q .past (omega arith)
+              behind : Dec (next < k) → ⊥
+              behind (yes u) =
+                  let o = I .sweep .asks .order .some next (omega arith) in
+                  let v = I .sweep .asks .order .rising next k u lk in
+                  let p = late in
+                  let b = here .1 in
+                  let e = start-is in
+                  omega arith
+              behind (no u) =
+                  let z : next ≡ k = omega arith in
+                  let p = late in
+                  let m = ap (startOf (take (2 * c) (numbered c t numbers))) z in
+                  let b = here .1 in
+                  let e = start-is in
+                  omega arith
 
-                behind : Dec (next < k) → ⊥
-                behind (yes u) =
-                    let o = I .sweep .asks .order .some next (omega arith) in
-                    let v = I .sweep .asks .order .rising next k u lk in
-                    let p = late in
-                    let b = here .1 in
-                    let e = start-is in
-                    omega arith
-                behind (no u) =
-                    let z : next ≡ k = omega arith in
-                    let p = late in
-                    let m = ap (startOf (take (2 * c) s)) z in
-                    let b = here .1 in
-                    let e = start-is in
-                    omega arith
-
-  pub plane-done : c ≤ k → (l₁ : List ℕ) → Filled l l₁ clear (w * h) 0 → Painted s c l₀ l₁ (w * h) × (comps ≡ over (records w c s c) comps₀)
+  pub plane-done : c ≤ k → (l₁ : List ℕ) → Filled l l₁ clear (w * h) 0 → Painted (numbered c t numbers) c l₀ l₁ (w * h) × (comps ≡ over (records w c (numbered c t numbers) c) comps₀)
   plane-done all l₁ X = (paint-done (paint-clear (I .sweep) l₁ (w * h) (I .sweep .inside) (le-refl (w * h)) X) all refl, tally-done (I .tally) all)

@@ -14,11 +14,17 @@ use Rattle.labelling.specs.Classes.{firsts}
 use Rattle.labelling.specs.Forests.{Named}
 use Rattle.memory.specs.Masks.{isInk}
 use Rattle.labelling.specs.Labels.{touches, isFirst, labelAt, componentTo, labelling}
-use Rattle.labelling.specs.InkRuns.{inkBefore, turns, runCount, runOf, startOf, endOf, Runs, touchRuns, isRoot, componentNumber, runLabel}
+use Rattle.labelling.specs.InkRuns.{inkBefore, turns, opensRun, runCount, runOf, startOf, endOf, Runs, touchRuns, isRoot, componentNumber, runLabel}
 use Rattle.memory.proofs.TableLaws.{table-ext}
+use Rattle.labelling.proofs.CountLaws.{count-low}
 use Rattle.labelling.proofs.TouchLaws.{run-of, starts-rise}
 use Rattle.labelling.proofs.TransferLaws.{count-by-runs, label-by-runs, label-blank}
 use Rattle.labelling.proofs.TurnLaws.{bit, any-default, runs-ext, scanned}
+
+-- no more runs than dots
+pub runs-low : (w : ℕ) (m : List ℕ) (n : ℕ) → runCount w m n ≤ n
+unfolding runCount
+runs-low w m n = count-low (opensRun w m) n
 
 -- All dots of a mask are read
 

@@ -3,7 +3,7 @@ use mathlib.Core.Path.{_≡_, refl, sym, ap, _∙_, subst}
 use mathlib.Core.List.{List, [], _++_}
 use mathlib.Core.Bool.{Bool, true, false, _&&_}
 use Prim.Native.Nat.{ℕ, zero, suc, _+_, _-_, _*_, _/_, _≤_, _<_, min, max}
-use native.Mathlib.Nat.{le-refl, not-suc-le-zero, suc-mul, mul-le-mul-right, div-add-mod', mul-add-div-right, div-eq-of-lt}
+use native.Mathlib.Nat.{le-refl, not-suc-le-zero, suc-mul, mul-le-mul-right, div-add-mod', mod-lt, mul-add-div-right, div-eq-of-lt}
 use native.Mathlib.Numerals.{add-one}
 use native.Mathlib.Decide.{ℕ-discrete, decLt}
 use native.Mathlib.Omega.{arith}
@@ -17,7 +17,7 @@ use Rattle.labelling.specs.InkRuns.{startOf, endOf, touchRuns}
 use Rattle.labelling.specs.Forests.{Forest, Seen, Joined, Kin, joinF}
 use Rattle.labelling.specs.Linking.{touching, Order, RunList, KnownRuns, Kept, Linked, Joining, Linkable, Joinable, Skipped, Parented, LinkedOne, RowLinkable, LinkedTo, RowEnd, RowAhead, RowLinked, AllLinked, firstRun}
 use Rattle.labelling.proofs.LinkLaws.{seen-none, seen-skip, seen-join, seen-next, seen-all}
-use Rattle.labelling.proofs.TouchLaws.{row-rise}
+use Rattle.labelling.proofs.TouchLaws.{row-same, row-rise}
 use Rattle.labelling.proofs.TransferLaws.{named-firsts}
 use Rattle.labelling.proofs.ParentLaws.{forest-new, forest-under, forest-fresh}
 use Rattle.labelling.proofs.FirstLaws.{joinF-a, joinF-b}
@@ -266,9 +266,66 @@ module _ {w c q first to j : ℕ} {s₀ s : List ℕ} {k member : ℕ} (S : Swee
 
 -- One run
 
-module _ {w c q i to j : ℕ} {s : List ℕ} (A : Linkable w c q s i to j) (first start : ℕ) (K : Skipped w i to start s first) (e : start ≡ getD s (2 * j) 0) where
-  start-is : start ≡ startOf (take (2 * c) s) j
-  start-is = e ∙ kept-word (A .list) (kept-none q s) (2 * j) (let h = A .under .high in omega arith)
+-- of the runs up to `to`, which does not end left of `start`, one that does is not the last
+pub before-end : (t : List ℕ) (k to start : ℕ) → k ≤ to → endOf t 0 k < start → start ≤ endOf t 0 to → k + 1 ≤ to
+before-end t k to start l h h₂ = go (ℕ-discrete k to)
+  where
+    go : Dec (k ≡ to) → k + 1 ≤ to
+    go (yes e) = let x : endOf t 0 k ≡ endOf t 0 to = ap (endOf t 0) e in absurd (omega arith)
+    go (no ne) = omega arith
+
+module _ {w c q i to j : ℕ} {s : List ℕ} (A : Linkable w c q s i to j) where
+  -- the words of run j
+  one-start : getD s (2 * j) 0 ≡ startOf (take (2 * c) s) j
+  one-start = kept-word (A .list) (kept-none q s) (2 * j) (let h = A .under .high in omega arith)
+
+  pub one-end : getD s (2 * j + 1) 0 ≡ endOf (take (2 * c) s) 0 j
+  one-end = kept-word (A .list) (kept-none q s) (2 * j + 1) (let h = A .under .high in omega arith)
+
+  -- a run stands in the row above: run j can be moved up
+  pub start-high : i < to → w ≤ getD s (2 * j) 0
+  start-high l =
+      let x = startOf (take (2 * c) s) j in
+      let u = A .under .above i (le-refl i) l in
+      let h : 1 * w ≤ x / w * w = mul-le-mul-right w (let y : 1 ≤ x / w = omega arith in y) in
+      let d = div-add-mod' x w in
+      let e = one-start in
+      omega arith
+
+  -- run `to` does not end left of run j, moved up
+  pub own-high : i < to → getD s (2 * j) 0 ≤ getD s (2 * to + 1) 0 + w
+  own-high l =
+      let a = A .under .own l in
+      let m = A .under .mid in
+      let h = A .under .high in
+      let b = one-start in
+      let d = kept-word (A .list) (kept-none q s) (2 * to + 1) (omega arith) in
+      omega arith
+
+  pub end-high : i < to → w ≤ getD s (2 * j + 1) 0
+  end-high l = let a = start-high l in let b = one-start in let c = one-end in let d = A .list .order .some j (A .under .high) in omega arith
+
+  -- the parent of run j is written, and the runs before `first` are passed
+  one-written : (first : ℕ) → i ≤ first → first ≤ to → ((a k : ℕ) → a < first → j ≤ k → k < c → touching w (take (2 * c) s) a k ≡ false)
+      → (s' : List ℕ) (r : ℕ) → Parented w c q s s' j r → LinkedOne w c q s (set s' (q + j) r) i to j first
+  one-written first l l₂ passed s' r P =
+      record {
+        kept = kept-trans (P .kept) (record { len = length-set s' (q + j) r; runs = take-set-le q s' (q + j) r (omega arith) });
+        from = l;
+        upto = l₂;
+        left = passed;
+        linked = subst (λ p. Linked w c (take (2 * c) s) p (suc j)) (sym (drop-set-add q s' j r)) (P .linked);
+      }
+
+  -- none of the runs above is left
+  pub one-alone : to ≤ i → LinkedOne w c q s (set s (q + j) j) i to j i
+  one-alone l =
+      let P = none-above (record { list = A .list; under = A .under; reach = λ k. absurd (omega arith); linked = A .linked }) l in
+      one-written i (le-refl i) (A .under .low) (A .under .left) s j P
+
+module _ {w c q i to j : ℕ} {s : List ℕ} (A : Linkable w c q s i to j) (first start : ℕ) (K : Skipped i to start s first) (e : start + w ≡ getD s (2 * j) 0) where
+  start-is : start + w ≡ startOf (take (2 * c) s) j
+  start-is = e ∙ one-start A
 
   passed : (a k : ℕ) → a < first → j ≤ k → k < c → touching w (take (2 * c) s) a k ≡ false
   passed a k l l₂ l₃ = go (decLt a i)
@@ -294,6 +351,7 @@ module _ {w c q i to j : ℕ} {s : List ℕ} (A : Linkable w c q s i to j) (firs
               high = A .under .high;
               left = passed;
               above = λ a l. let h = K .from in A .under .above a (omega arith);
+              own = λ l. let h = K .from in A .under .own (omega arith);
               beside = A .under .beside;
             };
         reach = λ l. let u = A .under .mid in let v = A .under .high in let x = K .here l in let y = start-is in let z = kept-word (A .list) (kept-none q s) (2 * first + 1) (omega arith) in omega arith;
@@ -301,14 +359,7 @@ module _ {w c q i to j : ℕ} {s : List ℕ} (A : Linkable w c q s i to j) (firs
       }
 
   pub one-linked : (s' : List ℕ) (r : ℕ) → Parented w c q s s' j r → LinkedOne w c q s (set s' (q + j) r) i to j first
-  one-linked s' r P =
-      record {
-        kept = kept-trans (P .kept) (record { len = length-set s' (q + j) r; runs = take-set-le q s' (q + j) r (omega arith) });
-        from = K .from;
-        upto = K .upto;
-        left = passed;
-        linked = subst (λ p. Linked w c (take (2 * c) s) p (suc j)) (sym (drop-set-add q s' j r)) (P .linked);
-      }
+  one-linked = one-written A first (K .from) (K .upto) passed
 
 -- One row: the runs below j are linked, and those before i touch none from j on
 
@@ -363,6 +414,17 @@ module _ {w c q : ℕ} {s₀ s : List ℕ} {above here next i j : ℕ} (S : RowS
               high = let h = R .high in omega arith;
               left = S .left;
               above = λ a l₁ l₂. let h = S .low in R .rows a j (omega arith) l₂ (S .from) l;
+              own = λ l₁.
+                  let t = take (2 * c) s₀ in
+                  let h = S .low in
+                  let f = S .from in
+                  let u = R .high in
+                  let e = R .rows i j (omega arith) l₁ f l in
+                  let e₂ = R .rows i here (omega arith) l₁ (le-refl here) (omega arith) in
+                  let d = row-same w [] (S .asks .list .wide) (startOf t j) (startOf t here) (let x : startOf t j / w ≡ startOf t here / w = omega arith in x) in
+                  let n = mod-lt (startOf t j) (S .asks .list .wide) in
+                  let o = S .asks .list .order .some here (omega arith) in
+                  omega arith;
               beside = λ a l₁ l₂. R .beside a j l₁ l₂ l;
             });
         linked = rw (kept-turns (S .asks .list) (S .kept)) (S .linked);

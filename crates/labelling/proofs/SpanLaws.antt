@@ -6,8 +6,9 @@ use native.Mathlib.Nat.{le-refl, add-mul, div-add-mod', div-mul-le-self, suc-mul
 use native.Mathlib.Numerals.{add-one}
 use native.Mathlib.Omega.{arith}
 use borrow.Author.Tests.{eq-eqb, ne-eqb}
-use lib.ListN.{getD, length, take}
-use lib.Seq.{getD-take}
+use lib.ListN.{getD, length, take, drop, length-drop}
+use lib.Seq.{getD-take, getD-drop}
+use Rattle.memory.proofs.PartLaws.{tail-part}
 use Rattle.memory.specs.Limits.{maxMaskSide, maxMaskDots}
 use Rattle.labelling.specs.Components.{columnSum, absorbedRun, absorbedSpan}
 use Rattle.labelling.specs.InkRuns.{startOf, endOf, componentRuns}
@@ -53,6 +54,10 @@ place-columns P = let a = P .column in let b = P .last-is in let e = P .inside i
 -- and its ends
 pub place-ends : {w c : ℕ} {s : List ℕ} {k base start end : ℕ} → Place w c s k base start end → (base ≤ start) × (start < end) × (end ≤ base + w)
 place-ends P = let a = P .first-dot in let b = P .last-dot in let e = P .inside in let f = P .start-is in let g = P .end-is in (omega arith, omega arith, omega arith)
+
+-- and how many dots it has
+pub place-dots : {w c : ℕ} {s : List ℕ} {k base start end : ℕ} → Place w c s k base start end → end - start ≡ suc (end - base - 1 - (start - base))
+place-dots P = let a = P .first-dot in let b = P .last-dot in let f = P .start-is in let g = P .end-is in let e = P .inside in omega arith
 
 place-sum : {w c : ℕ} {s : List ℕ} {k base start end : ℕ} (P : Place w c s k base start end) → columnSum (start - base) (suc (end - base - 1 - (start - base))) ≡ columnSum (startOf (take (2 * c) s) k % w) (suc (P .d))
 place-sum {w} {c} {s} {k} P = (λ i. columnSum (P .column i) (suc (P .last-is i - P .column i))) ∙ ap (λ z. columnSum (startOf (take (2 * c) s) k % w) (suc z)) (back (startOf (take (2 * c) s) k % w) (P .d))
@@ -172,6 +177,15 @@ module _ {w c : ℕ} {s comps : List ℕ} (A : Tallyable w c s comps) where
               ∙ ap (λ z. absorbedSpan (recordTo w c (take (2 * c) s) (numberOf w c (take (2 * c) s) first) first) (startOf (take (2 * c) s) first % w) (startOf (take (2 * c) s) k % w + P .d) (dots + suc (P .d)) (sum + z) (startOf (take (2 * c) s) first / w)) (sym es₂)))));
           other = λ q ne. other-step k q (λ e. ne (en ∙ e)) ∙ S .other q ne;
         })
+
+-- Numbers behind the runs, as a part of the words
+
+pub behind-long : (c : ℕ) (s : List ℕ) → 3 * c ≤ length s → c ≤ length (take (length s - 2 * c) (drop (2 * c) s))
+behind-long c s h = rw (tail-part (2 * c) s) (simp length-drop (omega arith))
+
+pub behind-goes : (c : ℕ) (s : List ℕ) (k number limit : ℕ) → (k < c) × (getD (take (length s - 2 * c) (drop (2 * c) s)) k 0 ≡ number) × (getD s (2 * k) 0 < limit)
+    → (k < c) × (getD s (2 * c + k) 0 ≡ number) × (getD s (2 * k) 0 < limit)
+behind-goes c s k number limit g = (g .0, sym (getD-drop (2 * c) s k 0) ∙ (ap (λ z. getD z k 0) (sym (tail-part (2 * c) s)) ∙ g .1), g .2)
 
 -- The span that starts with run `first`
 

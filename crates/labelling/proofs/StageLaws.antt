@@ -2,12 +2,12 @@
 use mathlib.Core.Path.{_≡_, refl, sym, ap, _∙_, subst}
 use mathlib.Core.List.{List, _++_}
 use Prim.Native.Nat.{ℕ, suc, _+_, _-_, _*_, _/_, _≤_, _<_, min}
-use native.Mathlib.Nat.{le-trans, mul-comm, mul-le-mul-left, mul-left-comm}
+use native.Mathlib.Nat.{le-trans, mul-comm, mul-pos, mul-le-mul-left, mul-left-comm}
 use native.Mathlib.Omega.{arith}
 use borrow.Author.Tests.{lt-ltb, le-ltb}
 use borrow.Rule.Slice.PartMut.{putMid}
 use lib.ListN.{getD, length, take, drop, length-append, length-drop}
-use lib.Seq.{length-take-le, take-at, getD-append-add}
+use lib.Seq.{length-take-le, take-at, drop-at, take-take, take-append-le, getD-append-add}
 use Rattle.memory.specs.Lists.{table, countIf}
 use Rattle.memory.specs.Words.{over}
 use Rattle.memory.specs.Records.{encoded}
@@ -16,18 +16,17 @@ use Rattle.memory.specs.Limits.{maxMaskDots}
 use Rattle.memory.proofs.TableLaws.{length-table}
 use Rattle.labelling.specs.Labels.{labelling}
 use Rattle.labelling.specs.InkRuns.{turns, runCount, runOf, startOf, endOf, Runs, isRoot, componentNumber, runLabel, componentRuns}
-use Rattle.labelling.specs.Extraction.{PlaneRoom, Extracted}
-use Rattle.labelling.specs.Linking.{touching, firstRun, RunList, LinkedRuns}
+use Rattle.labelling.specs.Extraction.{Extracted}
+use Rattle.labelling.specs.Linking.{touching, firstRun, Order, LinkRoom, LinkedRuns}
 use Rattle.labelling.specs.Numbering.{Numbered}
-use Rattle.labelling.specs.Painting.{Paintable, Painted}
+use Rattle.labelling.specs.Painting.{numbered, Paintable, Painted}
 use Rattle.labelling.specs.RecordWords.{recordWords}
 use Rattle.labelling.specs.Tallying.{records, Tallyable}
 use Rattle.labelling.specs.Answer.{answerOf, labelsLeft, componentsLeft, Workable, worked}
 use Rattle.labelling.specs.declared.entry.LabelAnswer.the-variants.{Labelled, Refused}
 use Rattle.labelling.proofs.TransferLaws.{firsts-named}
-use Rattle.labelling.proofs.RunLabelLaws.{turns-runs, paint-run, paint-gap}
+use Rattle.labelling.proofs.RunLabelLaws.{runs-low, turns-runs, paint-run, paint-gap}
 use Rattle.labelling.proofs.RunComponentLaws.{labelling-by-runs}
-use Rattle.labelling.proofs.StartLaws.{runs-low}
 use Rattle.memory.proofs.PartLaws.{tail-part, tail-put}
 use Rattle.labelling.proofs.RecordSweepLaws.{first-low}
 
@@ -55,15 +54,20 @@ pub half-fits : (w h : ℕ) → 0 < w → h * ((w + 1) / 2) ≤ w * h
 half-fits w h hw = let e = mul-comm w h in let g : h * ((w + 1) / 2) ≤ h * w = mul-le-mul-left h (let q : (w + 1) / 2 ≤ w = omega arith in q) in omega arith
 
 module _ {w h : ℕ} {m : List ℕ} {P : ℕ} {labels comps s₀ : List ℕ} (W : Workable w h m P labels comps s₀) where
-  pub stage-extract : PlaneRoom w h m s₀ × (3 * runCount w m (w * h) ≤ length s₀)
+  -- the runs of all rows have room before word 3 * (w * h), with a word to spare
+  pub stage-extract : LinkRoom w h m s₀ (3 * (w * h))
   stage-extract =
+      let some : 0 < w * h = mul-pos (W .wide) (W .high) in
       let f = half-fits w h (W .wide) in
       let e : h * (2 * ((w + 1) / 2)) ≡ 2 * (h * ((w + 1) / 2)) = mul-left-comm h 2 ((w + 1) / 2) in
       let r = W .words-room in
-      let b = runs-low w m (w * h) in
-      (record { wide = W .wide; narrow = W .narrow; low = W .low; dots = W .dots; whole = W .whole; room = omega arith }, omega arith)
+      record {
+        plane = record { wide = W .wide; narrow = W .narrow; low = W .low; dots = W .dots; whole = W .whole; room = omega arith };
+        place = omega arith;
+        room = omega arith;
+      }
 
-  module _ {s₁ : List ℕ} {c : ℕ} (K : LinkedRuns w h m s₀ s₁ c) where
+  module _ {s₁ : List ℕ} {q c : ℕ} (K : LinkedRuns w h m s₀ s₁ q c) where
     E : Extracted w h m s₀ s₁ c
     E = K .runs
 
@@ -78,37 +82,37 @@ module _ {w h : ℕ} {m : List ℕ} {P : ℕ} {labels comps s₀ : List ℕ} (W 
         subst (λ z. Runs w m (w * h) z (startOf (take (2 * c) s₁)) (endOf (take (2 * c) s₁) 0) (runOf w m)) (sym (E .count))
         (subst (λ t. Runs w m (w * h) (runCount w m (w * h)) (startOf t) (endOf t 0) (runOf w m)) (sym (E .runs)) (turns-runs w h m (W .wide)))
 
-    run-list : RunList w c s₁
-    run-list =
-        let b = runs-low w m (w * h) in
-        let n = E .count in
-        let d = W .dots in
-        let r = W .words-room in
-        let l = E .len in
-        record { wide = W .wide; narrow = W .narrow; few = omega arith; room = omega arith; order = record { some = all-runs .some; rising = all-runs .rising } }
+    few : c ≤ maxMaskDots
+    few = let b = runs-low w m (w * h) in let n = E .count in let d = W .dots in omega arith
+
+    order : Order c (take (2 * c) s₁)
+    order = record { some = all-runs .some; rising = all-runs .rising }
 
     -- the parents lie within the words
-    pub stage-room : (c ≤ maxMaskDots) × (2 * c ≤ length s₁)
-    stage-room = let f = run-list .few in let r = run-list .room in (f, omega arith)
+    pub stage-room : q ≤ length s₁
+    stage-room = let r = K .room in omega arith
 
-    tail-long : c ≤ length (drop (2 * c) s₁)
-    tail-long = simp length-drop (let r = run-list .room in omega arith)
+    tail-long : c ≤ length (drop q s₁)
+    tail-long = simp length-drop (let r = K .room in omega arith)
 
-    pub stage-number : (c ≤ length (take (length s₁ - 2 * c) (drop (2 * c) s₁))) × (P ≤ 65535) × ((j : ℕ) → j < c → getD (take (length s₁ - 2 * c) (drop (2 * c) s₁)) j 0 ≤ j)
-    stage-number = rw (tail-part (2 * c) s₁) (tail-long, W .few, K .forest .down)
+    pub stage-number : (c ≤ length (take (length s₁ - q) (drop q s₁))) × (P ≤ 65535) × ((j : ℕ) → j < c → getD (take (length s₁ - q) (drop q s₁)) j 0 ≤ j)
+    stage-number = rw (tail-part q s₁) (tail-long, W .few, K .forest .down)
 
-    module _ {p : List ℕ} {count : ℕ} (N₀ : Numbered c P (take (length s₁ - 2 * c) (drop (2 * c) s₁)) p count) where
-      N : Numbered c P (drop (2 * c) s₁) p count
-      N = subst (λ z. Numbered c P z p count) (tail-part (2 * c) s₁) N₀
+    module _ {p : List ℕ} {count : ℕ} (N₀ : Numbered c P (take (length s₁ - q) (drop q s₁)) p count) where
+      N : Numbered c P (drop q s₁) p count
+      N = subst (λ z. Numbered c P z p count) (tail-part q s₁) N₀
 
-      pub stage-length : length (putMid (2 * c) (length s₁ - 2 * c) s₁ p) ≡ length s₀
+      head-long : length (take q s₁) ≡ q
+      head-long = length-take-le q s₁ stage-room
+
+      pub stage-length : length (putMid q (length s₁ - q) s₁ p) ≡ length s₀
       stage-length =
-          let a : length (take (2 * c) s₁) ≡ 2 * c = length-take-le (2 * c) s₁ (stage-room .1) in
-          let b = length-drop (2 * c) s₁ in
-          let r = stage-room .1 in
+          let a = head-long in
+          let b = length-drop q s₁ in
+          let r = stage-room in
           let e = N .len in
           let g = E .len in
-          ap length (tail-put (2 * c) s₁ p) ∙ (length-append (take (2 * c) s₁) p ∙ (let z : length (take (2 * c) s₁) + length p ≡ length s₀ = omega arith in z))
+          ap length (tail-put q s₁ p) ∙ (length-append (take q s₁) p ∙ (let z : length (take q s₁) + length p ≡ length s₀ = omega arith in z))
 
       lab : labelling w h m ≡ record { labels = table (runLabel w m rep) (w * h); components = table (λ q. componentRuns w (startOf t) (endOf t 0) rep (suc q) c) (countIf (isRoot rep) c) }
       lab = labelling-by-words w h m (W .wide) t c (E .runs) (E .count)
@@ -125,10 +129,14 @@ module _ {w h : ℕ} {m : List ℕ} {P : ℕ} {labels comps s₀ : List ℕ} (W 
 
       module _ (fits : count ≤ P) where
         front-long : length (take (2 * c) s₁) ≡ 2 * c
-        front-long = length-take-le (2 * c) s₁ (let r = run-list .room in omega arith)
+        front-long = length-take-le (2 * c) s₁ (let a = K .place in let r = stage-room in omega arith)
 
-        put-is : putMid (2 * c) (length s₁ - 2 * c) s₁ p ≡ take (2 * c) s₁ ++ p
-        put-is = tail-put (2 * c) s₁ p
+        -- the numbers seen right behind the runs
+        put-is : numbered c (putMid q (length s₁ - q) s₁ p) (drop q (putMid q (length s₁ - q) s₁ p)) ≡ take (2 * c) s₁ ++ p
+        put-is =
+            ap (λ z. numbered c z (drop q z)) (tail-put q s₁ p)
+            ∙ (ap (λ z. z ++ drop q (take q s₁ ++ p)) (take-append-le (2 * c) (take q s₁) p (let a = K .place in let e = head-long in omega arith) ∙ take-take (2 * c) q s₁ (K .place))
+            ∙ ap (λ z. take (2 * c) s₁ ++ z) (drop-at (take q s₁) p q head-long))
 
         runs-kept : take (2 * c) (take (2 * c) s₁ ++ p) ≡ take (2 * c) s₁
         runs-kept = take-at (take (2 * c) s₁) p (2 * c) front-long
@@ -141,50 +149,55 @@ module _ {w h : ℕ} {m : List ℕ} {P : ℕ} {labels comps s₀ : List ℕ} (W 
         put-long : 3 * c ≤ length (take (2 * c) s₁ ++ p)
         put-long = simp length-append (let a = front-long in let b = tail-long in let e = N .len in omega arith)
 
-        pub stage-paint : Paintable (putMid (2 * c) (length s₁ - 2 * c) s₁ p) c labels (w * h)
-        stage-paint =
-            rw put-is
-            (record {
-              room = put-long;
-              dots = W .dots;
-              labels = W .labels-room;
-              order = rw runs-kept (run-list .order);
-              within = rw runs-kept (all-runs .within);
-            })
+        stage-paint : Paintable (take (2 * c) s₁ ++ p) c labels (w * h)
+        stage-paint = record { room = put-long; dots = W .dots; labels = W .labels-room; order = rw runs-kept order; within = rw runs-kept (all-runs .within) }
 
         counted : countIf (isRoot rep) c * 9 ≤ length comps
         counted = let e = count-is in let f = lab-count in let r = W .records-room in omega arith
 
-        pub stage-tally : Tallyable w c (putMid (2 * c) (length s₁ - 2 * c) s₁ p) comps
+        stage-tally : Tallyable w c (take (2 * c) s₁ ++ p) comps
         stage-tally =
-            rw put-is
-            (record {
-              list = record { wide = W .wide; narrow = W .narrow; few = run-list .few; room = put-long; order = rw runs-kept (run-list .order) };
+            record {
+              list = record { wide = W .wide; narrow = W .narrow; few = few; room = put-long; order = rw runs-kept order };
               within = rw runs-kept (λ k l. le-trans (all-runs .within k l) (W .dots));
               row = rw runs-kept (all-runs .row);
               numbers = rw runs-kept numbers;
               room = rw runs-kept counted;
-            })
+            }
 
-        painted-is : {labels' : List ℕ} → Painted (putMid (2 * c) (length s₁ - 2 * c) s₁ p) c labels labels' (w * h) → labels' ≡ over (labelling w h m .labels) labels
+        -- what painting asks
+        pub stage-asks : (2 * c ≤ q) × (q ≤ length (putMid q (length s₁ - q) s₁ p))
+            × Paintable (numbered c (putMid q (length s₁ - q) s₁ p) (drop q (putMid q (length s₁ - q) s₁ p))) c labels (w * h)
+            × Tallyable w c (numbered c (putMid q (length s₁ - q) s₁ p) (drop q (putMid q (length s₁ - q) s₁ p))) comps
+        stage-asks = (
+          K .place,
+          let e = stage-length in let g = E .len in let r = stage-room in omega arith,
+          subst (λ z. Paintable z c labels (w * h)) (sym put-is) stage-paint,
+          subst (λ z. Tallyable w c z comps) (sym put-is) stage-tally,
+        )
+
+        painted-is : {labels' : List ℕ} → Painted (take (2 * c) s₁ ++ p) c labels labels' (w * h) → labels' ≡ over (labelling w h m .labels) labels
         painted-is X =
-            let Y = rw put-is at X in
-            Y .painted (runLabel w m rep)
+            X .painted (runLabel w m rep)
             (rw runs-kept (λ k i l a b. paint-run w m (W .wide) (w * h) c (startOf t) (endOf t 0) all-runs rep k i l a b ∙ sym (numbers k l)))
             (rw runs-kept (paint-gap w m (W .wide) (w * h) c (startOf t) (endOf t 0) all-runs rep))
             ∙ (ap (λ z. table (runLabel w m rep) (w * h) ++ drop z labels) (sym (length-table (runLabel w m rep) (w * h))) ∙ ap (λ z. over (z .labels) labels) (sym lab))
 
-        recorded-is : {comps' : List ℕ} → comps' ≡ over (records w c (putMid (2 * c) (length s₁ - 2 * c) s₁ p) c) comps → comps' ≡ over (encoded recordWords (labelling w h m .components)) comps
+        recorded-is : {comps' : List ℕ} → comps' ≡ over (records w c (take (2 * c) s₁ ++ p) c) comps → comps' ≡ over (encoded recordWords (labelling w h m .components)) comps
         recorded-is e =
-            e ∙ (ap (λ z. over (records w c z c) comps) put-is
-            ∙ (ap (λ z. over (encoded recordWords (table (λ q. componentRuns w (startOf z) (endOf z 0) (firstRun w c z) (suc q) c) (countIf (isRoot (firstRun w c z)) c))) comps) runs-kept
-            ∙ ap (λ z. over (encoded recordWords (z .components)) comps) (sym lab)))
+            e ∙ (ap (λ z. over (encoded recordWords (table (λ q. componentRuns w (startOf z) (endOf z 0) (firstRun w c z) (suc q) c) (countIf (isRoot (firstRun w c z)) c))) comps) runs-kept
+            ∙ ap (λ z. over (encoded recordWords (z .components)) comps) (sym lab))
 
-        pub stage-done : {labels' comps' : List ℕ} → Painted (putMid (2 * c) (length s₁ - 2 * c) s₁ p) c labels labels' (w * h)
-            → comps' ≡ over (records w c (putMid (2 * c) (length s₁ - 2 * c) s₁ p) c) comps
+        pub stage-done : {labels' comps' : List ℕ}
+            → Painted (numbered c (putMid q (length s₁ - q) s₁ p) (drop q (putMid q (length s₁ - q) s₁ p))) c labels labels' (w * h)
+            → comps' ≡ over (records w c (numbered c (putMid q (length s₁ - q) s₁ p) (drop q (putMid q (length s₁ - q) s₁ p))) c) comps
             → worked (Labelled count) labels' comps' w h m P labels comps
         unfolding refuseIf answerOf labelsLeft componentsLeft
-        stage-done X e =
+        stage-done {labels'} {comps'} X e =
             let q = count-is in
             rw (le-ltb P (length (labelling w h m .components)) (omega arith))
-            (record { answer = ap Labelled (let x : count ≡ length (labelling w h m .components) = omega arith in x); labelled = painted-is X; recorded = recorded-is e })
+            (record {
+              answer = ap Labelled (let x : count ≡ length (labelling w h m .components) = omega arith in x);
+              labelled = painted-is (subst (λ z. Painted z c labels labels' (w * h)) put-is X);
+              recorded = recorded-is (e ∙ ap (λ z. over (records w c z c) comps) put-is);
+            })

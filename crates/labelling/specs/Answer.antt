@@ -91,6 +91,7 @@ labelled w h m P labels components scratch =
 pub record Workable (w h : ℕ) (m : List ℕ) (P : ℕ) (labels components s : List ℕ) : Type 0 where
   pub wide : 0 < w
   pub narrow : w ≤ maxMaskSide
+  pub high : 0 < h
   pub low : h ≤ maxMaskSide
   pub dots : w * h ≤ maxMaskDots
   pub whole : length m ≡ w * h

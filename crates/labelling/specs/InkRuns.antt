@@ -34,10 +34,6 @@ turns w m (suc i) = appendIf (isInk m i && eqb (suc i % w) 0) (suc i) (appendIf 
 unfoldable pub opensRun : ℕ → List ℕ → ℕ → Bool
 opensRun w m i = isInk m i && not (inkBefore w m i)
 
--- a run starts at the dot after dot i of some dots of one row
-unfoldable pub startsAfter : List ℕ → ℕ → Bool
-startsAfter dots i = isInk dots (suc i) && not (isInk dots i)
-
 -- how many runs the first n dots have
 unfoldable pub runCount : ℕ → List ℕ → ℕ → ℕ
 runCount w m n = countIf (opensRun w m) n

@@ -1,5 +1,5 @@
--- What linking keeps. Of a run list in the words s the first c runs are known, by their turns, `take (2 * c) s`; the parents are `drop q s`. Where
--- all runs are known, q is 2 * c.
+-- What linking keeps. Of a run list in the words s the first c runs are known, by their turns, `take (2 * c) s`; the parents are `drop q s`. Runs
+-- that are linked all at once have them right behind, at q = 2 * c.
 use mathlib.Core.Path.{_≡_}
 use mathlib.Core.Bool.{Bool, false}
 use mathlib.Core.List.{List}
@@ -9,7 +9,7 @@ use Rattle.memory.specs.Limits.{maxMaskSide, maxMaskDots}
 use Rattle.labelling.specs.Classes.{firstOf, firsts}
 use Rattle.labelling.specs.Forests.{Seen, Forest}
 use Rattle.labelling.specs.InkRuns.{startOf, endOf, touchRuns}
-use Rattle.labelling.specs.Extraction.{Extracted}
+use Rattle.labelling.specs.Extraction.{rowWords, PlaneRoom, Extracted}
 
 -- which runs of the turns t touch, in rows w wide
 abbrev pub touching : ℕ → List ℕ → ℕ → ℕ → Bool
@@ -60,13 +60,15 @@ pub record Joining (w c : ℕ) (t p : List ℕ) (j k member : ℕ) : Type 0 wher
   pub own : rep member ≡ rep j
   pub low : member < j
 
--- run j stands under the runs from i up to `to`, and touches no other before it; those before i touch none from j on
+-- run j stands under the runs from i up to `to`, and touches no other before it; those before i touch none from j on, and run `to`, of run j's
+-- own row, does not end left of it in the row above
 pub record Under (w c : ℕ) (t : List ℕ) (i to j : ℕ) : Type 0 where
   pub low : i ≤ to
   pub mid : to ≤ j
   pub high : j < c
   pub left : (a k : ℕ) → a < i → j ≤ k → k < c → touching w t a k ≡ false
   pub above : (a : ℕ) → i ≤ a → a < to → startOf t a / w + 1 ≡ startOf t j / w
+  pub own : i < to → startOf t j ≤ endOf t 0 to + w
   pub beside : (a : ℕ) → to ≤ a → a < j → touching w t a j ≡ false
 
 -- what linking run j asks
@@ -88,12 +90,12 @@ pub record Parented (w c q : ℕ) (s s' : List ℕ) (j r : ℕ) : Type 0 where
   pub low : r ≤ j
   pub linked : Linked w c (take (2 * c) s) (set (drop q s') j r) (suc j)
 
--- r is the first run, from i up to `to`, that does not end left of the dot `start` in the row below
-pub record Skipped (w i to start : ℕ) (t : List ℕ) (r : ℕ) : Type 0 where
+-- r is the first run, from i up to `to`, that does not end left of the dot `start`
+pub record Skipped (i to start : ℕ) (t : List ℕ) (r : ℕ) : Type 0 where
   pub from : i ≤ r
   pub upto : r ≤ to
-  pub left : (a : ℕ) → i ≤ a → a < r → endOf t 0 a + w < start
-  pub here : r < to → start ≤ endOf t 0 r + w
+  pub left : (a : ℕ) → i ≤ a → a < r → endOf t 0 a < start
+  pub here : r < to → start ≤ endOf t 0 r
 
 -- run j is linked too, and the runs before r touch none from j on
 pub record LinkedOne (w c q : ℕ) (s s' : List ℕ) (i to j r : ℕ) : Type 0 where
@@ -140,10 +142,19 @@ pub record RowLinked (w c q limit : ℕ) (s s' : List ℕ) (here r : ℕ) : Type
   pub row : RowEnd c here limit s r
   pub linked : LinkedTo w c q s s' r
 
--- the words hold the runs of a mask, and each run's parents lead to the first run of its component
-pub record LinkedRuns (w h : ℕ) (m s s' : List ℕ) (c : ℕ) : Type 0 where
+-- a mask within the limits, and room for a parent for each dot from word q on, behind every word that extraction may change: the turns of all rows
+-- and one more
+pub record LinkRoom (w h : ℕ) (m s : List ℕ) (q : ℕ) : Type 0 where
+  pub plane : PlaneRoom w h m s
+  pub place : h * rowWords w < q
+  pub room : q + w * h ≤ length s
+
+-- the words hold the runs of a mask and, from word q on, their parents, which lead each run to the first of its component
+pub record LinkedRuns (w h : ℕ) (m s s' : List ℕ) (q c : ℕ) : Type 0 where
   pub runs : Extracted w h m s s' c
-  pub forest : Forest (firstRun w c (take (2 * c) s')) (drop (2 * c) s') c
+  pub place : 2 * c ≤ q
+  pub room : q + c ≤ length s'
+  pub forest : Forest (firstRun w c (take (2 * c) s')) (drop q s') c
 
 -- each run's parents lead to the first run of its component
 pub record AllLinked (w c : ℕ) (s s' : List ℕ) : Type 0 where

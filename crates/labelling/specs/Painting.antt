@@ -14,12 +14,23 @@ use Rattle.labelling.specs.Tallying.{TallySweep}
 abbrev pub Front : (ℕ → ℕ) → List ℕ → List ℕ → ℕ → Type 0
 Front f l₀ l i = l ≡ table f i ++ drop i l₀
 
+-- c runs by their turns t, and behind them their numbers
+abbrev pub numbered : ℕ → List ℕ → List ℕ → List ℕ
+numbered c t numbers = take (2 * c) t ++ numbers
+
 -- the value v from `from` up to `to`, and all else as it was
 pub record Filled (l l' : List ℕ) (from to v : ℕ) : Type 0 where
   pub len : length l' ≡ length l
   pub here : (i : ℕ) → from ≤ i → i < to → getD l' i 0 ≡ v
   pub low : (i : ℕ) → i < from → getD l' i 0 ≡ getD l i 0
   pub high : (i : ℕ) → to ≤ i → getD l' i 0 ≡ getD l i 0
+
+-- the labels, cleared up to `clear`, are cleared up to r: `end` or further, but not past `limit`
+pub record Cleared (l l' : List ℕ) (clear end limit r : ℕ) : Type 0 where
+  pub from : clear ≤ r
+  pub reach : end ≤ r
+  pub upto : r ≤ limit
+  pub filled : Filled l l' clear r 0
 
 -- c runs within n dots, with their numbers, and a label for each dot
 pub record Paintable (s : List ℕ) (c : ℕ) (l : List ℕ) (n : ℕ) : Type 0 where
@@ -56,33 +67,39 @@ pub record PaintSweep (s : List ℕ) (c : ℕ) (l₀ l : List ℕ) (n k clear : 
   pub blank : (i : ℕ) → done ≤ i → i < clear → getD l i 0 ≡ 0
   pub past : (i : ℕ) → clear ≤ i → getD l i 0 ≡ getD l₀ i 0
 
--- the runs from k up to k' are painted, whatever was before
-abbrev pub PaintsOn : List ℕ → ℕ → List ℕ → List ℕ → ℕ → ℕ → ℕ → Type 0
-PaintsOn s c l l' clear k k' = (n : ℕ) (l₀ : List ℕ) → PaintSweep s c l₀ l n k clear → PaintSweep s c l₀ l' n k' clear
+-- the runs from k up to k' are painted, in labels that are cleared from `clear` up to clear', whatever was before; no dot lies past `limit`
+abbrev pub PaintsOn : List ℕ → ℕ → List ℕ → List ℕ → ℕ → ℕ → ℕ → ℕ → ℕ → Type 0
+PaintsOn s c l l' limit k clear k' clear' = (n : ℕ) (l₀ : List ℕ) → limit ≤ n → PaintSweep s c l₀ l n k clear → PaintSweep s c l₀ l' n k' clear'
 
--- the runs before `first` are painted, and its row, which starts at dot `base`, is clear
-pub record SpanPaintable (w c : ℕ) (s l : List ℕ) (base first : ℕ) : Type 0 where
+-- the runs before `first` are painted, and the labels up to `clear`, in its row or before it, cleared; the row starts at dot `base`
+pub record SpanPaintable (w c : ℕ) (s l : List ℕ) (base first clear : ℕ) : Type 0 where
   pub n : ℕ
   pub l₀ : List ℕ
-  pub sweep : PaintSweep s c l₀ l n first (base + w)
+  pub inside : base + w ≤ n
+  pub sweep : PaintSweep s c l₀ l n first clear
+  pub near : clear ≤ base + w
   pub ahead : SpanAhead w c s base first
 
 -- the runs from `first` up to `next` are painted, and are one span
-pub record SpanPainted (w c : ℕ) (s l l' : List ℕ) (limit first next last dots sum : ℕ) : Type 0 where
-  pub painted : PaintsOn s c l l' limit first next
+pub record SpanPainted (w c : ℕ) (s l l' : List ℕ) (limit first clear next clear' last dots sum : ℕ) : Type 0 where
+  pub painted : PaintsOn s c l l' limit first clear next clear'
+  pub near : clear' ≤ limit
   pub span : SpanOf w c (take (2 * c) s) first next last dots sum
 
--- the runs before k are painted and tallied, and row y, which the next run lies in or past, is clear
-pub record RowPaintable (w c : ℕ) (s l comps : List ℕ) (y k count : ℕ) : Type 0 where
+-- the runs before k are painted and tallied, and the labels up to `clear`, in row y or before it, cleared; the next run lies in that row or past it
+pub record RowPaintable (w c : ℕ) (s l comps : List ℕ) (y k count clear : ℕ) : Type 0 where
   pub n : ℕ
   pub l₀ : List ℕ
-  pub sweep : PaintSweep s c l₀ l n k (y * w + w)
+  pub inside : y * w + w ≤ n
+  pub sweep : PaintSweep s c l₀ l n k clear
+  pub near : clear ≤ y * w + w
   pub comps₀ : List ℕ
   pub tally : TallySweep w c s comps₀ comps k count
   pub from : k < c → y * w ≤ startOf (take (2 * c) s) k
 
 -- the runs from k up to `next` are painted and tallied, and the next one lies in a row further down
-pub record RowPainted (w c : ℕ) (s l l' comps comps' : List ℕ) (y k count next count' : ℕ) : Type 0 where
-  pub painted : PaintsOn s c l l' (y * w + w) k next
+pub record RowPainted (w c : ℕ) (s l l' comps comps' : List ℕ) (y k count clear next count' clear' : ℕ) : Type 0 where
+  pub painted : PaintsOn s c l l' (y * w + w) k clear next clear'
+  pub near : clear' ≤ y * w + w
   pub tallied : (comps₀ : List ℕ) → TallySweep w c s comps₀ comps k count → TallySweep w c s comps₀ comps' next count'
   pub past : next < c → y * w + w ≤ startOf (take (2 * c) s) next

@@ -101,7 +101,8 @@ fn judge_lent(
     refuse_if(mask != dots, 2, by_capacity)
 }
 
-// The stages: runs with their parents, their numbers; then, unless there are too many components, labels and records.
+// The stages: runs with their parents, their numbers; then, unless there are too many components, labels and records. A plane of d dots
+// has at most d runs, whose turns fit before word 3d, so that they need not be counted before the parents have their place there.
 fn label_runs(
     mask: &[u8],
     w: usize,
@@ -114,12 +115,12 @@ fn label_runs(
     requires { ⌜ Workable w h (now mask) capacity (now labels) (now components) (now words) ⌝ }
     ensures { λ r. ⌜ worked r (now (labels .exit)) (now (components .exit)) w h (now (mask .entry)) capacity (now (labels .entry)) (now (components .entry)) ⌝ }
 {
-    let runs = extract_linked(mask, w, h, words);
-    let parents = 2 * runs;
+    let parents = 3 * (w * h);
+    let runs = extract_linked(mask, w, h, words, parents);
     let count = number_runs(&mut words[parents..], runs, capacity);
     if capacity < count {
         return LabelAnswer::Refused(20);
     }
-    paint_runs(&words[..], runs, w, h, labels, components);
+    paint_runs(&words[..], parents, runs, w, h, labels, components);
     LabelAnswer::Labelled(count as u32)
 }

@@ -1,7 +1,6 @@
 // Labelling: the 8-connected components of a mask, numbered by first dot (components.rs). Rect and Component are the records
 // that every crate above reads and makes, by value.
 mod component;
-mod count;
 mod entry;
 mod link;
 mod linked;

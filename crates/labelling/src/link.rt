@@ -43,16 +43,14 @@ pub fn unite(parents: &mut [u32], root: usize, k: usize) -> usize
     root
 }
 
-// The first run, from i up to `to`, that does not end left of the dot `start` in the row below.
-fn skip_left(runs: &[u32], w: usize, i: usize, to: usize, start: usize) -> usize
-    requires { ⌜ (i ≤ to) × (2 * to ≤ length (now runs)) × (w ≤ maxMaskSide) ⌝ }
-    ensures { λ r. ⌜ Skipped w i to start (now (runs .entry)) r ⌝ }
+// The first run, from i on, that does not end left of the dot `start`, which is a run's first dot, moved up one row. It is run `to` at the
+// latest, the first of that run's own row, so that no bound is looked at.
+fn skip_left(runs: &[u32], i: usize, to: usize, start: usize) -> usize
+    requires { ⌜ (i ≤ to) × (2 * to + 1 < length (now runs)) × (start ≤ endOf (now runs) 0 to) ⌝ }
+    ensures { λ r. ⌜ Skipped i to start (now (runs .entry)) r ⌝ }
 {
     let mut k = i;
-    while k < to {
-        if start <= wide(runs[2 * k + 1]) + w {
-            return k;
-        }
+    while wide(runs[2 * k + 1]) < start {
         k += 1;
     }
     k
@@ -70,7 +68,8 @@ fn join(parents: &mut [u32], member: usize, k: usize) -> usize
     unite(parents, root, k)
 }
 
-// Joins the runs from `first` up to `to`, in the row above, that run j touches, `first` among them; answers a run of their class.
+// Joins the runs from `first` up to `to`, in the row above, that run j touches, `first` among them; answers a run of their class. Run j ends
+// at the dot `end`, moved up one row.
 fn join_touching(
     words: &mut [u32],
     c: usize,
@@ -79,15 +78,15 @@ fn join_touching(
     first: usize,
     to: usize,
     j: usize,
+    end: usize,
 ) -> usize
-    requires { ⌜ Joinable w c parents (now words) first to j × (first < to) × (startOf (take (2 * c) (now words)) first + w ≤ endOf (take (2 * c) (now words)) 0 j) ⌝ }
+    requires { ⌜ Joinable w c parents (now words) first to j × (first < to) × (startOf (take (2 * c) (now words)) first ≤ end) × (end + w ≡ endOf (take (2 * c) (now words)) 0 j) ⌝ }
     ensures { λ r. ⌜ Parented w c parents (now (words .entry)) (now (words .exit)) j r ⌝ }
 {
-    let end = wide(words[2 * j + 1]);
     let mut member = wide(words[parents + first]);
     let mut k = first + 1;
     while k < to {
-        if end < wide(words[2 * k]) + w {
+        if end < wide(words[2 * k]) {
             return member;
         }
         member = join(&mut words[parents..], member, k);
@@ -108,7 +107,8 @@ fn near_parent(words: &[u32], parents: usize, k: usize) -> usize
     parent
 }
 
-// A parent for run j, from the runs of the row above, `first` up to `to`: itself where it touches none of them.
+// A parent for run j, from the runs of the row above, `first` up to `to`: itself where it touches none of them. Run j ends at the dot `end`,
+// moved up one row.
 fn parent_of(
     words: &mut [u32],
     c: usize,
@@ -117,28 +117,29 @@ fn parent_of(
     first: usize,
     to: usize,
     j: usize,
+    end: usize,
 ) -> usize
-    requires { ⌜ Joinable w c parents (now words) first to j ⌝ }
+    requires { ⌜ Joinable w c parents (now words) first to j × (end + w ≡ endOf (take (2 * c) (now words)) 0 j) ⌝ }
     ensures { λ r. ⌜ Parented w c parents (now (words .entry)) (now (words .exit)) j r ⌝ }
 {
     if to <= first {
         return j;
     }
-    let end = wide(words[2 * j + 1]);
-    if end < wide(words[2 * first]) + w {
+    if end < wide(words[2 * first]) {
         return j;
     }
     let next = first + 1;
     if to <= next {
         return near_parent(&words[..], parents, first);
     }
-    if end < wide(words[2 * next]) + w {
+    if end < wide(words[2 * next]) {
         return near_parent(&words[..], parents, first);
     }
-    join_touching(words, c, parents, w, first, to, j)
+    join_touching(words, c, parents, w, first, to, j, end)
 }
 
-// Gives run j its parent, from the runs of the row above, i up to `to`; answers where the next run of the row may look from.
+// Gives run j its parent, from the runs of the row above, i up to `to`; answers where the next run of the row may look from. Run j is
+// moved up one row, so that it is held against those runs as it is; with none of them left it is its own parent.
 fn link_one(
     words: &mut [u32],
     c: usize,
@@ -151,9 +152,14 @@ fn link_one(
     requires { ⌜ Linkable w c parents (now words) i to j ⌝ }
     ensures { λ r. ⌜ LinkedOne w c parents (now (words .entry)) (now (words .exit)) i to j r ⌝ }
 {
-    let start = wide(words[2 * j]);
-    let first = skip_left(&words[..], w, i, to, start);
-    let parent = parent_of(words, c, parents, w, first, to, j);
+    if to <= i {
+        words[parents + j] = j as u32;
+        return i;
+    }
+    let start = wide(words[2 * j]) - w;
+    let end = wide(words[2 * j + 1]) - w;
+    let first = skip_left(&words[..], i, to, start);
+    let parent = parent_of(words, c, parents, w, first, to, j, end);
     words[parents + j] = parent as u32;
     first
 }

@@ -1,18 +1,28 @@
-// Painting: the label of each dot and the record of each component, row by row, from a run list whose runs have their numbers. A row with
-// runs is cleared, with the rows without before it, then painted while it is still in fast memory.
+// Painting: the label of each dot and the record of each component, row by row, from a run list whose runs have their numbers. The labels
+// are cleared a little ahead of the runs that are painted, so that memory is written while the records are worked on.
 ghost use mathlib.Core.Path.{_≡_};
 ghost use Prim.Native.Nat.{_+_, _*_, _≤_, _<_};
-ghost use lib.ListN.{length};
+ghost use lib.ListN.{length, drop};
+ghost use Rattle.memory.specs.Limits.{maxMaskDots};
 ghost use Rattle.memory.specs.Words.{over};
-ghost use Rattle.labelling.specs.Painting.{Filled, Paintable, Painted, SpanPaintable, SpanPainted, RowPaintable, RowPainted};
+ghost use Rattle.labelling.specs.Painting.{numbered, Filled, Cleared, Paintable, Painted, SpanPaintable, SpanPainted, RowPaintable, RowPainted};
 ghost use Rattle.labelling.specs.Tallying.{Tallyable, records};
-use crate::span::Reached;
 use crate::span::Span;
 use crate::span::column_sum;
 use crate::span::goes_on;
 use crate::tally::tally_span;
-use memory::larger;
+use memory::smaller;
 use memory::wide;
+
+// How many labels past a run are cleared with it: about what waits to be written while the work goes on.
+const AHEAD: usize = 128;
+
+// How far painting has come: the next run, how many components it has met, and up to where the labels are cleared.
+pub struct Progress {
+    pub next: usize,
+    pub count: usize,
+    pub clear: usize,
+}
 
 // Writes a value to the labels from `from` up to `to`.
 fn fill(labels: &mut [u32], from: usize, to: usize, value: u32)
@@ -26,6 +36,19 @@ fn fill(labels: &mut [u32], from: usize, to: usize, value: u32)
     }
 }
 
+// Clears the labels, cleared up to `clear`, at least up to `end` and not past `limit`; answers up to where.
+fn clear_to(labels: &mut [u32], clear: usize, end: usize, limit: usize) -> usize
+    requires { ⌜ (clear ≤ limit) × (end ≤ limit) × (limit ≤ length (now labels)) × (limit ≤ maxMaskDots) ⌝ }
+    ensures { λ r. ⌜ Cleared (now (labels .entry)) (now (labels .exit)) clear end limit r ⌝ }
+{
+    if end <= clear {
+        return clear;
+    }
+    let to = smaller(end + AHEAD, limit);
+    fill(labels, clear, to, 0);
+    to
+}
+
 // A run's label on its dots, from `start` up to `end`. The first by itself: on a crowded page most runs have no other.
 fn paint_run(labels: &mut [u32], start: usize, end: usize, label: u32)
     requires { ⌜ (start < end) × (end ≤ length (now labels)) ⌝ }
@@ -35,34 +58,38 @@ fn paint_run(labels: &mut [u32], start: usize, end: usize, label: u32)
     fill(labels, start + 1, end, label);
 }
 
-// Paints the runs from `first` on that have its label and lie in its row, which starts at dot `base`.
+// Paints the runs from `first` on that have its number and lie in its row, which starts at dot `base`.
 fn paint_span(
     runs: &[u32],
+    numbers: &[u32],
     c: usize,
     w: usize,
     base: usize,
     first: usize,
+    cleared: usize,
     labels: &mut [u32],
 ) -> Span
-    requires { ⌜ SpanPaintable w c (now runs) (now labels) base first ⌝ }
-    ensures { λ r. ⌜ SpanPainted w c (now (runs .entry)) (now (labels .entry)) (now (labels .exit)) (base + w) first (r .next) (r .last) (r .dots) (r .sum) ⌝ }
+    requires { ⌜ (2 * c ≤ length (now runs)) × SpanPaintable w c (numbered c (now runs) (now numbers)) (now labels) base first cleared ⌝ }
+    ensures { λ r. ⌜ SpanPainted w c (numbered c (now (runs .entry)) (now (numbers .entry))) (now (labels .entry)) (now (labels .exit)) (base + w) first cleared (r .next) (r .clear) (r .last) (r .dots) (r .sum) ⌝ }
 {
     let limit = base + w;
-    let label = runs[2 * c + first];
+    let number = numbers[first];
     let start = wide(runs[2 * first]);
     let end = wide(runs[2 * first + 1]);
-    paint_run(labels, start, end, label);
+    let mut clear = clear_to(labels, cleared, end, limit);
+    paint_run(labels, start, end, number);
     let mut last = end - base - 1;
     let mut dots = end - start;
-    let mut sum = column_sum(start - base, last);
+    let mut sum = column_sum(start - base, last, dots);
     let mut k = first + 1;
-    while goes_on(runs, c, k, label, limit) {
+    while goes_on(runs, numbers, c, k, number, limit) {
         let from = wide(runs[2 * k]);
         let to = wide(runs[2 * k + 1]);
-        paint_run(labels, from, to, label);
+        clear = clear_to(labels, clear, to, limit);
+        paint_run(labels, from, to, number);
         last = to - base - 1;
+        sum += column_sum(from - base, last, to - from);
         dots += to - from;
-        sum += column_sum(from - base, last);
         k += 1;
     }
     Span {
@@ -70,71 +97,89 @@ fn paint_span(
         last: last,
         dots: dots,
         sum: sum,
+        clear: clear,
     }
 }
 
-// Paints the runs of row y, from `first` on, and writes the records of their components; `before` components have one already.
+// Paints the runs of row y, from `first` on, and writes the records of their components; `before` components have one already, and the
+// labels are cleared up to `cleared`.
 fn paint_row(
     runs: &[u32],
+    numbers: &[u32],
     c: usize,
     w: usize,
     y: usize,
     first: usize,
     before: usize,
+    cleared: usize,
     labels: &mut [u32],
     components: &mut [u32],
-) -> Reached
-    requires { ⌜ RowPaintable w c (now runs) (now labels) (now components) y first before ⌝ }
-    ensures { λ r. ⌜ RowPainted w c (now (runs .entry)) (now (labels .entry)) (now (labels .exit)) (now (components .entry)) (now (components .exit)) y first before (r .next) (r .count) ⌝ }
+) -> Progress
+    requires { ⌜ (2 * c ≤ length (now runs)) × RowPaintable w c (numbered c (now runs) (now numbers)) (now labels) (now components) y first before cleared ⌝ }
+    ensures { λ r. ⌜ RowPainted w c (numbered c (now (runs .entry)) (now (numbers .entry))) (now (labels .entry)) (now (labels .exit)) (now (components .entry)) (now (components .exit)) y first before cleared (r .next) (r .count) (r .clear) ⌝ }
 {
     let base = y * w;
     let limit = base + w;
     let mut count = before;
+    let mut clear = cleared;
     let mut k = first;
     while k < c {
         let start = wide(runs[2 * k]);
         if limit <= start {
-            return Reached {
+            return Progress {
                 next: k,
                 count: count,
+                clear: clear,
             };
         }
-        let number = wide(runs[2 * c + k]);
-        let span = paint_span(runs, c, w, base, k, labels);
+        let number = wide(numbers[k]);
+        let span = paint_span(runs, numbers, c, w, base, k, clear, labels);
+        clear = span.clear;
         k = span.next;
-        tally_span(components, number, count, start - base, span, y);
-        count = larger(count, number);
+        count = tally_span(components, number, count, start - base, span, y);
     }
-    Reached {
+    Progress {
         next: k,
         count: count,
+        clear: clear,
     }
 }
 
-// Writes the labels of a plane, w wide and h high, on each of the c runs its number and elsewhere 0, and the components' records.
+// Writes the labels of a plane, w wide and h high, on each of the c runs its number and elsewhere 0, and the components' records. The words
+// hold the runs, and their numbers from the word `numbers` on.
 pub fn paint_runs(
-    runs: &[u32],
+    words: &[u32],
+    numbers: usize,
     c: usize,
     w: usize,
     h: usize,
     labels: &mut [u32],
     components: &mut [u32],
 )
-    requires { ⌜ Paintable (now runs) c (now labels) (w * h) × Tallyable w c (now runs) (now components) ⌝ }
-    ensures { λ _. ⌜ Painted (now (runs .entry)) c (now (labels .entry)) (now (labels .exit)) (w * h) × (now (components .exit) ≡ over (records w c (now (runs .entry)) c) (now (components .entry))) ⌝ }
+    requires { ⌜ (2 * c ≤ numbers) × (numbers ≤ length (now words)) × Paintable (numbered c (now words) (drop numbers (now words))) c (now labels) (w * h) × Tallyable w c (numbered c (now words) (drop numbers (now words))) (now components) ⌝ }
+    ensures { λ _. ⌜ Painted (numbered c (now (words .entry)) (drop numbers (now (words .entry)))) c (now (labels .entry)) (now (labels .exit)) (w * h) × (now (components .exit) ≡ over (records w c (numbered c (now (words .entry)) (drop numbers (now (words .entry)))) c) (now (components .entry))) ⌝ }
 {
     let dots = w * h;
     let mut count = 0;
     let mut k = 0;
     let mut clear = 0;
     while k < c {
-        let y = wide(runs[2 * k]) / w;
-        let limit = y * w + w;
-        fill(labels, clear, limit, 0);
-        let reached = paint_row(runs, c, w, y, k, count, labels, components);
+        let y = wide(words[2 * k]) / w;
+        let reached = paint_row(
+            words,
+            &words[numbers..],
+            c,
+            w,
+            y,
+            k,
+            count,
+            clear,
+            labels,
+            components,
+        );
         count = reached.count;
         k = reached.next;
-        clear = limit;
+        clear = reached.clear;
     }
     fill(labels, clear, dots, 0);
 }

@@ -16,7 +16,7 @@ const BLOCK: usize = 32;
 const STRETCH: usize = 128;
 
 // 1 where a byte is ink, any but 0; else 0.
-pub fn ink_of(byte: u8) -> u8
+fn ink_of(byte: u8) -> u8
     ensures { λ r. ⌜ r ≡ cond (eqb byte 0) 0 1 ⌝ }
 {
     if byte == 0 { 0 } else { 1 }
@@ -97,11 +97,10 @@ pub fn write_turns(
     k
 }
 
-// The same as `scan` for a block of 32 dots, which has no turns where its dots are all as the one before. Else its turns are told at
-// once and then written; at a row's start there is no dot before, and they are told one by one. That `write_turns` is handed a count
-// which is always 32, but not said to be, keeps its loop from being laid out dot by dot.
-fn scan_block(row: &[u8], from: usize, base: usize, words: &mut [u32], at: usize) -> usize
-    requires { ⌜ ScanRoom (now row) from (from + 32) base (now words) at ⌝ }
+// The same as `scan` for a block of 32 dots, n, which has no turns where its dots are all as the one before. Else its turns are told at
+// once and then written; at a row's start there is no dot before, and they are told one by one.
+fn scan_block(row: &[u8], from: usize, n: usize, base: usize, words: &mut [u32], at: usize) -> usize
+    requires { ⌜ ScanRoom (now row) from (from + 32) base (now words) at × (n ≡ 32) ⌝ }
     ensures { λ r. ⌜ Scanned (now (row .entry)) from (from + 32) base (now (words .entry)) (now (words .exit)) at r ⌝ }
 {
     let to = from + BLOCK;
@@ -114,11 +113,11 @@ fn scan_block(row: &[u8], from: usize, base: usize, words: &mut [u32], at: usize
     let before = from - 1;
     let mut told = [0u8; BLOCK];
     tell_turns(&row[before..to], &mut told);
-    let n = smaller(row.len() - from, BLOCK);
     write_turns(&told, n, base + from, words, at)
 }
 
-// The same for the dots `from` up to `to`, block by block.
+// The same for the dots `from` up to `to`, block by block. A block's count of dots is always 32 where there is a block, but not said to
+// be, which keeps the loop that writes its turns from being laid out dot by dot.
 fn scan_blocks(
     row: &[u8],
     from: usize,
@@ -130,10 +129,11 @@ fn scan_blocks(
     requires { ⌜ ScanRoom (now row) from to base (now words) at ⌝ }
     ensures { λ r. ⌜ Scanned (now (row .entry)) from to base (now (words .entry)) (now (words .exit)) at r ⌝ }
 {
+    let n = smaller(row.len(), BLOCK);
     let mut k = at;
     let mut x = from;
     while BLOCK <= to - x {
-        k = scan_block(row, x, base, words, k);
+        k = scan_block(row, x, n, base, words, k);
         x += BLOCK;
     }
     scan(row, x, to, base, words, k)

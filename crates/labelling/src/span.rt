@@ -9,15 +9,17 @@ ghost use Rattle.labelling.specs.Components.{columnSum};
 ghost use Rattle.labelling.specs.Spans.{SpanAhead, SpanOf};
 use memory::wide;
 
-// The run after it, the column of its last dot, its dots and the sum of their columns.
+// The run after it, the column of its last dot, its dots and the sum of their columns; and up to where the labels are cleared now that
+// it is painted.
 pub struct Span {
     pub next: usize,
     pub last: usize,
     pub dots: usize,
     pub sum: usize,
+    pub clear: usize,
 }
 
-// The same with no sum.
+// The run after it, the column of its last dot and its dots.
 pub struct Extent {
     pub next: usize,
     pub last: usize,
@@ -30,26 +32,26 @@ pub struct Reached {
     pub count: usize,
 }
 
-// Whether run k, one of c, has this label and starts before dot `limit`.
-pub fn goes_on(runs: &[u32], c: usize, k: usize, label: u32, limit: usize) -> bool
-    requires { ⌜ 3 * c ≤ length (now runs) ⌝ }
-    ensures { λ r. ⌜ (r ≡ true → (k < c) × (getD (now (runs .entry)) (2 * c + k) 0 ≡ label) × (getD (now (runs .entry)) (2 * k) 0 < limit)) ⌝ }
+// Whether run k, one of c, has this number and starts before dot `limit`.
+pub fn goes_on(runs: &[u32], numbers: &[u32], c: usize, k: usize, number: u32, limit: usize) -> bool
+    requires { ⌜ (2 * c ≤ length (now runs)) × (c ≤ length (now numbers)) ⌝ }
+    ensures { λ r. ⌜ (r ≡ true → (k < c) × (getD (now (numbers .entry)) k 0 ≡ number) × (getD (now (runs .entry)) (2 * k) 0 < limit)) ⌝ }
 {
     if c <= k {
         return false;
     }
-    if runs[2 * c + k] != label {
+    if numbers[k] != number {
         return false;
     }
     wide(runs[2 * k]) < limit
 }
 
-// The sum of the columns from x to `last`.
-pub fn column_sum(x: usize, last: usize) -> usize
-    requires { ⌜ (x ≤ last) × (last < maxMaskSide) ⌝ }
+// The sum of the columns from x to `last`, so many.
+pub fn column_sum(x: usize, last: usize, dots: usize) -> usize
+    requires { ⌜ (x ≤ last) × (last < maxMaskSide) × (dots ≡ suc (last - x)) ⌝ }
     ensures { λ r. ⌜ r ≡ columnSum x (suc (last - x)) ⌝ }
 {
-    (last - x + 1) * (x + last) / 2
+    dots * (x + last) / 2
 }
 
 // The span that starts with run `first`, in the row that starts at dot `base`.
@@ -58,13 +60,14 @@ pub fn measure_span(runs: &[u32], c: usize, w: usize, base: usize, first: usize)
     ensures { λ r. ⌜ ((sum : ℕ) × SpanOf w c (take (2 * c) (now (runs .entry))) first (r .next) (r .last) (r .dots) sum) ⌝ }
 {
     let limit = base + w;
-    let label = runs[2 * c + first];
+    let behind = 2 * c;
+    let number = runs[behind + first];
     let start = wide(runs[2 * first]);
     let end = wide(runs[2 * first + 1]);
     let mut last = end - base - 1;
     let mut dots = end - start;
     let mut k = first + 1;
-    while goes_on(runs, c, k, label, limit) {
+    while goes_on(runs, &runs[behind..], c, k, number, limit) {
         let from = wide(runs[2 * k]);
         let to = wide(runs[2 * k + 1]);
         last = to - base - 1;

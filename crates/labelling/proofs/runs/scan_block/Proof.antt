@@ -5,7 +5,7 @@ use lib.ListN.{take, drop}
 use Rattle.memory.specs.Lists.{countIf}
 use Rattle.memory.specs.Masks.{isInk}
 use Rattle.labelling.proofs.ExtractLaws.{block-still, block-long}
-use Rattle.labelling.proofs.ToldLaws.{block-count, told-room, written-scanned}
+use Rattle.labelling.proofs.ToldLaws.{told-room, written-scanned}
 use Rattle.labelling.proofs.runs.scan_block.Statement.{statement}
 use Rattle.labelling.proofs.runs.scan_block.Tie as tie
 
@@ -31,7 +31,7 @@ mul-if1 : tie.Need-mul-if1
 mul-if1 c = search needs
 
 returns : tie.Need-returns
-returns c = block-still 32 ((c .before .before .before .before .before) .args .row .now) ((c .before .before .before .before .before) .args .from) ((c .before .before .before .before .before) .args .base) ((c .before .before .before .before .before) .args .words .now) ((c .before .before .before .before .before) .args .at) ((c .before .ink-count) .result) ((c .before .before .before .before .before) .pre) ((c .before .ink-count) .ensures ∙ ap (countIf (isInk (take ((c .before .before .before .before .before) .args .from + 32 - (c .before .before .before .before .before) .args .from) (drop ((c .before .before .before .before .before) .args .from) ((c .before .before .before .before .before) .args .row .now))))) (block-long 32 ((c .before .before .before .before .before) .args .row .now) ((c .before .before .before .before .before) .args .from) ((c .before .before .before .before .before) .pre .high))) ((c .if1) .taken)
+returns c = block-still 32 ((c .before .before .before .before .before) .args .row .now) ((c .before .before .before .before .before) .args .from) ((c .before .before .before .before .before) .args .base) ((c .before .before .before .before .before) .args .words .now) ((c .before .before .before .before .before) .args .at) ((c .before .ink-count) .result) ((c .before .before .before .before .before) .pre .0) ((c .before .ink-count) .ensures ∙ ap (countIf (isInk (take ((c .before .before .before .before .before) .args .from + 32 - (c .before .before .before .before .before) .args .from) (drop ((c .before .before .before .before .before) .args .from) ((c .before .before .before .before .before) .args .row .now))))) (block-long 32 ((c .before .before .before .before .before) .args .row .now) ((c .before .before .before .before .before) .args .from) ((c .before .before .before .before .before) .pre .0 .high))) ((c .if1) .taken)
 
 scan-requires : tie.Need-scan-requires
 scan-requires c κs = search needs
@@ -57,23 +57,17 @@ part-tell-turns-end c = search needs
 tell-turns-requires : tie.Need-tell-turns-requires
 tell-turns-requires c κs = search needs
 
-sub-smaller : tie.Need-sub-smaller
-sub-smaller c = search needs
-
-smaller-requires : tie.Need-smaller-requires
-smaller-requires c κs = search needs
-
 add-write-turns : tie.Need-add-write-turns
 add-write-turns c = search needs
 
 write-turns-requires : tie.Need-write-turns-requires
-write-turns-requires c κs = told-room ((c .before .before .before .before .before .before .before .before .before .before .before .before) .pre) ((c .before .before .before .tell-turns) .ensures) _ (block-count _ _ _ ((c .before .before .before .before .before .before .before .before .before .before .before .before) .pre .high) ((c .before .before .smaller) .ensures))
+write-turns-requires c κs = told-room ((c .before .before .before .before .before .before .before .before .before .before .before) .pre .0) ((c .before .before .tell-turns) .ensures) _ ((c .before .before .before .before .before .before .before .before .before .before .before) .pre .1)
 
 same-length-2 : tie.Need-same-length-2
 same-length-2 c = search needs
 
 returns-3 : tie.Need-returns-3
-returns-3 c = written-scanned ((c .before .before .before .before .before .before .before .before .before .before .before .before .before .before .before) .args .row .now) ((c .before .before .before .before .before .before .before .before .before .before .before .before .before .before .before) .args .from) ((c .before .before .before .before .before .before .before .before .before .if2) .left) ((c .before .before .before .before .before .before .tell-turns) .ensures) ((c .before .before .before .before .before .before .before .before .before .before .before .before .before .before .before) .pre) _ (block-count _ _ _ ((c .before .before .before .before .before .before .before .before .before .before .before .before .before .before .before) .pre .high) ((c .before .before .before .before .before .smaller) .ensures)) ((c .before .before .write-turns) .ensures)
+returns-3 c = written-scanned ((c .before .before .before .before .before .before .before .before .before .before .before .before .before .before) .args .row .now) ((c .before .before .before .before .before .before .before .before .before .before .before .before .before .before) .args .from) ((c .before .before .before .before .before .before .before .before .if2) .left) ((c .before .before .before .before .before .tell-turns) .ensures) ((c .before .before .before .before .before .before .before .before .before .before .before .before .before .before) .pre .0) _ ((c .before .before .before .before .before .before .before .before .before .before .before .before .before .before) .pre .1) ((c .before .before .write-turns) .ensures)
 
 pub scan-block-spec : {M : Type 1} → statement M
 scan-block-spec =
@@ -95,8 +89,6 @@ scan-block-spec =
     part-tell-turns-start
     part-tell-turns-end
     tell-turns-requires
-    sub-smaller
-    smaller-requires
     add-write-turns
     write-turns-requires
     same-length-2

@@ -8,19 +8,22 @@ use Rattle.labelling.proofs.runs.scan_blocks.Statement.{statement}
 use Rattle.labelling.proofs.runs.scan_blocks.Tie as tie
 
 abbrev Inv-loop : tie.InvT-loop
-Inv-loop row from to base words₀ at k₀ x₀ words k x = ScanSweep row from to base words₀ words at k (k % 2) x
+Inv-loop row from to base words₀ at n k₀ x₀ words k x = ScanSweep row from to base words₀ words at k (k % 2) x
 
 abbrev μ-loop : tie.MeasureT-loop
-μ-loop row from to base words₀ at k₀ x₀ words k x = to - x
+μ-loop row from to base words₀ at n k₀ x₀ words k x = to - x
+
+smaller-requires : tie.Need-smaller-requires Inv-loop μ-loop
+smaller-requires c κs = search needs
 
 loop-holds : tie.Need-loop-holds Inv-loop μ-loop
-loop-holds c = sweep-none ((c .before .before) .pre)
+loop-holds c = sweep-none ((c .before .before .before) .pre)
 
 sub-loop : tie.Need-sub-loop Inv-loop μ-loop
 sub-loop c = search needs
 
 scan-block-requires : tie.Need-scan-block-requires Inv-loop μ-loop
-scan-block-requires c κs = sweep-asks ((c .before .before .loop) .inv) ((c .before .before .loop) .x + 32) (omega arith) (omega (arith, (c .before .loop-test) .taken, (c .before .before .loop) .inv .high))
+scan-block-requires c κs = (sweep-asks ((c .before .before .loop) .inv) ((c .before .before .loop) .x + 32) (omega arith) (omega (arith, (c .before .loop-test) .taken, (c .before .before .loop) .inv .high)), omega (arith, (c .before .before .before .smaller) .ensures, (c .before .loop-test) .taken, (c .before .before .loop) .inv .high, (c .before .before .before .before .before .before) .pre .high))
 
 add-x : tie.Need-add-x Inv-loop μ-loop
 add-x c = search needs
@@ -46,6 +49,7 @@ scan-blocks-spec =
     (tie.spec
     Inv-loop
     μ-loop
+    smaller-requires
     loop-holds
     sub-loop
     scan-block-requires

@@ -12,12 +12,6 @@ returns c = λ e. absurd (true≢false (sym e))
 mul-if2 : tie.Need-mul-if2
 mul-if2 c = search needs
 
-add-if2 : tie.Need-add-if2
-add-if2 c = search needs
-
-mul-if2-2 : tie.Need-mul-if2-2
-mul-if2-2 c = search needs
-
 shared-slice-read-if2 : tie.Need-shared-slice-read-if2
 shared-slice-read-if2 c = search needs
 
@@ -37,7 +31,7 @@ wide-requires : tie.Need-wide-requires
 wide-requires c κs = search needs
 
 returns-3 : tie.Need-returns-3
-returns-3 c = λ e. let h = ltb-true ((c .wide) .result) ((c .before .before .before .before .before .before) .args .limit) e in ((c .before .before .before .before .if1) .left, (c .before .before .if2) .left, omega (arith, (c .wide) .ensures))
+returns-3 c = λ e. let h = ltb-true ((c .wide) .result) ((c .before .before .before .before .before .before .before) .args .limit) e in ((c .before .before .before .before .if1) .left, (c .before .before .if2) .left, omega (arith, (c .wide) .ensures))
 
 pub goes-on-spec : {M : Type 1} → statement M
 goes-on-spec =
@@ -45,8 +39,6 @@ goes-on-spec =
     (tie.spec
     returns
     mul-if2
-    add-if2
-    mul-if2-2
     shared-slice-read-if2
     returns-2
     mul-wide

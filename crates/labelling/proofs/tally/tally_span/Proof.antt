@@ -53,7 +53,7 @@ same-length : tie.Need-same-length
 same-length c = search needs
 
 returns : tie.Need-returns
-returns c = span-tallied ((c .before .before .before .before .before .before .before .before .before .before) .args .components .now) ((c .before .before .before .before .before .before .before .before .before .before) .args .number) ((c .before .before .before .before .before .before .before .before .before .before) .args .count) ((c .before .before .before .before .before .before .before .before .before .before) .args .x) ((c .before .before .before .before .before .before .before .before .before .before) .args .span .last) ((c .before .before .before .before .before .before .before .before .before .before) .args .span .dots) ((c .before .before .before .before .before .before .before .before .before .before) .args .span .sum) ((c .before .before .before .before .before .before .before .before .before .before) .args .y) ((c .before .before .before .before .before .none) .result) ((c .before .before .before .before .absorb-span) .result) ((c .before .before .encode) .last .0) ((c .before .before .before .before .before .none) .ensures ∙ held-none ((c .before .before .before .before .before .before .before .before .before .before) .args .components .now) ((c .before .before .before .before .before .before .before .before .before .before) .args .number) ((c .before .before .before .before .before .before .before .before .before .before) .args .count) ((c .before .before .before .before .before .before .if1) .taken)) ((c .before .before .before .before .absorb-span) .ensures) ((c .before .before .encode) .ensures)
+returns c = (span-tallied ((c .before .before .before .before .before .before .before .before .before .before) .args .components .now) ((c .before .before .before .before .before .before .before .before .before .before) .args .number) ((c .before .before .before .before .before .before .before .before .before .before) .args .count) ((c .before .before .before .before .before .before .before .before .before .before) .args .x) ((c .before .before .before .before .before .before .before .before .before .before) .args .span .last) ((c .before .before .before .before .before .before .before .before .before .before) .args .span .dots) ((c .before .before .before .before .before .before .before .before .before .before) .args .span .sum) ((c .before .before .before .before .before .before .before .before .before .before) .args .y) ((c .before .before .before .before .before .none) .result) ((c .before .before .before .before .absorb-span) .result) ((c .before .before .encode) .last .0) ((c .before .before .before .before .before .none) .ensures ∙ held-none ((c .before .before .before .before .before .before .before .before .before .before) .args .components .now) ((c .before .before .before .before .before .before .before .before .before .before) .args .number) ((c .before .before .before .before .before .before .before .before .before .before) .args .count) ((c .before .before .before .before .before .before .if1) .taken)) ((c .before .before .before .before .absorb-span) .ensures) ((c .before .before .encode) .ensures), omega (arith, (c .before .before .before .before .before .before .if1) .taken))
 
 add-absorb-words : tie.Need-add-absorb-words
 add-absorb-words c = search needs
@@ -83,7 +83,7 @@ same-length-2 : tie.Need-same-length-2
 same-length-2 c = search needs
 
 returns-2 : tie.Need-returns-2
-returns-2 c = span-tallied ((c .before .before .before .before .before .before .before .before) .args .components .now) ((c .before .before .before .before .before .before .before .before) .args .number) ((c .before .before .before .before .before .before .before .before) .args .count) ((c .before .before .before .before .before .before .before .before) .args .x) ((c .before .before .before .before .before .before .before .before) .args .span .last) ((c .before .before .before .before .before .before .before .before) .args .span .dots) ((c .before .before .before .before .before .before .before .before) .args .span .sum) ((c .before .before .before .before .before .before .before .before) .args .y) _ _ ((c .before .before .absorb-words) .last .0) (held-words ((c .before .before .before .before .before .before .before .before) .args .components .now) ((c .before .before .before .before .before .before .before .before) .args .number) ((c .before .before .before .before .before .before .before .before) .args .count) ((c .before .before .before .before .if1) .left)) refl ((c .before .before .absorb-words) .ensures)
+returns-2 c = (span-tallied ((c .before .before .before .before .before .before .before .before) .args .components .now) ((c .before .before .before .before .before .before .before .before) .args .number) ((c .before .before .before .before .before .before .before .before) .args .count) ((c .before .before .before .before .before .before .before .before) .args .x) ((c .before .before .before .before .before .before .before .before) .args .span .last) ((c .before .before .before .before .before .before .before .before) .args .span .dots) ((c .before .before .before .before .before .before .before .before) .args .span .sum) ((c .before .before .before .before .before .before .before .before) .args .y) _ _ ((c .before .before .absorb-words) .last .0) (held-words ((c .before .before .before .before .before .before .before .before) .args .components .now) ((c .before .before .before .before .before .before .before .before) .args .number) ((c .before .before .before .before .before .before .before .before) .args .count) ((c .before .before .before .before .if1) .left)) refl ((c .before .before .absorb-words) .ensures), omega (arith, (c .before .before .before .before .if1) .left))
 
 pub tally-span-spec : {M : Type 1} → statement M
 tally-span-spec =
