@@ -14,7 +14,7 @@ use Rattle.labelling.specs.InkRuns.{startOf, componentNumber}
 use Rattle.labelling.specs.Linking.{firstRun}
 use Rattle.labelling.specs.Spans.{SpanOf}
 use Rattle.labelling.specs.Tallying.{tallied, SpanTallyable, records, Tallyable, TallySweep}
-use Rattle.labelling.specs.Painting.{numbered, Filled, Cleared, Paintable, Painted, PaintSweep, PaintsOn, SpanPaintable, SpanPainted, RowPaintable, RowPainted}
+use Rattle.labelling.specs.Painting.{numbered, Filled, RunPainted, Paintable, Painted, PaintSweep, PaintsOn, SpanPaintable, SpanPainted, RowPaintable, RowPainted}
 use Rattle.labelling.proofs.PaintLaws.{paint-none, paint-clear, paint-asks, paint-more, paint-done}
 use Rattle.labelling.proofs.RecordSweepLaws.{tally-none, tally-long, tally-asks, tally-more, tally-done}
 use Rattle.labelling.proofs.SpanLaws.{row-found, Place, place-ends, span-room, first-place, first-span, next-place, next-span}
@@ -65,17 +65,14 @@ module _ {w c : ℕ} (t numbers : List ℕ) {l : List ℕ} {base first clear : �
         → SpanOf w c (take (2 * c) (numbered c t numbers)) first (first + 1) (end - base - 1) (end - start) sum
     first-sum sum e = first-span (P .ahead) start end first-start first-end sum e
 
-    pub first-clears : (clear ≤ base + w) × (end ≤ base + w) × (base + w ≤ length l) × (base + w ≤ maxMaskDots)
-    first-clears = (P .near, place-ends first-here .2, row-fits .0, row-fits .1)
+    pub first-asks : (start < end) × (clear ≤ base + w) × (end ≤ base + w) × (base + w ≤ length l) × (base + w ≤ maxMaskDots)
+    first-asks = let e = place-ends first-here in (e .1, P .near, e .2, row-fits .0, row-fits .1)
 
-    module _ {l₁ : List ℕ} {r : ℕ} (C : Cleared l l₁ clear end (base + w) r) where
-      pub first-asks : (start < end) × (end ≤ length l₁)
-      first-asks = let e = place-ends first-here in let f = row-fits .0 in let n = C .filled .len in (e .1, omega arith)
-
-      pub first-painted : (l₂ : List ℕ) → Filled l₁ l₂ start end (getD numbers first 0) → PaintsOn (numbered c t numbers) c l l₂ (base + w) first clear (first + 1) r
-      first-painted l₂ X n l₀ h S =
-          paint-more (paint-clear S l₁ r (C .from) (le-trans (C .upto) h) (C .filled)) (P .ahead .here) start end first-start first-end (C .reach) l₂
-          (subst (λ z. Filled l₁ l₂ start end z) (sym (numbered-number c t numbers ht first)) X)
+    pub first-painted : (l' : List ℕ) {r : ℕ} → RunPainted l l' clear start end (base + w) (getD numbers first 0) r → PaintsOn (numbered c t numbers) c l l' (base + w) first clear (first + 1) r
+    first-painted l' {r} X n l₀ h S =
+        let C = X .cleared in
+        paint-more (paint-clear S (X .between) r (C .from) (le-trans (C .upto) h) (C .filled)) (P .ahead .here) start end first-start first-end (C .reach) l'
+        (subst (λ z. Filled (X .between) l' start end z) (sym (numbered-number c t numbers ht first)) (X .filled))
 
   -- and the next, run k
   module _ {k last dots sum : ℕ} (S : SpanOf w c (take (2 * c) (numbered c t numbers)) first k last dots sum) (number : ℕ) (el : number ≡ getD numbers first 0)
@@ -99,18 +96,16 @@ module _ {w c : ℕ} (t numbers : List ℕ) {l : List ℕ} {base first clear : �
         → SpanOf w c (take (2 * c) (numbered c t numbers)) first (k + 1) (end - base - 1) (dots + (end - start)) (sum + more)
     next-sum more e = next-span (P .ahead) S number own-number next-one start end next-start next-end more e
 
-    module _ {l₁ : List ℕ} {clear₁ : ℕ} (I : PaintsOn (numbered c t numbers) c l l₁ (base + w) first clear k clear₁) where
-      pub next-clears : clear₁ ≤ base + w → (clear₁ ≤ base + w) × (end ≤ base + w) × (base + w ≤ length l₁) × (base + w ≤ maxMaskDots)
-      next-clears h = let e = paints-long I in let f = row-fits .0 in (h, place-ends next-here .2, omega arith, row-fits .1)
+    pub next-asks : {l₁ : List ℕ} {clear₁ : ℕ} → PaintsOn (numbered c t numbers) c l l₁ (base + w) first clear k clear₁ → clear₁ ≤ base + w
+        → (start < end) × (clear₁ ≤ base + w) × (end ≤ base + w) × (base + w ≤ length l₁) × (base + w ≤ maxMaskDots)
+    next-asks I h = let e = place-ends next-here in let m = paints-long I in let f = row-fits .0 in (e .1, h, e .2, omega arith, row-fits .1)
 
-      pub next-asks : {l₂ : List ℕ} {r : ℕ} → Cleared l₁ l₂ clear₁ end (base + w) r → (start < end) × (end ≤ length l₂)
-      next-asks C = let e = place-ends next-here in let f = row-fits .0 in let n = C .filled .len in let m = paints-long I in (e .1, omega arith)
-
-    pub next-painted : {l' l₁ l₂ : List ℕ} {a x clear₁ r : ℕ} → PaintsOn (numbered c t numbers) c l' l₁ (base + w) a x k clear₁ → Cleared l₁ l₂ clear₁ end (base + w) r
-        → (l₃ : List ℕ) → Filled l₂ l₃ start end number → PaintsOn (numbered c t numbers) c l' l₃ (base + w) a x (k + 1) r
-    next-painted {l'} {l₁} {l₂} {a} {x} {clear₁} {r} I C l₃ X n l₀ h T =
-        paint-more (paint-clear (I n l₀ h T) l₂ r (C .from) (le-trans (C .upto) h) (C .filled)) (G .0) start end next-start next-end (C .reach) l₃
-        (subst (λ z. Filled l₂ l₃ start end z) (sym (next-one .1)) X)
+    pub next-painted : {l' l₁ : List ℕ} {a x clear₁ r : ℕ} → PaintsOn (numbered c t numbers) c l' l₁ (base + w) a x k clear₁
+        → (l₂ : List ℕ) → RunPainted l₁ l₂ clear₁ start end (base + w) number r → PaintsOn (numbered c t numbers) c l' l₂ (base + w) a x (k + 1) r
+    next-painted {l'} {l₁} {a} {x} {clear₁} {r} I l₂ X n l₀ h T =
+        let C = X .cleared in
+        paint-more (paint-clear (I n l₀ h T) (X .between) r (C .from) (le-trans (C .upto) h) (C .filled)) (G .0) start end next-start next-end (C .reach) l₂
+        (subst (λ z. Filled (X .between) l₂ start end z) (sym (next-one .1)) (X .filled))
 
 -- A row: the runs from `first` up to k are painted and tallied, and run k lies in row y or past it
 

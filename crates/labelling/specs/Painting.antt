@@ -32,6 +32,12 @@ pub record Cleared (l l' : List ℕ) (clear end limit r : ℕ) : Type 0 where
   pub upto : r ≤ limit
   pub filled : Filled l l' clear r 0
 
+-- cleared so, up to r, and then the value v from `start` up to `end`
+pub record RunPainted (l l' : List ℕ) (clear start end limit v r : ℕ) : Type 0 where
+  pub between : List ℕ
+  pub cleared : Cleared l between clear end limit r
+  pub filled : Filled between l' start end v
+
 -- c runs within n dots, with their numbers, and a label for each dot
 pub record Paintable (s : List ℕ) (c : ℕ) (l : List ℕ) (n : ℕ) : Type 0 where
   pub room : 3 * c ≤ length s

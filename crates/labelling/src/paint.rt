@@ -5,7 +5,7 @@ ghost use Prim.Native.Nat.{_+_, _*_, _≤_, _<_};
 ghost use lib.ListN.{length, drop};
 ghost use Rattle.memory.specs.Limits.{maxMaskDots};
 ghost use Rattle.memory.specs.Words.{over};
-ghost use Rattle.labelling.specs.Painting.{numbered, Filled, Cleared, Paintable, Painted, SpanPaintable, SpanPainted, RowPaintable, RowPainted};
+ghost use Rattle.labelling.specs.Painting.{numbered, Filled, Cleared, RunPainted, Paintable, Painted, SpanPaintable, SpanPainted, RowPaintable, RowPainted};
 ghost use Rattle.labelling.specs.Tallying.{Tallyable, records};
 use crate::span::Span;
 use crate::span::column_sum;
@@ -49,13 +49,23 @@ fn clear_to(labels: &mut [u32], clear: usize, end: usize, limit: usize) -> usize
     to
 }
 
-// A run's label on its dots, from `start` up to `end`. The first by itself: on a crowded page most runs have no other.
-fn paint_run(labels: &mut [u32], start: usize, end: usize, label: u32)
-    requires { ⌜ (start < end) × (end ≤ length (now labels)) ⌝ }
-    ensures { λ _. ⌜ Filled (now (labels .entry)) (now (labels .exit)) start end label ⌝ }
+// A run's label on its dots, from `start` up to `end`, in labels that are cleared up to `cleared`; answers up to where they are then. The first
+// dot by itself: on a crowded page most runs have no other.
+fn paint_run(
+    labels: &mut [u32],
+    cleared: usize,
+    start: usize,
+    end: usize,
+    limit: usize,
+    label: u32,
+) -> usize
+    requires { ⌜ (start < end) × (cleared ≤ limit) × (end ≤ limit) × (limit ≤ length (now labels)) × (limit ≤ maxMaskDots) ⌝ }
+    ensures { λ r. ⌜ RunPainted (now (labels .entry)) (now (labels .exit)) cleared start end limit label r ⌝ }
 {
+    let clear = clear_to(labels, cleared, end, limit);
     labels[start] = label;
     fill(labels, start + 1, end, label);
+    clear
 }
 
 // Paints the runs from `first` on that have its number and lie in its row, which starts at dot `base`.
@@ -76,8 +86,7 @@ fn paint_span(
     let number = numbers[first];
     let start = wide(runs[2 * first]);
     let end = wide(runs[2 * first + 1]);
-    let mut clear = clear_to(labels, cleared, end, limit);
-    paint_run(labels, start, end, number);
+    let mut clear = paint_run(labels, cleared, start, end, limit, number);
     let mut last = end - base - 1;
     let mut dots = end - start;
     let mut sum = column_sum(start - base, last, dots);
@@ -85,8 +94,7 @@ fn paint_span(
     while goes_on(runs, numbers, c, k, number, limit) {
         let from = wide(runs[2 * k]);
         let to = wide(runs[2 * k + 1]);
-        clear = clear_to(labels, clear, to, limit);
-        paint_run(labels, from, to, number);
+        clear = paint_run(labels, clear, from, to, limit, number);
         last = to - base - 1;
         sum += column_sum(from - base, last, to - from);
         dots += to - from;
@@ -101,28 +109,25 @@ fn paint_span(
     }
 }
 
-// Paints the runs of row y, from `first` on, and writes the records of their components; `before` components have one already, and the
-// labels are cleared up to `cleared`.
+// Paints the runs of row y and writes the records of their components, from where painting has come.
 fn paint_row(
     runs: &[u32],
     numbers: &[u32],
     c: usize,
     w: usize,
     y: usize,
-    first: usize,
-    before: usize,
-    cleared: usize,
+    from: Progress,
     labels: &mut [u32],
     components: &mut [u32],
 ) -> Progress
-    requires { ⌜ (2 * c ≤ length (now runs)) × RowPaintable w c (numbered c (now runs) (now numbers)) (now labels) (now components) y first before cleared ⌝ }
-    ensures { λ r. ⌜ RowPainted w c (numbered c (now (runs .entry)) (now (numbers .entry))) (now (labels .entry)) (now (labels .exit)) (now (components .entry)) (now (components .exit)) y first before cleared (r .next) (r .count) (r .clear) ⌝ }
+    requires { ⌜ (2 * c ≤ length (now runs)) × RowPaintable w c (numbered c (now runs) (now numbers)) (now labels) (now components) y (from .next) (from .count) (from .clear) ⌝ }
+    ensures { λ r. ⌜ RowPainted w c (numbered c (now (runs .entry)) (now (numbers .entry))) (now (labels .entry)) (now (labels .exit)) (now (components .entry)) (now (components .exit)) y (from .next) (from .count) (from .clear) (r .next) (r .count) (r .clear) ⌝ }
 {
     let base = y * w;
     let limit = base + w;
-    let mut count = before;
-    let mut clear = cleared;
-    let mut k = first;
+    let mut count = from.count;
+    let mut clear = from.clear;
+    let mut k = from.next;
     while k < c {
         let start = wide(runs[2 * k]);
         if limit <= start {
@@ -165,18 +170,12 @@ pub fn paint_runs(
     let mut clear = 0;
     while k < c {
         let y = wide(words[2 * k]) / w;
-        let reached = paint_row(
-            words,
-            &words[numbers..],
-            c,
-            w,
-            y,
-            k,
-            count,
-            clear,
-            labels,
-            components,
-        );
+        let from = Progress {
+            next: k,
+            count: count,
+            clear: clear,
+        };
+        let reached = paint_row(words, &words[numbers..], c, w, y, from, labels, components);
         count = reached.count;
         k = reached.next;
         clear = reached.clear;

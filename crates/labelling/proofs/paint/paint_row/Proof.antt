@@ -7,10 +7,10 @@ use Rattle.labelling.proofs.paint.paint_row.Statement.{statement}
 use Rattle.labelling.proofs.paint.paint_row.Tie as tie
 
 abbrev Inv-loop : tie.InvT-loop
-Inv-loop runs numbers c w y first before cleared labels₀ components₀ base limit count₀ clear₀ k₀ labels components count clear k = RowSweep w c (numbered c runs numbers) labels₀ labels components₀ components y first before cleared k count clear
+Inv-loop runs numbers c w y labels₀ components₀ base limit count₀ clear₀ k₀ labels components count clear k = RowSweep w c (numbered c runs numbers) labels₀ labels components₀ components y k₀ count₀ clear₀ k count clear
 
 abbrev μ-loop : tie.MeasureT-loop
-μ-loop runs numbers c w y first before cleared labels₀ components₀ base limit count₀ clear₀ k₀ labels components count clear k = c - k
+μ-loop runs numbers c w y labels₀ components₀ base limit count₀ clear₀ k₀ labels components count clear k = c - k
 
 mul-base : tie.Need-mul-base Inv-loop μ-loop
 mul-base c = let r = row-room ((c .before .before .before .before) .args .runs .now) ((c .before .before .before .before) .args .numbers .now) ((c .before .before .before .before) .pre .0) ((c .before .before .before .before) .pre .1) in let t = (c .before .before .before .before) .pre .0 in omega arith
