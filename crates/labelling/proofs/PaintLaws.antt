@@ -7,11 +7,29 @@ use native.Mathlib.Numerals.{add-one}
 use native.Mathlib.Decide.{ℕ-discrete, decLt}
 use native.Mathlib.Omega.{arith}
 use lib.ListN.{getD, length, set, take, drop, length-set, length-append, length-drop, List·getD-append}
-use lib.Seq.{getD-take, getD-drop, getD-set-same, getD-set-other, getD-append-add, ext-getD}
+use lib.Seq.{length-take-le, take-at, getD-take, getD-drop, getD-set-same, getD-set-other, getD-append-add, ext-getD}
 use Rattle.memory.specs.Lists.{table}
 use Rattle.memory.proofs.TableLaws.{length-table, getD-table}
 use Rattle.labelling.specs.InkRuns.{startOf, endOf}
-use Rattle.labelling.specs.Painting.{Front, Filled, Cleared, Paintable, OnRuns, OffRuns, Painted, PaintSweep}
+use Rattle.labelling.specs.Painting.{Front, numbered, Filled, Cleared, Paintable, OnRuns, OffRuns, Painted, PaintSweep}
+
+-- Turns and numbers that stand apart
+
+module _ (c : ℕ) (t numbers : List ℕ) (ht : 2 * c ≤ length t) where
+  front-long : length (take (2 * c) t) ≡ 2 * c
+  front-long = length-take-le (2 * c) t ht
+
+  pub numbered-turn : (i : ℕ) → i < 2 * c → getD (numbered c t numbers) i 0 ≡ getD t i 0
+  numbered-turn i l = List·getD-append (take (2 * c) t) numbers 0 i (let e = front-long in omega arith) ∙ getD-take (2 * c) t i 0 l
+
+  pub numbered-number : (k : ℕ) → getD (numbered c t numbers) (2 * c + k) 0 ≡ getD numbers k 0
+  numbered-number k = ap (λ z. getD (numbered c t numbers) (z + k) 0) (sym front-long) ∙ getD-append-add (take (2 * c) t) numbers k 0
+
+  pub numbered-length : length (numbered c t numbers) ≡ 2 * c + length numbers
+  numbered-length = length-append (take (2 * c) t) numbers ∙ ap (λ z. z + length numbers) front-long
+
+  pub numbered-turns : take (2 * c) (numbered c t numbers) ≡ take (2 * c) t
+  numbered-turns = take-at (take (2 * c) t) numbers (2 * c) front-long
 
 -- Filling: the labels from `from` up to i have the value v
 
@@ -119,22 +137,14 @@ module _ {s : List ℕ} {c : ℕ} {l₀ l : List ℕ} {n k clear : ℕ} (S : Pai
     at-end : end ≡ endOf (take (2 * c) s) 0 k
     at-end = ee ∙ sym (getD-take (2 * c) s (2 * k + 1) 0 (omega arith))
 
-    -- what painting it asks
-    pub paint-asks : (start < end) × (end ≤ length l)
-    paint-asks =
-        let b = at-start in
-        let d = at-end in
-        let o = S .asks .order .some k lk in
-        let i = S .asks .within k lk in
-        let e = S .asks .labels in
-        let f = S .len in
-        (omega arith, omega arith)
+    has-dots : start < end
+    has-dots = let b = at-start in let d = at-end in let o = S .asks .order .some k lk in omega arith
 
     pub paint-more : end ≤ clear → (l' : List ℕ) → Filled l l' start end (getD s (2 * c + k) 0) → PaintSweep s c l₀ l' n (k + 1) clear
     paint-more reached l' X =
         let b = at-start in
         let d = at-end in
-        let p = paint-asks .0 in
+        let p = has-dots in
         let g = S .next lk in
         record {
           asks = S .asks;

@@ -5,8 +5,8 @@ use Prim.Native.Nat.{ℕ, suc, _+_, _-_, _*_, _/_, _%_, _≤_, _<_, max}
 use native.Mathlib.Nat.{le-refl, le-trans, div-add-mod', mod-lt, mul-comm, suc-mul, mul-le-mul-right}
 use native.Mathlib.Decide.{decLt}
 use native.Mathlib.Omega.{arith}
-use lib.ListN.{getD, length, take, length-append, List·getD-append}
-use lib.Seq.{length-take-le, getD-take, getD-append-add}
+use lib.ListN.{getD, length, take}
+use lib.Seq.{getD-take}
 use Rattle.memory.specs.Limits.{maxMaskSide, maxMaskDots}
 use Rattle.memory.specs.Words.{over}
 use Rattle.labelling.specs.Components.{columnSum}
@@ -15,24 +15,9 @@ use Rattle.labelling.specs.Linking.{firstRun}
 use Rattle.labelling.specs.Spans.{SpanOf}
 use Rattle.labelling.specs.Tallying.{tallied, SpanTallyable, records, Tallyable, TallySweep}
 use Rattle.labelling.specs.Painting.{numbered, Filled, RunPainted, Paintable, Painted, PaintSweep, PaintsOn, SpanPaintable, SpanPainted, RowPaintable, RowPainted}
-use Rattle.labelling.proofs.PaintLaws.{paint-none, paint-clear, paint-asks, paint-more, paint-done}
+use Rattle.labelling.proofs.PaintLaws.{numbered-turn, numbered-number, numbered-length, paint-none, paint-clear, paint-more, paint-done}
 use Rattle.labelling.proofs.RecordSweepLaws.{tally-none, tally-long, tally-asks, tally-more, tally-done}
 use Rattle.labelling.proofs.SpanLaws.{row-found, Place, place-ends, span-room, first-place, first-span, next-place, next-span}
-
--- Turns and numbers that stand apart
-
-module _ (c : ℕ) (t numbers : List ℕ) (ht : 2 * c ≤ length t) where
-  front-long : length (take (2 * c) t) ≡ 2 * c
-  front-long = length-take-le (2 * c) t ht
-
-  numbered-turn : (i : ℕ) → i < 2 * c → getD (numbered c t numbers) i 0 ≡ getD t i 0
-  numbered-turn i l = List·getD-append (take (2 * c) t) numbers 0 i (let e = front-long in omega arith) ∙ getD-take (2 * c) t i 0 l
-
-  numbered-number : (k : ℕ) → getD (numbered c t numbers) (2 * c + k) 0 ≡ getD numbers k 0
-  numbered-number k = ap (λ z. getD (numbered c t numbers) (z + k) 0) (sym front-long) ∙ getD-append-add (take (2 * c) t) numbers k 0
-
-  numbered-long : 3 * c ≤ length (numbered c t numbers) → c ≤ length numbers
-  numbered-long h = let a = length-append (take (2 * c) t) numbers in let e = front-long in omega arith
 
 -- A span
 
@@ -41,7 +26,7 @@ paints-then I J n l₀ h S = J n l₀ h (I n l₀ h S)
 
 module _ {w c : ℕ} (t numbers : List ℕ) {l : List ℕ} {base first clear : ℕ} (ht : 2 * c ≤ length t) (P : SpanPaintable w c (numbered c t numbers) l base first clear) where
   pub paints-room : (c ≤ maxMaskDots) × (c ≤ length numbers) × (first < c) × (base + w ≤ maxMaskDots) × (w ≤ maxMaskSide)
-  paints-room = let r = span-room (P .ahead) in let i = P .inside in let d = P .sweep .asks .dots in (r .0, numbered-long c t numbers ht (r .1), r .2, omega arith, r .4)
+  paints-room = let r = span-room (P .ahead) in let i = P .inside in let d = P .sweep .asks .dots in (r .0, (let e = numbered-length c t numbers ht in let l = r .1 in omega arith), r .2, omega arith, r .4)
 
   -- the labels keep their length
   pub paints-long : {l' : List ℕ} {k clear' : ℕ} → PaintsOn (numbered c t numbers) c l l' (base + w) first clear k clear' → length l' ≡ length l
@@ -120,7 +105,7 @@ module _ {w c : ℕ} (t numbers : List ℕ) {l comps : List ℕ} {y first before
   row-none = record { painted = λ n l₀ h S. S; near = R .near; tallied = λ comps₀ T. T; from = R .from }
 
   pub row-room : (c ≤ maxMaskDots) × (c ≤ length numbers) × (y * w + w ≤ maxMaskDots)
-  row-room = let i = R .inside in let d = R .sweep .asks .dots in (R .tally .asks .list .few, numbered-long c t numbers ht (R .tally .asks .list .room), omega arith)
+  row-room = let i = R .inside in let d = R .sweep .asks .dots in (R .tally .asks .list .few, (let e = numbered-length c t numbers ht in let l = R .tally .asks .list .room in omega arith), omega arith)
 
   module _ {l₁ comps₁ : List ℕ} {k count clear₁ : ℕ} (I : RowSweep w c (numbered c t numbers) l l₁ comps comps₁ y first before clear k count clear₁) where
     row-sweep : PaintSweep (numbered c t numbers) c (R .l₀) l₁ (R .n) k clear₁

@@ -7,7 +7,7 @@ use native.Mathlib.Omega.{arith}
 use borrow.Author.Tests.{lt-ltb, le-ltb}
 use borrow.Rule.Slice.PartMut.{putMid}
 use lib.ListN.{getD, length, take, drop, length-append, length-drop}
-use lib.Seq.{length-take-le, take-at, drop-at, take-take, take-append-le, getD-append-add}
+use lib.Seq.{length-take-le, drop-at, take-take, take-append-le}
 use Rattle.memory.specs.Lists.{table, countIf}
 use Rattle.memory.specs.Words.{over}
 use Rattle.memory.specs.Records.{encoded}
@@ -28,6 +28,7 @@ use Rattle.labelling.proofs.TransferLaws.{firsts-named}
 use Rattle.labelling.proofs.RunLabelLaws.{runs-low, turns-runs, paint-run, paint-gap}
 use Rattle.labelling.proofs.RunComponentLaws.{labelling-by-runs}
 use Rattle.memory.proofs.PartLaws.{tail-part, tail-put}
+use Rattle.labelling.proofs.PaintLaws.{numbered-number, numbered-length, numbered-turns}
 use Rattle.labelling.proofs.RecordSweepLaws.{first-low}
 
 -- the labelling by the words that hold its runs
@@ -128,34 +129,32 @@ module _ {w h : ℕ} {m : List ℕ} {P : ℕ} {labels comps s₀ : List ℕ} (W 
       stage-many l = let e = count-is in rw (lt-ltb P (length (labelling w h m .components)) (omega arith)) (record { answer = refl; labelled = refl; recorded = refl })
 
       module _ (fits : count ≤ P) where
-        front-long : length (take (2 * c) s₁) ≡ 2 * c
-        front-long = length-take-le (2 * c) s₁ (let a = K .place in let r = stage-room in omega arith)
+        turns-long : 2 * c ≤ length s₁
+        turns-long = le-trans (K .place) stage-room
 
         -- the numbers seen right behind the runs
-        put-is : numbered c (putMid q (length s₁ - q) s₁ p) (drop q (putMid q (length s₁ - q) s₁ p)) ≡ take (2 * c) s₁ ++ p
+        put-is : numbered c (putMid q (length s₁ - q) s₁ p) (drop q (putMid q (length s₁ - q) s₁ p)) ≡ numbered c s₁ p
         put-is =
             ap (λ z. numbered c z (drop q z)) (tail-put q s₁ p)
             ∙ (ap (λ z. z ++ drop q (take q s₁ ++ p)) (take-append-le (2 * c) (take q s₁) p (let a = K .place in let e = head-long in omega arith) ∙ take-take (2 * c) q s₁ (K .place))
             ∙ ap (λ z. take (2 * c) s₁ ++ z) (drop-at (take q s₁) p q head-long))
 
-        runs-kept : take (2 * c) (take (2 * c) s₁ ++ p) ≡ take (2 * c) s₁
-        runs-kept = take-at (take (2 * c) s₁) p (2 * c) front-long
+        runs-kept : take (2 * c) (numbered c s₁ p) ≡ take (2 * c) s₁
+        runs-kept = numbered-turns c s₁ p turns-long
 
-        numbers : (k : ℕ) → k < c → getD (take (2 * c) s₁ ++ p) (2 * c + k) 0 ≡ componentNumber rep k
-        numbers k l =
-            ap (λ z. getD (take (2 * c) s₁ ++ p) (z + k) 0) (sym front-long)
-            ∙ (getD-append-add (take (2 * c) s₁) p k 0 ∙ N .numbers rep (first-low w c t) (K .forest) fits k l)
+        numbers : (k : ℕ) → k < c → getD (numbered c s₁ p) (2 * c + k) 0 ≡ componentNumber rep k
+        numbers k l = numbered-number c s₁ p turns-long k ∙ N .numbers rep (first-low w c t) (K .forest) fits k l
 
-        put-long : 3 * c ≤ length (take (2 * c) s₁ ++ p)
-        put-long = simp length-append (let a = front-long in let b = tail-long in let e = N .len in omega arith)
+        put-long : 3 * c ≤ length (numbered c s₁ p)
+        put-long = let a = numbered-length c s₁ p turns-long in let b = tail-long in let e = N .len in omega arith
 
-        stage-paint : Paintable (take (2 * c) s₁ ++ p) c labels (w * h)
+        stage-paint : Paintable (numbered c s₁ p) c labels (w * h)
         stage-paint = record { room = put-long; dots = W .dots; labels = W .labels-room; order = rw runs-kept order; within = rw runs-kept (all-runs .within) }
 
         counted : countIf (isRoot rep) c * 9 ≤ length comps
         counted = let e = count-is in let f = lab-count in let r = W .records-room in omega arith
 
-        stage-tally : Tallyable w c (take (2 * c) s₁ ++ p) comps
+        stage-tally : Tallyable w c (numbered c s₁ p) comps
         stage-tally =
             record {
               list = record { wide = W .wide; narrow = W .narrow; few = few; room = put-long; order = rw runs-kept order };
@@ -176,14 +175,14 @@ module _ {w h : ℕ} {m : List ℕ} {P : ℕ} {labels comps s₀ : List ℕ} (W 
           subst (λ z. Tallyable w c z comps) (sym put-is) stage-tally,
         )
 
-        painted-is : {labels' : List ℕ} → Painted (take (2 * c) s₁ ++ p) c labels labels' (w * h) → labels' ≡ over (labelling w h m .labels) labels
+        painted-is : {labels' : List ℕ} → Painted (numbered c s₁ p) c labels labels' (w * h) → labels' ≡ over (labelling w h m .labels) labels
         painted-is X =
             X .painted (runLabel w m rep)
             (rw runs-kept (λ k i l a b. paint-run w m (W .wide) (w * h) c (startOf t) (endOf t 0) all-runs rep k i l a b ∙ sym (numbers k l)))
             (rw runs-kept (paint-gap w m (W .wide) (w * h) c (startOf t) (endOf t 0) all-runs rep))
             ∙ (ap (λ z. table (runLabel w m rep) (w * h) ++ drop z labels) (sym (length-table (runLabel w m rep) (w * h))) ∙ ap (λ z. over (z .labels) labels) (sym lab))
 
-        recorded-is : {comps' : List ℕ} → comps' ≡ over (records w c (take (2 * c) s₁ ++ p) c) comps → comps' ≡ over (encoded recordWords (labelling w h m .components)) comps
+        recorded-is : {comps' : List ℕ} → comps' ≡ over (records w c (numbered c s₁ p) c) comps → comps' ≡ over (encoded recordWords (labelling w h m .components)) comps
         recorded-is e =
             e ∙ (ap (λ z. over (encoded recordWords (table (λ q. componentRuns w (startOf z) (endOf z 0) (firstRun w c z) (suc q) c) (countIf (isRoot (firstRun w c z)) c))) comps) runs-kept
             ∙ ap (λ z. over (encoded recordWords (z .components)) comps) (sym lab))

@@ -73,7 +73,7 @@ pub record PaintSweep (s : List ℕ) (c : ℕ) (l₀ l : List ℕ) (n k clear : 
   pub blank : (i : ℕ) → done ≤ i → i < clear → getD l i 0 ≡ 0
   pub past : (i : ℕ) → clear ≤ i → getD l i 0 ≡ getD l₀ i 0
 
--- the runs from k up to k' are painted, in labels that are cleared from `clear` up to clear', whatever was before; no dot lies past `limit`
+-- the runs from k up to k' are painted, in labels that are cleared from `clear` up to clear', whatever was before, in any plane that reaches to dot `limit`
 abbrev pub PaintsOn : List ℕ → ℕ → List ℕ → List ℕ → ℕ → ℕ → ℕ → ℕ → ℕ → Type 0
 PaintsOn s c l l' limit k clear k' clear' = (n : ℕ) (l₀ : List ℕ) → limit ≤ n → PaintSweep s c l₀ l n k clear → PaintSweep s c l₀ l' n k' clear'
 
