@@ -13,12 +13,12 @@ use Rattle.memory.specs.Limits.{scratchWords}
 use Rattle.memory.specs.Lists.{greatest}
 use Rattle.memory.specs.Refusals.{refuseIf}
 use Rattle.memory.specs.Words.{over}
-use Rattle.memory.proofs.RefusalLaws.{refusal-passed}
+use Rattle.memory.proofs.RefusalLaws.{refusal-passed, passes-none, passes-if}
 use Rattle.sorting.specs.Sortings.{FrameRoom, CutsHeld, mostCuts}
 use Rattle.sorting.specs.declared.sort.Cuts.{Cuts}
 use Rattle.boundary.specs.Frames.{frameRefusal, roomRefusal, told}
 use Rattle.boundary.specs.Sorting.{cutsMany, cutCounts, cutRulings}
-use Rattle.boundary.proofs.FrameLaws.{passes-none, passes-if, frame-pass, room-pass, FrameGood, frame-good, RoomGood, room-good, told-refused, told-many, told-done}
+use Rattle.boundary.proofs.FrameLaws.{frame-pass, room-pass, FrameGood, frame-good, RoomGood, room-good, told-refused, told-many, told-done}
 
 -- each count is at most the greatest number of components
 pub record FewCuts (P : ℕ) (f : Cuts) : Type 0 where

@@ -12,19 +12,10 @@ use lib.Seq.{drop-at, length-take-le}
 use Rattle.memory.specs.Limits.{maxFrameWidth, maxFrameHeight, maxCapacity, scratchWords}
 use Rattle.memory.specs.Refusals.{refuseIf}
 use Rattle.memory.specs.Words.{over}
-use Rattle.memory.proofs.RefusalLaws.{refusal-passed}
-use Rattle.labelling.proofs.EntryLaws.{Passes}
+use Rattle.memory.proofs.RefusalLaws.{refusal-passed, Passes, passes-if}
 use Rattle.boundary.specs.Frames.{frameRefusal, roomRefusal, told, toldBy}
 
 -- A chain of tests before others
-
-pub passes-none : Passes (λ x. x)
-passes-none = record { pass = λ _ x. refl; stop = λ n x. absurd (n refl) }
-
-pub passes-if : (b : Bool) (k : ℕ) {F : ℕ → ℕ} → Passes F → Passes (λ x. refuseIf b (suc k) (F x))
-unfolding refuseIf
-passes-if true k p = record { pass = λ e x. absurd (omega arith); stop = λ _ x. refl }
-passes-if false k p = record { pass = p .pass; stop = p .stop }
 
 pub frame-pass : (w h ink : ℕ) {F : ℕ → ℕ} → Passes F → Passes (λ x. frameRefusal w h ink (F x))
 unfolding frameRefusal

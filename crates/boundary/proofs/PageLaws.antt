@@ -7,40 +7,24 @@ use native.Mathlib.Nat.{le-refl, le-trans}
 use native.Mathlib.Omega.{arith}
 use borrow.Author.Tests.{ltb-false, leb-true, not-false, ne-eqb}
 use lib.Dec.{ltb, leb}
-use lib.Ieee.{Float}
-use lib.ListN.{length, getD, set, take, drop, length-append, length-drop, length-set}
+use lib.ListN.{length, getD, take, drop, length-append, length-drop}
 use lib.Seq.{drop-at, length-take-le}
-use Rattle.memory.specs.Floats.{withFloat}
 use Rattle.memory.specs.Limits.{maxFrameWidth, maxFrameHeight, maxCapacity, scratchWords}
-use Rattle.memory.specs.Lists.{table, greatest}
-use Rattle.memory.specs.Words.{over}
-use Rattle.memory.proofs.CountLaws.{list-is-table}
-use Rattle.memory.proofs.RefusalLaws.{refusal-passed}
+use Rattle.memory.specs.Masks.{isMask}
+use Rattle.memory.proofs.MaskLaws.{mask-ones}
+use Rattle.memory.proofs.RefusalLaws.{refusal-passed, Passes, passes-none, passes-if}
 use Rattle.rounding.proofs.Tests.{yes}
 use Rattle.params.specs.Valid.{valid}
 use Rattle.params.specs.Facts.{ValidSheet}
 use Rattle.params.specs.declared.LayoutParams.{LayoutParams}
 use Rattle.params.proofs.SheetLaws.{valid-gives}
-use Rattle.labelling.proofs.EntryLaws.{Passes}
-use Rattle.levelling.proofs.ShearLaws.{greatest-bounds}
-use Rattle.sorting.specs.Units.{unitValue}
 use Rattle.grouping.specs.Layouts.{layout, layoutRefusal}
 use Rattle.segmenting.specs.Answers as Answers
+use Rattle.segmenting.specs.Figures.{figuresLength}
 use Rattle.segmenting.specs.Results.{resultWords}
-use Rattle.segmenting.specs.declared.results.Segmentation.{Segmentation}
 use Rattle.segmenting.specs.declared.page.SegmentAnswer.{SegmentAnswer}
-use Rattle.boundary.proofs.FrameLaws.{passes-none, passes-if, frame-pass, room-pass, frame-good, room-good}
-use Rattle.boundary.specs.Pages.{isMask, planeRefusal, lentRefusal, figuresLength, measuredWord, figureWords, figuresLeft, left, leftWith, paged}
-
--- The bytes
-
-pub most-is : (m : List ℕ) (most i : ℕ) → i ≡ length m → most ≡ greatest (table (λ k. getD m k 0) i) → leb most 1 ≡ isMask m
-unfolding isMask
-most-is m most i e f = ap (λ z. leb z 1) (f ∙ (ap (λ n. greatest (table (λ k. getD m k 0) n)) e ∙ ap greatest (sym (list-is-table m))))
-
-mask-ones : (m : List ℕ) → isMask m ≡ true → (i : ℕ) → getD m i 0 ≤ 1
-unfolding isMask
-mask-ones m e i = le-trans (greatest-bounds m i) (leb-true (greatest m) 1 e)
+use Rattle.boundary.proofs.FrameLaws.{frame-pass, room-pass, frame-good, room-good}
+use Rattle.boundary.specs.Pages.{planeRefusal, lentRefusal, figuresLeft, left, leftWith, paged}
 
 -- A chain of tests before others
 
@@ -104,39 +88,6 @@ lent-good p w dots P words results kinds figures e =
       kinds-room = ltb-false kinds dots (p₃ .passed);
       figures-room = ltb-false figures figuresLength (p₄ .passed);
     }
-
--- The figures
-
--- the words v stored one by one from word k on
-abbrev pub stores : List ℕ → ℕ → List ℕ → List ℕ
-stores [] k s = s
-stores (a ∷ v) k s = stores v (suc k) (set s k a)
-
-stores-behind : (v s : List ℕ) (x k : ℕ) → stores v (suc k) (x ∷ s) ≡ x ∷ stores v k s
-stores-behind [] s x k = refl
-stores-behind (a ∷ v) s x k = stores-behind v (set s k a) x (suc k)
-
-pub stores-over : (v s : List ℕ) → length v ≤ length s → stores v 0 s ≡ over v s
-stores-over [] s l = refl
-stores-over (a ∷ v) [] l = absurd (omega arith)
-stores-over (a ∷ v) (x ∷ s) l = stores-behind v s a 0 ∙ ap (λ z. a ∷ z) (stores-over v s (omega arith))
-
-pub figures-long : (s t : List ℕ) (a : ℕ) (x : Float) → figuresLength ≤ length s → t ≡ withFloat (set s 0 a) 1 x → length t ≡ length s
-figures-long s t a x l e = ap length e ∙ simp length-set
-
-pub figures-written : (f : Segmentation) (s t : List ℕ) (a : ℕ) (x : Float) → figuresLength ≤ length s → a ≡ measuredWord (f .unit) → x ≡ unitValue (f .unit) → t ≡ withFloat (set s 0 a) 1 x
-    → set
-    (set
-    (set (set (set (set (set (set (set (set (set (set t 3 (f .rules)) 4 (f .graphics)) 5 (f .glyphs)) 6 (f .lines)) 7 (f .blocks)) 8 (f .columns)) 9 (f .ink)) 10 (f .cut)) 11 (f .rule)) 12 (f .graphic))
-    13
-    (f .glyph))
-    14
-    (f .speck)
-    ≡ over (figureWords f) s
-unfolding figureWords
-figures-written f s t a x l ea ex et =
-    (λ i. stores (f .rules ∷ f .graphics ∷ f .glyphs ∷ f .lines ∷ f .blocks ∷ f .columns ∷ f .ink ∷ f .cut ∷ f .rule ∷ f .graphic ∷ f .glyph ∷ f .speck ∷ []) 3 ((et ∙ (λ j. withFloat (set s 0 (ea j)) 1 (ex j))) i))
-    ∙ stores-over (figureWords f) s l
 
 -- What a call leaves
 

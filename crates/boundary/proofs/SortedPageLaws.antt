@@ -15,13 +15,13 @@ use Rattle.memory.specs.Limits.{maxCapacity, scratchWords}
 use Rattle.memory.specs.Lists.{greatest}
 use Rattle.memory.specs.Refusals.{refuseIf}
 use Rattle.memory.specs.Words.{over}
-use Rattle.memory.proofs.RefusalLaws.{refusal-passed}
+use Rattle.memory.proofs.CopyLaws.{stores, stores-over}
+use Rattle.memory.proofs.RefusalLaws.{refusal-passed, Passes, passes-none, passes-if}
 use Rattle.rounding.proofs.Tests.{yes}
 use Rattle.params.specs.Valid.{valid}
 use Rattle.params.specs.Facts.{ValidSheet}
 use Rattle.params.specs.declared.LayoutParams.{LayoutParams}
 use Rattle.params.proofs.SheetLaws.{valid-gives}
-use Rattle.labelling.proofs.EntryLaws.{Passes}
 use Rattle.sorting.specs.Scratch.{SortRoom, mostComponents}
 use Rattle.sorting.specs.Sorted.{sorted}
 use Rattle.sorting.specs.Sortings.{SortHeld}
@@ -29,10 +29,11 @@ use Rattle.sorting.specs.Units.{unitValue}
 use Rattle.sorting.specs.declared.Unit.{Unit}
 use Rattle.sorting.specs.declared.sort.Sorting.{Sorting}
 use Rattle.boundary.specs.Frames.{told}
-use Rattle.boundary.specs.Pages.{planeRefusal, measuredWord}
+use Rattle.segmenting.specs.Figures.{measuredWord}
+use Rattle.boundary.specs.Pages.{planeRefusal}
 use Rattle.boundary.specs.SortedPages.{sortFigures, sortLent, sortMany, sortWords, sortedWords, sortedPage}
-use Rattle.boundary.proofs.FrameLaws.{passes-none, passes-if, room-pass, room-good, told-refused, told-many, told-done}
-use Rattle.boundary.proofs.PageLaws.{PlaneGood, plane-pass, plane-good, stores, stores-over}
+use Rattle.boundary.proofs.FrameLaws.{room-pass, room-good, told-refused, told-many, told-done}
+use Rattle.boundary.proofs.PageLaws.{PlaneGood, plane-pass, plane-good}
 
 -- The figures
 

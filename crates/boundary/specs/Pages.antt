@@ -1,38 +1,27 @@
 -- What a whole segmentation answers at the boundary, and what it leaves in the memory lent to it (01, Limits, "Turned back"). Assumes nothing.
 use mathlib.Core.Bool.{Bool, not}
-use mathlib.Core.List.{List, [], _∷_}
-use Prim.Native.Nat.{ℕ, _*_, _/_, _%_, _^_}
-use lib.Dec.{ltb, leb}
-use lib.Ieee.{binary64, toBits}
+use mathlib.Core.List.{List}
+use Prim.Native.Nat.{ℕ, _*_}
+use lib.Dec.{ltb}
 use lib.ListN.{length, drop}
 use Rattle.memory.specs.Limits.{scratchWords}
-use Rattle.memory.specs.Lists.{greatest}
+use Rattle.memory.specs.Masks.{isMask}
 use Rattle.memory.specs.Refusals.{refuseIf}
 use Rattle.memory.specs.Words.{over}
 use Rattle.params.specs.Valid.{valid}
 use Rattle.params.specs.declared.LayoutParams.{LayoutParams}
-use Rattle.sorting.specs.Units.{unitValue}
-use Rattle.sorting.specs.declared.Unit.{Unit}
-use Rattle.sorting.specs.declared.Unit.the-variants.{Measured, Assumed}
 use Rattle.grouping.specs.Layouts.{Layout, layout, layoutRefusal}
 use Rattle.segmenting.specs.Answers as Answers
+use Rattle.segmenting.specs.Figures.{figuresLength, figureWords}
 use Rattle.segmenting.specs.Results.{resultWords}
 use Rattle.segmenting.specs.declared.results.Segmentation.{Segmentation}
 use Rattle.segmenting.specs.declared.page.SegmentAnswer.{SegmentAnswer}
 use Rattle.segmenting.specs.declared.page.SegmentAnswer.the-variants.{Segmented, Refused}
 use Rattle.boundary.specs.Frames.{frameRefusal, roomRefusal}
 
--- no byte is above 1
-unfoldable pub isMask : List ℕ → Bool
-isMask m = leb (greatest m) 1
-
 -- 1: a side outside its limit; 2: ink length; 3: a byte above 1
 unfoldable pub planeRefusal : ℕ → ℕ → List ℕ → ℕ → ℕ
 planeRefusal w h m rest = frameRefusal w h (length m) (refuseIf (not (isMask m)) 3 rest)
-
--- how many words the figures take
-abbrev pub figuresLength : ℕ
-figuresLength = 15
 
 -- 6: the sheet; 7: capacity; 9: lent memory too short, scratch, results, kinds or figures
 unfoldable pub lentRefusal : LayoutParams → ℕ → ℕ → ℕ → ℕ → ℕ → ℕ → ℕ → ℕ → ℕ
@@ -43,31 +32,6 @@ lentRefusal p w dots P words results kinds figures rest =
 -- the number that the call is refused with, the lowest that applies; what the page itself gives where none does
 abbrev pub pageRefusal : LayoutParams → ℕ → ℕ → List ℕ → ℕ → ℕ → ℕ → ℕ → ℕ → ℕ → ℕ
 pageRefusal p w h m P words results kinds figures rest = planeRefusal w h m (lentRefusal p w (w * h) P words results kinds figures rest)
-
--- 1 where the unit is measured
-abbrev pub measuredWord : Unit → ℕ
-measuredWord (Measured v) = 1
-measuredWord (Assumed v) = 0
-
--- the figures in words: the unit, low word first, the lengths of the lists, the dots of ink and of each kind
-unfoldable pub figureWords : Segmentation → List ℕ
-figureWords f =
-    measuredWord (f .unit)
-    ∷ (toBits binary64 (unitValue (f .unit)) % 2 ^ 32)
-    ∷ (toBits binary64 (unitValue (f .unit)) / 2 ^ 32)
-    ∷ f .rules
-    ∷ f .graphics
-    ∷ f .glyphs
-    ∷ f .lines
-    ∷ f .blocks
-    ∷ f .columns
-    ∷ f .ink
-    ∷ f .cut
-    ∷ f .rule
-    ∷ f .graphic
-    ∷ f .glyph
-    ∷ f .speck
-    ∷ []
 
 -- the figures of an answer over the front; as it was where the page is refused
 abbrev pub figuresLeft : SegmentAnswer → List ℕ → List ℕ

@@ -14,7 +14,8 @@ use Rattle.sorting.specs.Sorted.{sorted}
 use Rattle.sorting.specs.Units.{unitValue}
 use Rattle.sorting.specs.declared.Unit.{Unit}
 use Rattle.boundary.specs.Frames.{roomRefusal, Told, toldBy}
-use Rattle.boundary.specs.Pages.{planeRefusal, measuredWord}
+use Rattle.segmenting.specs.Figures.{measuredWord}
+use Rattle.boundary.specs.Pages.{planeRefusal}
 
 -- how many words the figures take
 abbrev pub sortFigures : ℕ

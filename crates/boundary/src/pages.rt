@@ -4,37 +4,20 @@ ghost use mathlib.Core.Path.{_≡_};
 ghost use Prim.Native.Nat.{_*_, _≤_};
 ghost use lib.ListN.{length, drop};
 ghost use Rattle.memory.specs.Limits.{maxFrameWidth, maxFrameHeight, scratchWords};
-ghost use Rattle.memory.specs.Words.{over};
 ghost use Rattle.segmenting.specs.Answers.{numberOf};
 ghost use Rattle.boundary.specs.Sheet.{sheetOf};
-ghost use Rattle.boundary.specs.Pages.{isMask, planeRefusal, lentRefusal, measuredWord, figureWords, figuresLength, figuresLeft, left, paged};
+ghost use Rattle.segmenting.specs.Figures.{figuresLength};
+ghost use Rattle.boundary.specs.Pages.{planeRefusal, lentRefusal, figuresLeft, left, paged};
 use crate::frames::judge_frame;
 use crate::frames::judge_room;
-use memory::put_float;
+use memory::is_mask;
 use memory::refuse_if;
 use params::LayoutParams;
 use segmenting::SegmentAnswer;
-use segmenting::Segmentation;
 use segmenting::segment;
-use sorting::Unit;
+use segmenting::write_figures;
 
 const FIGURES: usize = 15;
-
-// Whether no byte is above 1: by the greatest, so that every byte is read alike and the compiler can take many at once.
-fn is_mask(ink: &[u8]) -> bool
-    ensures { λ r. ⌜ r ≡ isMask (now (ink .entry)) ⌝ }
-{
-    let mut most: u8 = 0;
-    let mut i = 0;
-    while i < ink.len() {
-        let byte = ink[i];
-        if most < byte {
-            most = byte;
-        }
-        i += 1;
-    }
-    most <= 1
-}
 
 // 1, 2 or 3 where a side, the ink's length or a byte of it is not as it must be, else 0.
 pub fn judge_plane(ink: &[u8], width: u32, height: u32) -> u32
@@ -63,37 +46,6 @@ fn judge_lent(
     let by_results = refuse_if(results < 2 * w + 35 * capacity, 9, by_kinds);
     let by_room = judge_room(dots, capacity, words, by_results);
     refuse_if(!sheet.validate(), 6, by_room)
-}
-
-pub fn measured_word(unit: Unit) -> u32
-    ensures { λ r. ⌜ r ≡ measuredWord unit ⌝ }
-{
-    match unit {
-        Unit::Measured(_) => 1,
-        Unit::Assumed(_) => 0,
-    }
-}
-
-// The figures over the front of the words lent for them.
-fn write_figures(found: Segmentation, figures: &mut [u32])
-    requires { ⌜ figuresLength ≤ length (now figures) ⌝ }
-    ensures { λ _. ⌜ now (figures .exit) ≡ over (figureWords found) (now (figures .entry)) ⌝ }
-{
-    let unit = found.unit;
-    figures[0] = measured_word(unit);
-    put_float(figures, 1, unit.value());
-    figures[3] = found.rules;
-    figures[4] = found.graphics;
-    figures[5] = found.glyphs;
-    figures[6] = found.lines;
-    figures[7] = found.blocks;
-    figures[8] = found.columns;
-    figures[9] = found.ink;
-    figures[10] = found.cut;
-    figures[11] = found.rule;
-    figures[12] = found.graphic;
-    figures[13] = found.glyph;
-    figures[14] = found.speck;
 }
 
 // The number of an answer; its figures are written.

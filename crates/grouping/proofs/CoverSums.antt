@@ -9,6 +9,7 @@ use lib.ListN.{getD, length, set, drop, length-append, length-drop, length-set}
 use lib.Seq.{getD-append-add, getD-drop}
 use Rattle.memory.specs.Lists.{table, greatest}
 use Rattle.memory.specs.Words.{over}
+use Rattle.memory.proofs.GreatestLaws.{greatest-more}
 use Rattle.memory.proofs.TableLaws.{length-table}
 use Rattle.grouping.specs.Columns.{CoverSteps}
 use Rattle.grouping.proofs.TableWords.{table-more, over-table}
@@ -19,15 +20,6 @@ past f n s i h =
     let at : i ≡ length (table f n) + (i - n) = omega arith in
     let back : n + (i - n) ≡ i = omega arith in
     ap (λ k. getD (table f n ++ drop n s) k 0) at ∙ (getD-append-add (table f n) (drop n s) (i - n) 0 ∙ (getD-drop n s (i - n) 0 ∙ ap (λ k. getD s k 0) back))
-
-greatest-snoc : (l : List ℕ) (a : ℕ) → greatest (l ++ (a ∷ [])) ≡ max (greatest l) a
-unfolding greatest
-greatest-snoc [] a = let e : max a 0 ≡ max 0 a = omega arith in e
-greatest-snoc (b ∷ l) a = let e = greatest-snoc l a in omega arith
-
-pub greatest-more : (f : ℕ → ℕ) (n : ℕ) → greatest (table f (n + 1)) ≡ max (greatest (table f n)) (f n)
-unfolding table
-greatest-more f n = ap (λ k. greatest (table f k)) (add-one n) ∙ greatest-snoc (table f n) (f n)
 
 -- the counts of the first x frame columns are summed
 pub record Summed (w : ℕ) (s₀ : List ℕ) (f : ℕ → ℕ) (s : List ℕ) (depth busiest x : ℕ) : Type 0 where

@@ -11,25 +11,13 @@ use lib.Seq.{drop-at, length-take-le}
 use lib.Dec.{eqb, ltb}
 use Rattle.memory.specs.Refusals.{refuseIf}
 use Rattle.memory.specs.Limits.{maxMaskSide, maxMaskDots, maxCapacity, componentWords, scratchWords}
-use Rattle.memory.proofs.RefusalLaws.{refusal-passed}
+use Rattle.memory.proofs.RefusalLaws.{refusal-passed, Passes, passes-none, passes-if}
 use Rattle.labelling.specs.Labels.{Labelling, labelling}
 use Rattle.labelling.specs.Answer.{answerOf, sideRefusal, lentRefusal, manyRefusal, refusal, left, labelsLeft, componentsLeft, labelled, Workable, worked}
 use Rattle.labelling.specs.declared.entry.LabelAnswer.{LabelAnswer}
 use Rattle.labelling.specs.declared.entry.LabelAnswer.the-variants.{Refused}
 
--- A chain of tests before others: it gives its own number, or what the others give
-
-pub record Passes (F : ℕ → ℕ) : Type 0 where
-  pub pass : F 0 ≡ 0 → (x : ℕ) → F x ≡ x
-  pub stop : (F 0 ≡ 0 → ⊥) → (x : ℕ) → F x ≡ F 0
-
-passes-none : Passes (λ x. x)
-passes-none = record { pass = λ _ x. refl; stop = λ n x. absurd (n refl) }
-
-passes-if : (b : Bool) (k : ℕ) {F : ℕ → ℕ} → Passes F → Passes (λ x. refuseIf b (suc k) (F x))
-unfolding refuseIf
-passes-if true k p = record { pass = λ e x. absurd (omega arith); stop = λ _ x. refl }
-passes-if false k p = record { pass = p .pass; stop = p .stop }
+-- The chain of tests before others
 
 pub sides-pass : (w h : ℕ) → Passes (sideRefusal w h)
 unfolding sideRefusal

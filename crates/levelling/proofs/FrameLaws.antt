@@ -24,7 +24,8 @@ use Rattle.levelling.specs.Shears.{shearOf}
 use Rattle.levelling.specs.Frames.{PageSides, frame, frameOf}
 use Rattle.levelling.specs.Planes.{PlaneFits}
 use Rattle.levelling.proofs.SlopeLaws.{driftSize, entryBy, abs, abs-size, drift-by-test, within-negated, size-negated, negative-negated}
-use Rattle.levelling.proofs.ShearLaws.{shearEntry, OneWay, shear-one-way, greatest-one-way, greatest-bounds, Steps, steps-one-way}
+use Rattle.memory.proofs.GreatestLaws.{greatest-bounds}
+use Rattle.levelling.proofs.ShearLaws.{shearEntry, OneWay, shear-one-way, greatest-one-way, Steps, steps-one-way}
 
 -- ---- drifts run one way
 pub drifts-one-way : (slope : Float) → WithinOne slope → (s : Bool) (n : ℕ) → 0 < n → n ≤ 2 ^ 15 → ((c : ℕ) → c < n → drift slope c ≡ signed s (driftSize slope c)) → OneWay (drift slope) s (driftSize slope) n

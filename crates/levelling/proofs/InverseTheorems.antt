@@ -22,6 +22,7 @@ use lib.Dec.{eqb, ltb, T, eqb→eq}
 use Rattle.memory.specs.Lists.{countIf, occurs}
 use Rattle.memory.proofs.TableLaws.{length-table, getD-table}
 use Rattle.memory.proofs.CountLaws.{Paired, paired-counts, occurs-table, occurs-by-place}
+use Rattle.memory.proofs.GreatestLaws.{greatest-bounds}
 use Rattle.memory.proofs.PlaneLaws.{dot-column, dot-row, dot-inside}
 use Rattle.levelling.specs.Shears.{natural}
 use Rattle.levelling.specs.Frames.{Frame, frame, rowOf, columnOf}
@@ -29,7 +30,6 @@ use Rattle.levelling.specs.Mapping.{toPage}
 use Rattle.levelling.specs.Planes.{within, levelAt, levelled, levelInk}
 use Rattle.levelling.specs.declared.Point.{Point}
 use Rattle.levelling.proofs.Integers.{sub-added, sub-is-pos}
-use Rattle.levelling.proofs.ShearLaws.{greatest-bounds}
 
 -- ---- for any frame record
 pub place-maps-back : (f : Frame) (c y : ℕ) → c < f .page-w → toPage f (columnOf f c y) (rowOf f c y) ≡ record { x = pos c; y = pos y }

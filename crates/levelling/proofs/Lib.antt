@@ -8,6 +8,10 @@ pub mod SlopeLaws
 pub mod FrameLaws
 -- levelling and mapping back are inverse; the frame has exactly the mask's ink
 pub mod InverseTheorems
+-- the ink dots of a levelled plane and those of the mask pair one to one
+pub mod PairTheorems
+-- words held against the shear that a slope gives
+pub mod ShearTests
 -- the frame row by row, as the code moves a plane into it
 pub mod RowLaws
 -- a page plane moved dot by dot

@@ -9,6 +9,7 @@ use lib.IntN.{ℤ, pos, negℤ, _-ℤ_}
 use lib.ListN.{getD, length, length-map}
 use lib.Seq.{ext-getD}
 use Rattle.memory.specs.Lists.{table, greatest}
+use Rattle.memory.proofs.GreatestLaws.{greatest-bounds, greatest-at-most}
 use Rattle.memory.proofs.TableLaws.{length-table, getD-table, getD-default}
 use Rattle.rounding.proofs.DriftLaws.{signed}
 use Rattle.levelling.specs.Shears.{lesserℤ, natural, leastEntry, shearOf}
@@ -98,17 +99,6 @@ shear-one-way d s size n W =
         ∙ (ap (λ v. natural (v -ℤ negℤ (pos z))) (entry i l ∙ E i l) ∙ minus-negated (size i) z (W .last i l))
 
 -- ---- the greatest entry
-pub greatest-bounds : (l : List ℕ) (i : ℕ) → getD l i 0 ≤ greatest l
-unfolding greatest
-greatest-bounds [] i = le-refl 0
-greatest-bounds (a ∷ l) zero = let e : a ≤ max a (greatest l) = omega arith in e
-greatest-bounds (a ∷ l) (suc i) = let e = greatest-bounds l i in omega arith
-
-greatest-at-most : (l : List ℕ) (b : ℕ) → ((i : ℕ) → i < length l → getD l i 0 ≤ b) → greatest l ≤ b
-unfolding greatest
-greatest-at-most [] b h = omega arith
-greatest-at-most (a ∷ l) b h = let e = greatest-at-most l b (λ i k. h (suc i) (omega arith)) in let f = h 0 (omega arith) in omega arith
-
 greatest-table : (g : ℕ → ℕ) (n k : ℕ) → k < n → ((i : ℕ) → i < n → g i ≤ g k) → greatest (table g n) ≡ g k
 greatest-table g n k l h =
     let low : g k ≤ greatest (table g n) = subst (λ v. v ≤ greatest (table g n)) (getD-table g n k 0 l) (greatest-bounds (table g n) k) in

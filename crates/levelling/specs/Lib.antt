@@ -6,5 +6,7 @@ pub mod Frames
 pub mod Mapping
 -- a page plane moved into the frame: the ink mask, and `level_gray`
 pub mod Planes
+-- the ink dots of both planes pair one to one
+pub mod Pairs
 -- how the code moves it
 pub mod Moves

@@ -14,6 +14,7 @@ pub use mapping::rect_to_page;
 pub use mapping::to_page;
 pub use plane::level_plane;
 pub use shears::applied;
+pub use shears::is_shear;
 
 // A point in page coordinates. It may lie outside the page, so its coordinates are signed.
 pub struct Point {

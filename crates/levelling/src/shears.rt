@@ -2,11 +2,11 @@
 ghost use mathlib.Core.Path.{_≡_};
 ghost use Prim.Native.Nat.{_+_, _^_, _-_, _≤_, _<_};
 ghost use mathlib.Core.Bool.{cond, false};
-ghost use lib.ListN.{length};
+ghost use lib.ListN.{length, take};
 ghost use lib.Ieee as Ieee;
 ghost use lib.IntN.{natAbs};
 ghost use Rattle.memory.specs.Lists.{table};
-ghost use Rattle.memory.specs.Words.{over};
+ghost use Rattle.memory.specs.Words.{over, sameWords};
 ghost use Rattle.rounding.specs.Rounding.{positiveZero};
 ghost use Rattle.rounding.specs.Drift.{drift, WithinOne};
 ghost use Rattle.levelling.specs.Shears as Shears;
@@ -38,6 +38,25 @@ pub fn fill_shear(out: &mut [u32], n: u32, slope: f64)
         fill_entries(&mut out[from..to], c, m, steep, falls, last);
         c += m;
     }
+}
+
+// Whether the first n words are the shear of n drifts.
+pub fn is_shear(words: &[u32], n: u32, slope: f64) -> bool
+    requires { ⌜ (0 < n) × (n ≤ 2 ^ 15) × (n ≤ length (now words)) ⌝ ∗ ⌜ WithinOne slope ⌝ }
+    ensures { λ r. ⌜ r ≡ sameWords (take n (now (words .entry))) (shearOf (table (drift slope) n)) ⌝ }
+{
+    let falls = slope < 0.0;
+    let steep = abs(slope);
+    let last = drift_size(n - 1, steep);
+    let mut c: u32 = 0;
+    while c < n {
+        let at = c as usize;
+        if words[at] != shear_entry(c, steep, falls, last) {
+            return false;
+        }
+        c += 1;
+    }
+    true
 }
 
 // The entries of the next step, of those that are left: all, where no column moves.

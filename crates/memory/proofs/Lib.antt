@@ -14,5 +14,11 @@ pub mod RecordLaws
 pub mod FloatLaws
 -- a test that is passed
 pub mod RefusalLaws
+-- two lists of words held against each other
+pub mod WordLaws
+-- the greatest entry of a list
+pub mod GreatestLaws
+-- the bytes of a mask
+pub mod MaskLaws
 -- two tests that both pass
 pub mod BoolLaws

@@ -10,5 +10,5 @@ pub mod Floats
 pub mod Refusals
 -- document 01's limits
 pub mod Limits
--- a dot of a mask
+-- a dot of a mask, the bytes of a mask
 pub mod Masks

@@ -1,6 +1,7 @@
 // Lent memory: words, floats in two words, and the chain of tests that refuses a call; and the small numbers' work that all share. Every crate above keeps its records in
 // memory that the caller lends, and says what that memory holds by the definitions in specs/.
 mod floats;
+mod masks;
 mod numbers;
 mod refusals;
 mod words;
@@ -9,6 +10,7 @@ pub use floats::bits_of;
 pub use floats::float_at;
 pub use floats::from_bits;
 pub use floats::put_float;
+pub use masks::is_mask;
 pub use numbers::greater;
 pub use numbers::larger;
 pub use numbers::lesser;

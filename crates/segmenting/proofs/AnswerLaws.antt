@@ -22,7 +22,8 @@ use Rattle.grouping.specs.Layouts.{layout, layoutRefusal, textLine}
 use Rattle.segmenting.specs.Answers.{left, leftBy, segmented, SegmentRoom, SortedRoom}
 use Rattle.segmenting.specs.Results.{resultsLeft}
 use Rattle.smoothing.specs.Segments.{rowsOf, glyphsIn, linesIn, RowsHeld, SortedPage}
-use Rattle.segmenting.specs.Writing.{boxesOfLines, figuresOf, ResultsRoom}
+use Rattle.segmenting.specs.Figures.{figuresOf}
+use Rattle.segmenting.specs.Writing.{boxesOfLines, ResultsRoom}
 use Rattle.segmenting.specs.declared.page.SegmentAnswer.the-variants.{Segmented, Refused}
 use Rattle.segmenting.specs.declared.results.Segmentation.{Segmentation}
 use Rattle.smoothing.specs.declared.rows.Rows.{Rows}

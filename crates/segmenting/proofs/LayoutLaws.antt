@@ -41,7 +41,8 @@ use Rattle.segmenting.specs.Results.{rulesAt, graphicsAt, glyphRecordsAt
 use Rattle.grouping.specs.Layouts.{layout, textLine, glyphBox}
 use Rattle.smoothing.specs.Segments.{rowsOf, glyphsIn, linesIn, glyphLabel, HoldsPage}
 use Rattle.smoothing.specs.declared.rows.Rows.{Rows}
-use Rattle.segmenting.specs.Writing.{rulesRead, graphicsRead, BoxRoom, LinesHeld, linesLeft, boxesOfLines, GroupRoom, groupsLeft, figuresOf, countedFigures, ResultsRoom}
+use Rattle.segmenting.specs.Figures.{figuresOf}
+use Rattle.segmenting.specs.Writing.{rulesRead, graphicsRead, BoxRoom, LinesHeld, linesLeft, boxesOfLines, GroupRoom, groupsLeft, countedFigures, ResultsRoom}
 use Rattle.segmenting.specs.declared.groups.GroupCounts.{GroupCounts}
 use Rattle.segmenting.specs.declared.lists.BoxCounts.{BoxCounts}
 use Rattle.segmenting.specs.declared.results.KindDots.{KindDots}

@@ -18,3 +18,5 @@ pub mod TextLaws
 pub mod LayoutLaws
 -- the answer of a whole segmentation, and what its stages ask
 pub mod AnswerLaws
+-- the figures stored
+pub mod FigureLaws

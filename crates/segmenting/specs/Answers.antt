@@ -10,7 +10,7 @@ use Rattle.sorting.specs.Sortings.{SortHeld}
 use Rattle.sorting.specs.declared.sort.Sorting.{Sorting}
 use Rattle.grouping.specs.Layouts.{Layout, layout, layoutRefusal}
 use Rattle.segmenting.specs.Results.{resultWords, resultsLeft}
-use Rattle.segmenting.specs.Writing.{figuresOf}
+use Rattle.segmenting.specs.Figures.{figuresOf}
 use Rattle.segmenting.specs.declared.page.SegmentAnswer.{SegmentAnswer}
 use Rattle.segmenting.specs.declared.page.SegmentAnswer.the-variants.{Segmented, Refused}
 

@@ -20,7 +20,7 @@ use Rattle.sorting.specs.declared.Unit.{Unit}
 use Rattle.grouping.specs.Lines.{LabelledGlyph, SmoothedLine, keptLines, lineNumber}
 use Rattle.grouping.specs.Blocks.{blockFirsts, blocksOf}
 use Rattle.grouping.specs.Columns.{columnsOf}
-use Rattle.grouping.specs.Layouts.{TextLine, Layout, textLine, glyphBox}
+use Rattle.grouping.specs.Layouts.{TextLine, textLine, glyphBox}
 use Rattle.grouping.specs.Words.{Inside, lineRecord, glyphRecord, blockRecord, columnRecord, putAt}
 use Rattle.smoothing.specs.LineWords.{glyphsOf, lineRows, orderedRow, KeptFrom, HoldsGlyphs, HoldsRows}
 use Rattle.segmenting.specs.Results.{rulesAt, graphicsAt, glyphRecordsAt, linesAt, blocksAt, resultWords, boxWords, heldBoxes, heldRules}
@@ -130,26 +130,7 @@ groupsLeft p unit w P ls before =
 
 -- The whole
 
--- what is told of a layout besides its lists: the unit, how long each list is, the dots of ink and of each kind
-abbrev pub figuresOf : Layout → Segmentation
-figuresOf l =
-    record {
-      unit = l .unit;
-      rules = length (l .rules);
-      graphics = length (l .graphics);
-      glyphs = length (l .glyphs);
-      lines = length (l .lines);
-      blocks = length (l .blocks);
-      columns = length (l .columns);
-      ink = l .ink-pixels;
-      cut = getD (l .counts) 0 0;
-      rule = getD (l .counts) 1 0;
-      graphic = getD (l .counts) 2 0;
-      glyph = getD (l .counts) 3 0;
-      speck = getD (l .counts) 4 0;
-    }
-
--- the same from what the stages of writing the results count
+-- what is told of a layout besides its lists (`figuresOf`), from what the stages of writing the results count
 abbrev pub countedFigures : Unit → ℕ → KindDots → BoxCounts → ℕ → ℕ → GroupCounts → Segmentation
 countedFigures unit ink dots boxes glyphs lines groups =
     record {

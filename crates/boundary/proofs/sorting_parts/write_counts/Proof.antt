@@ -3,7 +3,7 @@ use borrow.Author.Needs.{needs}
 use native.Mathlib.Omega.{arith}
 use mathlib.Core.List.{[], _∷_}
 use lib.ListN.{length-set}
-use Rattle.boundary.proofs.PageLaws.{stores-over}
+use Rattle.memory.proofs.CopyLaws.{stores-over}
 use Rattle.boundary.proofs.sorting_parts.write_counts.Statement.{statement}
 use Rattle.boundary.proofs.sorting_parts.write_counts.Tie as tie
 

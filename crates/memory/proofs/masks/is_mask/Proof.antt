@@ -1,20 +1,20 @@
--- `boundary::pages::is_mask` meets its contract: the greatest of the bytes read so far. Assumes nothing.
+-- `memory::masks::is_mask` meets its contract: the greatest of the bytes read so far. Assumes nothing.
 use Prim.Native.Nat.{_-_, _≤_}
 use mathlib.Core.Path.{_≡_, refl}
 use mathlib.Core.Logic.{⊎-elim}
 use native.Mathlib.Omega.{arith}
 use lib.ListN.{getD, length}
 use Rattle.memory.specs.Lists.{table, greatest}
-use Rattle.grouping.proofs.CoverSums.{greatest-more}
-use Rattle.boundary.proofs.PageLaws.{most-is}
-use Rattle.boundary.proofs.pages.is_mask.Statement.{statement}
-use Rattle.boundary.proofs.pages.is_mask.Tie as tie
+use Rattle.memory.proofs.GreatestLaws.{greatest-more}
+use Rattle.memory.proofs.MaskLaws.{mask-by-greatest}
+use Rattle.memory.proofs.masks.is_mask.Statement.{statement}
+use Rattle.memory.proofs.masks.is_mask.Tie as tie
 
 abbrev Inv-loop : tie.InvT-loop
-Inv-loop ink most₀ i₀ most i = (i ≤ length ink) × (most ≡ greatest (table (λ k. getD ink k 0) i))
+Inv-loop mask most₀ i₀ most i = (i ≤ length mask) × (most ≡ greatest (table (λ k. getD mask k 0) i))
 
 abbrev μ-loop : tie.MeasureT-loop
-μ-loop ink most₀ i₀ most i = length ink - i
+μ-loop mask most₀ i₀ most i = length mask - i
 
 loop-holds : tie.Need-loop-holds Inv-loop μ-loop
 loop-holds c = (omega arith, unfold table greatest in refl)
@@ -30,14 +30,14 @@ loop-less c = omega arith
 
 loop-again : tie.Need-loop-again Inv-loop μ-loop
 loop-again c =
-    let ink = c .before .before .before .before .args .ink .now in
+    let mask = c .before .before .before .before .args .mask .now in
     let i = c .before .before .before .loop .i in
-    let g = greatest-more (λ k. getD ink k 0) i in
+    let g = greatest-more (λ k. getD mask k 0) i in
     let v = c .before .before .before .loop .inv .1 in
     (omega arith, ⊎-elim (λ w. let t = w .0 .taken in let e = w .1 in omega arith) (λ w. let t = w .0 .left in let e = w .1 in omega arith) (c .if1 .came))
 
 returns : tie.Need-returns Inv-loop μ-loop
-returns c = most-is (c .before .before .args .ink .now) (c .before .loop .most) (c .before .loop .i) (omega arith) (c .before .loop .inv .1)
+returns c = mask-by-greatest (c .before .before .args .mask .now) (c .before .loop .most) (c .before .loop .i) (omega arith) (c .before .loop .inv .1)
 
 pub is-mask-spec : {M : Type 1} → statement M
 is-mask-spec =

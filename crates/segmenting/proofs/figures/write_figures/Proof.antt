@@ -1,10 +1,10 @@
--- `boundary::pages::write_figures` meets its contract: fifteen stores over the front. Assumes nothing.
+-- `segmenting::figures::write_figures` meets its contract: fifteen stores over the front. Assumes nothing.
 use borrow.Author.Needs.{needs}
 use native.Mathlib.Omega.{arith}
 use lib.ListN.{length-set}
-use Rattle.boundary.proofs.PageLaws.{figures-long, figures-written}
-use Rattle.boundary.proofs.pages.write_figures.Statement.{statement}
-use Rattle.boundary.proofs.pages.write_figures.Tie as tie
+use Rattle.segmenting.proofs.FigureLaws.{figures-long, figures-written}
+use Rattle.segmenting.proofs.figures.write_figures.Statement.{statement}
+use Rattle.segmenting.proofs.figures.write_figures.Tie as tie
 
 measured-word-requires : tie.Need-measured-word-requires
 measured-word-requires c κs = search needs
