@@ -1,8 +1,8 @@
 -- What the calls on a frame judge alike: which number a chain gives, and what a passed one says. Assumes nothing.
 use mathlib.Core.Path.{_≡_, refl, sym, ap, _∙_}
 use mathlib.Core.List.{List, _++_}
-use mathlib.Core.Bool.{Bool, true, false, not}
-use Prim.Native.Nat.{ℕ, suc, _+_, _*_, _≤_, _<_}
+use mathlib.Core.Bool.{not}
+use Prim.Native.Nat.{ℕ, _+_, _*_, _≤_, _<_}
 use native.Mathlib.Nat.{le-trans, mul-le-mul-left, mul-le-mul-right}
 use native.Mathlib.Omega.{arith}
 use borrow.Author.Tests.{ltb-false, eqb-true, eqb-false, not-false, ne-eqb}
@@ -10,7 +10,6 @@ use lib.Dec.{eqb, ltb}
 use lib.ListN.{length, take, drop, length-append, length-drop}
 use lib.Seq.{drop-at, length-take-le}
 use Rattle.memory.specs.Limits.{maxFrameWidth, maxFrameHeight, maxCapacity, scratchWords}
-use Rattle.memory.specs.Refusals.{refuseIf}
 use Rattle.memory.specs.Words.{over}
 use Rattle.memory.proofs.RefusalLaws.{refusal-passed, Passes, passes-if}
 use Rattle.boundary.specs.Frames.{frameRefusal, roomRefusal, told, toldBy}

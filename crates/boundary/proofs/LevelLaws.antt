@@ -1,21 +1,18 @@
 -- What the limits give, and that the words which hold a frame's shears are its own. Assumes nothing.
-use mathlib.Core.Path.{_≡_, refl, sym, ap, _∙_, subst}
+use mathlib.Core.Path.{_≡_, refl, sym, ap, _∙_}
 use mathlib.Core.Bool.{Bool, true, false, not, cond, _&&_}
-use mathlib.Core.List.{List, _++_, append-assoc}
-use Prim.Native.Nat.{ℕ, _+_, _-_, _*_, _≤_, _<_}
-use native.Mathlib.Omega.{arith}
+use mathlib.Core.List.{List, _++_}
+use Prim.Native.Nat.{ℕ, _+_, _-_, _*_, _≤_}
 use lib.Dec.{T, eqb, ltb, leb, ltb→lt, leb→le, eqb→eq}
 use lib.IntN.{pos}
 use lib.Ieee.{Float, fin, le}
-use lib.ListN.{length, take, drop}
-use lib.Seq.{take-at, drop-at}
+use lib.ListN.{length}
 use Rattle.memory.specs.Words.{over}
 use Rattle.memory.specs.Limits.{maxPageSide}
 use Rattle.rounding.proofs.Tests.{yes}
 use Rattle.rounding.specs.Drift.{WithinOne}
-use Rattle.levelling.specs.Frames.{PageSides, Frame, frame, frameOf}
-use Rattle.levelling.specs.Planes.{PlaneFits, levelled}
-use Rattle.levelling.proofs.FrameLaws.{length-shears, frame-plane-fits, frame-is-frameOf}
+use Rattle.levelling.specs.Frames.{PageSides, frame}
+use Rattle.levelling.specs.Planes.{levelled}
 use Rattle.boundary.specs.Levels.{inLimits, frameWord, lentFits, isLevelled, PlaneTold}
 
 pub split : (a b : Bool) → T (a && b) → T a × T b
@@ -72,15 +69,6 @@ lent-fits page w h frame-w frame-h shears out e =
     let x = split (a && b) c (yes e) in
     let y = split a b (x .0) in
     record { whole = eqb→eq page (w * h) (y .0); words = leb→le (w + frame-h) shears (y .1); bytes = leb→le (frame-w * frame-h) out (x .1) }
-
--- the two parts of what lies over the front of a list
-pub front : (a b s : List ℕ) (n : ℕ) → length a ≡ n → take n (over (a ++ b) s) ≡ a
-front a b s n e = rw append-assoc (take-at a (b ++ drop (length (a ++ b)) s) n e)
-
-pub behind : (a b s : List ℕ) (m n : ℕ) → length a ≡ m → length b ≡ n → take n (drop m (over (a ++ b) s)) ≡ b
-behind a b s m n e f =
-    let r = drop (length (a ++ b)) s in
-    ap (λ (l : List ℕ). take n (drop m l)) (append-assoc a b r) ∙ ap (take n) (drop-at a (b ++ r) m e) ∙ take-at b r n f
 
 -- ---- tests of the code: b is what the code was told, and it asks for `not b`
 pub is-true : (b : Bool) → not b ≡ false → b ≡ true
@@ -165,34 +153,3 @@ moved w h slope fill page shears out fw fh b c shears' out' e n p q l m s o =
 pub lent-held :
     (page w h fw fh shears out : ℕ) (c : Bool) → c ≡ lentFits page w h fw fh shears out → not c ≡ false → Lent page w h fw fh shears out
 lent-held page w h fw fh shears out c l m = lent-fits page w h fw fh shears out (sym l ∙ is-true c m)
-
--- ---- the parts of the words that hold the shears, as the frame
-pub parts-are :
-    (w h : ℕ) (slope : Float) (words s : List ℕ) (fw fh : ℕ) → Limits w h slope → words ≡ over (frame w h slope .shear ++ frame w h slope .shear-x) s
-    → fw ≡ frame w h slope .w → fh ≡ frame w h slope .h
-    → frameOf w h (take (w - 0) words) (take (w + fh - w) (drop w words)) fw fh ≡ frame w h slope
-parts-are w h slope words s fw fh l e p q =
-    let f = frame w h slope in
-    let n = length-shears w h slope (l .sides) (l .one) in
-    let a : take (w - 0) words ≡ f .shear = ap (λ (k : ℕ). take k words) (all w) ∙ ap (take w) e ∙ front (f .shear) (f .shear-x) s w (n .0) in
-    let b : take (w + fh - w) (drop w words) ≡ f .shear-x =
-    ap (λ (k : ℕ). take k (drop w words)) (rest w fh) ∙ ap (λ (k : List ℕ). take fh (drop w k)) e ∙ behind (f .shear) (f .shear-x) s w fh (n .0) (n .1 ∙ sym q) in
-    ap (λ (k : List ℕ). frameOf w h k (take (w + fh - w) (drop w words)) fw fh) a
-    ∙ ap (λ (k : List ℕ). frameOf w h (f .shear) k fw fh) b
-    ∙ ap (λ (k : ℕ). frameOf w h (f .shear) (f .shear-x) k fh) p
-    ∙ ap (λ (k : ℕ). frameOf w h (f .shear) (f .shear-x) (f .w) k) q
-    ∙ sym (frame-is-frameOf w h slope (l .sides) (l .one))
-  where
-    all : (w : ℕ) → w - 0 ≡ w
-    all w = omega arith
-
-    rest : (w n : ℕ) → w + n - w ≡ n
-    rest w n = omega arith
-
-pub parts-fit :
-    (w h : ℕ) (slope : Float) (words s page out : List ℕ) (fw fh : ℕ) → Limits w h slope → words ≡ over (frame w h slope .shear ++ frame w h slope .shear-x) s
-    → fw ≡ frame w h slope .w → fh ≡ frame w h slope .h → length page ≡ w * h → fw * fh ≤ length out
-    → PlaneFits (frameOf w h (take (w - 0) words) (take (w + fh - w) (drop w words)) fw fh) page out
-parts-fit w h slope words s page out fw fh l e p q n o =
-    let b : frame w h slope .w * frame w h slope .h ≤ length out = subst (λ (k : ℕ). frame w h slope .w * k ≤ length out) q (subst (λ (k : ℕ). k * fh ≤ length out) p o) in
-    subst (λ (f : Frame). PlaneFits f page out) (sym (parts-are w h slope words s fw fh l e p q)) (frame-plane-fits w h slope (l .sides) (l .one) page out n b)

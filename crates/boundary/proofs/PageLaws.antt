@@ -1,12 +1,12 @@
 -- A whole segmentation at the boundary: which number a call is refused with, what a passed chain says, and what the call leaves. Assumes nothing.
 use mathlib.Core.Path.{_≡_, refl, sym, ap, _∙_, subst}
-use mathlib.Core.List.{List, [], _∷_, _++_}
-use mathlib.Core.Bool.{true, not}
-use Prim.Native.Nat.{ℕ, suc, _+_, _*_, _≤_, _<_}
-use native.Mathlib.Nat.{le-refl, le-trans}
+use mathlib.Core.List.{List, _++_}
+use mathlib.Core.Bool.{not}
+use Prim.Native.Nat.{ℕ, _+_, _*_, _≤_, _<_}
+use native.Mathlib.Nat.{le-refl}
 use native.Mathlib.Omega.{arith}
-use borrow.Author.Tests.{ltb-false, leb-true, not-false, ne-eqb}
-use lib.Dec.{ltb, leb}
+use borrow.Author.Tests.{ltb-false, not-false, ne-eqb}
+use lib.Dec.{ltb}
 use lib.ListN.{length, getD, take, drop, length-append, length-drop}
 use lib.Seq.{drop-at, length-take-le}
 use Rattle.memory.specs.Limits.{maxFrameWidth, maxFrameHeight, maxCapacity, scratchWords}

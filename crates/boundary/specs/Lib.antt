@@ -1,5 +1,3 @@
--- a parameter sheet of its eighteen numbers
-pub mod Sheet
 -- what the calls on a frame judge alike
 pub mod Frames
 -- an answer as one word

@@ -56,7 +56,7 @@ left r results kinds figures words beyond =
 abbrev pub leftWith : Answers.Left → List ℕ → ℕ → List ℕ → Left
 leftWith s figures words beyond = left (s .number) (s .results) (s .kinds) (figuresLeft (s .answer) figures) words beyond
 
--- what `novlizeb_segment` leaves: the layout of 01, unless the call is refused
+-- what `novlizeb_segment_plane` leaves: the layout of 01, unless the call is refused
 abbrev pub paged : LayoutParams → ℕ → ℕ → List ℕ → ℕ → List ℕ → List ℕ → List ℕ → List ℕ → Left
 paged p w h m P words results kinds figures =
     let l = layout p w h m in

@@ -18,7 +18,7 @@ use Rattle.sorting.specs.Sortings.{componentsOf, mostCuts}
 use Rattle.sorting.specs.declared.Unit.{Unit}
 use Rattle.sorting.specs.declared.Unit.the-variants.{Measured, Assumed}
 use Rattle.boundary.specs.Frames.{frameRefusal, roomRefusal, Told, toldBy}
-use Rattle.boundary.specs.Sheet.{sheetOf}
+use Rattle.params.specs.Sheets.{sheetOf}
 
 -- a mask within its limits and of its length, a word a dot for the marks, a least run of 2, and two words a place of the longest line before them
 unfoldable pub rulingsFit : ℕ → ℕ → ℕ → ℕ → ℕ → ℕ → Bool

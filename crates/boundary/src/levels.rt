@@ -34,7 +34,7 @@ fn in_limits(page_w: u32, page_h: u32, slope: f64) -> bool
 
 // The frame's height times 2^32, and its width.
 #[no_mangle]
-pub extern "C" fn novlizeb_frame_size(page_w: u32, page_h: u32, slope: f64) -> u64
+pub extern "C" fn novlizeb_plane_size(page_w: u32, page_h: u32, slope: f64) -> u64
     ensures { λ r. ⌜ r ≡ frameWord «page_w» «page_h» slope ⌝ }
 {
     if !in_limits(page_w, page_h, slope) {

@@ -7,7 +7,7 @@ ghost use mathlib.Core.Path.{_≡_};
 ghost use Rattle.rounding.specs.Rounding.{roundHalfAway, roundToUnsigned, roundToSigned, roundOutput};
 ghost use Rattle.rounding.specs.Sums.{pairwiseSum};
 ghost use Rattle.params.specs.Valid.{valid};
-ghost use Rattle.boundary.specs.Sheet.{sheetOf};
+ghost use Rattle.params.specs.Sheets.{sheetOf};
 
 mod frames;
 mod levels;
@@ -19,9 +19,9 @@ mod sorting_parts;
 use params::LayoutParams;
 
 // The replay calls these by their own names.
-pub use levels::novlizeb_frame_size;
 pub use levels::novlizeb_level_plane;
-pub use pages::novlizeb_segment;
+pub use levels::novlizeb_plane_size;
+pub use pages::novlizeb_segment_plane;
 
 // x at the nearest whole number, halves away from zero.
 #[no_mangle]

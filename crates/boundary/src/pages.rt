@@ -5,7 +5,7 @@ ghost use Prim.Native.Nat.{_*_, _≤_};
 ghost use lib.ListN.{length, drop};
 ghost use Rattle.memory.specs.Limits.{maxFrameWidth, maxFrameHeight, scratchWords};
 ghost use Rattle.segmenting.specs.Answers.{numberOf};
-ghost use Rattle.boundary.specs.Sheet.{sheetOf};
+ghost use Rattle.params.specs.Sheets.{sheetOf};
 ghost use Rattle.segmenting.specs.Figures.{figuresLength};
 ghost use Rattle.boundary.specs.Pages.{planeRefusal, lentRefusal, figuresLeft, left, paged};
 use crate::frames::judge_frame;
@@ -103,7 +103,7 @@ fn segment_page(
 // Segments an ink plane of bytes 0 and 1 by a sheet of eighteen numbers: the lists in the words of results, the kind of each dot in
 // kinds, and in the first fifteen words of figures what is told besides (specs/Pages). The words are worked in.
 #[no_mangle]
-pub extern "C" fn novlizeb_segment(
+pub extern "C" fn novlizeb_segment_plane(
     ink: &[u8],
     width: u32,
     height: u32,

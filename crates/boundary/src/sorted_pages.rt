@@ -6,7 +6,7 @@ ghost use Prim.Native.Nat.{_*_, _≤_};
 ghost use lib.ListN.{length, drop};
 ghost use Rattle.memory.specs.Limits.{maxFrameWidth, maxFrameHeight, scratchWords};
 ghost use Rattle.memory.specs.Words.{over};
-ghost use Rattle.boundary.specs.Sheet.{sheetOf};
+ghost use Rattle.params.specs.Sheets.{sheetOf};
 ghost use Rattle.boundary.specs.Frames.{told};
 ghost use Rattle.boundary.specs.SortedPages.{sortFigures, sortLent, sortWords, sortedPage};
 use crate::frames::judge_room;

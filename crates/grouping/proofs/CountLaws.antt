@@ -120,3 +120,22 @@ module _ (p : ℕ → Bool) where
       go ih true e (no z) = ap (occurs i) (keep-snoc-yes p (upto n) n e) ∙ (occurs-other i n (keep p (upto n)) z ∙ ih (omega arith))
       go ih false e (yes z) = ap (occurs i) (keep-snoc-no p (upto n) n e) ∙ (above-none n i (omega arith) ∙ subst (λ k. _≡_ {A = ℕ} 0 (cond (p k) 1 0)) z (rw e))
       go ih false e (no z) = ap (occurs i) (keep-snoc-no p (upto n) n e) ∙ ih (omega arith)
+
+-- none of the numbers from a up to b passes, so that they may be left out
+pub record Gap (p : ℕ → Bool) (a b : ℕ) : Type 0 where
+  pub ordered : a ≤ b
+  pub none : (i : ℕ) → a ≤ i → i < b → p i ≡ false
+
+kept-gap : (p : ℕ → Bool) (a b : ℕ) → a ≤ b → ((i : ℕ) → a ≤ i → i < b → p i ≡ false) → keep p (upto a) ≡ keep p (upto b)
+kept-gap p a zero l none = ap (λ n. keep p (upto n)) (let e : a ≡ 0 = omega arith in e)
+kept-gap p a (suc b) l none = go (λ k. kept-gap p a b k (λ i m n. none i m (omega arith))) (ℕ-discrete a (suc b))
+  where
+    go : (a ≤ b → keep p (upto a) ≡ keep p (upto b)) → Dec (a ≡ suc b) → keep p (upto a) ≡ keep p (upto (suc b))
+    go ih (yes e) = ap (λ n. keep p (upto n)) e
+    go ih (no ne) = ih (omega arith) ∙ (sym (keep-snoc-no p (upto b) b (none b (omega arith) (le-refl (suc b)))) ∙ ap (keep p) (sym (upto-suc b)))
+
+pub keep-gap : {p : ℕ → Bool} {a b : ℕ} → Gap p a b → keep p (upto a) ≡ keep p (upto b)
+keep-gap {p} {a} {b} g = kept-gap p a b (g .ordered) (g .none)
+
+pub count-gap : {p : ℕ → Bool} {a b n : ℕ} → Gap p a b → n ≡ countIf p a → n ≡ countIf p b
+count-gap {p} {a} {b} g e = e ∙ (sym (count-length p a) ∙ (ap length (keep-gap g) ∙ count-length p b))

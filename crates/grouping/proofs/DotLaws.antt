@@ -3,7 +3,7 @@ use mathlib.Core.Path.{_≡_, refl, sym, ap, _∙_, subst}
 use mathlib.Core.Bool.{Bool, true, false, cond, _&&_}
 use mathlib.Core.List.{List, [], _∷_, _++_}
 use Prim.Native.Nat.{ℕ, zero, suc, _+_, _-_, _*_, _/_, _%_, _≤_, _<_}
-use native.Mathlib.Nat.{le-refl, suc-mul, mul-comm, mul-le-mul-right, mul-le-mul}
+use native.Mathlib.Nat.{le-refl, suc-mul, mul-comm, mul-le-mul-right, mul-le-mul, mod-lt, div-add-mod', div-lt-iff-lt-mul, le-div-iff-mul-le}
 use native.Mathlib.Omega.{arith}
 use native.Mathlib.Numerals.{add-one}
 use lib.ListN.{getD, length, drop, length-append, length-drop}
@@ -12,13 +12,14 @@ use lib.Dec.{eqb}
 use Rattle.memory.specs.Lists.{table, countIf, keep, upto}
 use Rattle.memory.specs.Words.{over}
 use Rattle.memory.specs.Records.{encoded}
+use Rattle.memory.proofs.BoolLaws.{and-right}
 use Rattle.memory.proofs.RecordLaws.{length-encoded, record-more}
 use Rattle.labelling.specs.declared.rect.Rect.{Rect}
 use Rattle.levelling.specs.Frames.{Frame, rowOf, columnOf}
 use Rattle.grouping.specs.Readings.{inBox, listed, columnsAndRows, dotList}
-use Rattle.grouping.specs.Dots.{listedAt, FrameWords}
+use Rattle.grouping.specs.Dots.{listedAt, FrameWords, RowSpan, ColumnSpan}
 use Rattle.grouping.proofs.ListLaws.{keep-snoc-yes, keep-snoc-no, upto-suc, keep-few}
-use Rattle.grouping.proofs.CountLaws.{count-length, count-below, count-yes, count-no, count-mono}
+use Rattle.grouping.proofs.CountLaws.{count-length, count-below, count-yes, count-no, count-mono, Gap, keep-gap}
 use Rattle.extents.proofs.MaskLaws.{dot-column, dot-row, dot-inside}
 
 -- where the two shears send a dot, with what was proved of the place
@@ -154,14 +155,10 @@ module _ (f : Frame) (kinds : List ℕ) (k : ℕ) (r : Rect) where
     pub count-dot-no : (n : ℕ) → listedAt f kinds k r c y ≡ false → n ≡ countIf (listed f kinds k r) (y * f .page-w + c) → n ≡ countIf (listed f kinds k r) (y * f .page-w + (c + 1))
     count-dot-no n e en = (let z : n ≡ n + 0 = omega arith in z) ∙ count-dot f kinds k r c y n 0 h en (sym (ap (λ b. cond b 1 0) e))
 
-  -- all rows
-  pub dots-all : (s out : List ℕ) (y : ℕ) → y ≡ f .page-h → out ≡ over (columnsAndRows (f .page-w) (keep (listed f kinds k r) (upto (y * f .page-w)))) s → out ≡ over (dotList f kinds k r) s
+  -- all dots
+  pub dots-all : (s out : List ℕ) → out ≡ over (columnsAndRows (f .page-w) (keep (listed f kinds k r) (upto (f .page-w * f .page-h)))) s → out ≡ over (dotList f kinds k r) s
   unfolding dotList
-  dots-all s out y e ko =
-      ko ∙ ap (λ j. over (columnsAndRows (f .page-w) (keep (listed f kinds k r) (upto j))) s) (ap (λ z. z * f .page-w) e ∙ mul-comm (f .page-h) (f .page-w))
-
-  pub count-all : (n y : ℕ) → y ≡ f .page-h → n ≡ countIf (listed f kinds k r) (y * f .page-w) → n ≡ countIf (listed f kinds k r) (f .page-w * f .page-h)
-  count-all n y e en = en ∙ ap (countIf (listed f kinds k r)) (ap (λ z. z * f .page-w) e ∙ mul-comm (f .page-h) (f .page-w))
+  dots-all s out e = e
 
 -- a page has fewer than 2^27 dots
 pub dot-below : (y c w h : ℕ) → c < w → y < h → w ≤ 8192 → h ≤ 8192 → y * w + c < 67108864
@@ -177,3 +174,62 @@ bit-at-most false n e = omega arith
 pub count-none : (p : ℕ → Bool) → 0 ≡ countIf p 0
 unfolding countIf
 count-none p = refl
+
+-- Outside the spans no dot is listed
+
+unlisted : (f : Frame) (kinds : List ℕ) (k : ℕ) (r : Rect) (c y : ℕ) → c < f .page-w → (inBox r (columnOf f c y) (rowOf f c y) ≡ true → ⊥) → (i : ℕ) → i ≡ y * f .page-w + c → listed f kinds k r i ≡ false
+unlisted f kinds k r c y l out i e = ap (listed f kinds k r) e ∙ (listed-dot f kinds k r c y l ∙ go (listedAt f kinds k r c y) refl)
+  where
+    go : (t : Bool) → listedAt f kinds k r c y ≡ t → t ≡ false
+    go false o = refl
+    go true o = absurd (out (and-right (eqb (getD kinds (rowOf f c y * f .w + columnOf f c y) 0) k) (inBox r (columnOf f c y) (rowOf f c y)) o))
+
+module _ {f : Frame} {r : Rect} (kinds : List ℕ) (k : ℕ) where
+  -- in a page row before its columns, and from a place behind them on
+  pub row-start : {y first end : ℕ} → ColumnSpan f r y first end → Gap (listed f kinds k r) (y * f .page-w) (y * f .page-w + first)
+  row-start {y} {first} {end} s =
+      record {
+        ordered = omega arith;
+        none = λ i l m.
+            (let n = s .first-inside in
+            let h : i - y * f .page-w < f .page-w = omega arith in
+            unlisted f kinds k r (i - y * f .page-w) y h (λ e. (let a = s .holds (i - y * f .page-w) h e in omega arith)) i (omega arith));
+      }
+
+  pub row-end : {y first end : ℕ} → ColumnSpan f r y first end → (c : ℕ) → end ≤ c → c ≤ f .page-w → Gap (listed f kinds k r) (y * f .page-w + c) ((y + 1) * f .page-w)
+  row-end {y} {first} {end} s c p q =
+      let z = row-next y (f .page-w) in
+      record {
+        ordered = omega arith;
+        none = λ i l m.
+            (let h : i - y * f .page-w < f .page-w = omega arith in
+            unlisted f kinds k r (i - y * f .page-w) y h (λ e. (let a = s .holds (i - y * f .page-w) h e in omega arith)) i (omega arith));
+      }
+
+  -- before the page rows, and from a row behind them on
+  pub rows-start : {first last : ℕ} → RowSpan f r first last → 0 < f .page-w → Gap (listed f kinds k r) 0 (first * f .page-w)
+  rows-start {first} {last} s some =
+      record {
+        ordered = omega arith;
+        none = λ i l m.
+            (let n = s .first-inside in
+            let lc = mod-lt i some in
+            let ly : i / f .page-w < first = div-lt-iff-lt-mul some .1 m in
+            unlisted f kinds k r (i % f .page-w) (i / f .page-w) lc (λ e. (let a = s .holds (i % f .page-w) (i / f .page-w) lc (omega arith) e in omega arith)) i (sym (div-add-mod' i (f .page-w))));
+      }
+
+  pub rows-end : {first last : ℕ} → RowSpan f r first last → 0 < f .page-w → (y : ℕ) → last < y → y ≤ f .page-h → Gap (listed f kinds k r) (y * f .page-w) (f .page-w * f .page-h)
+  rows-end {first} {last} s some y p q =
+      let z = mul-comm (f .page-h) (f .page-w) in
+      let o : y * f .page-w ≤ f .page-h * f .page-w = mul-le-mul-right (f .page-w) q in
+      record {
+        ordered = omega arith;
+        none = λ i l m.
+            (let lc = mod-lt i some in
+            let ly : i / f .page-w < f .page-h = div-lt-iff-lt-mul some .1 (omega arith) in
+            let high : y ≤ i / f .page-w = le-div-iff-mul-le some .1 l in
+            unlisted f kinds k r (i % f .page-w) (i / f .page-w) lc (λ e. (let a = s .holds (i % f .page-w) (i / f .page-w) lc ly e in omega arith)) i (sym (div-add-mod' i (f .page-w))));
+      }
+
+pub dots-gap : {p : ℕ → Bool} {a b : ℕ} (w : ℕ) (s out : List ℕ) → Gap p a b → out ≡ over (columnsAndRows w (keep p (upto a))) s → out ≡ over (columnsAndRows w (keep p (upto b))) s
+dots-gap w s out g e = e ∙ ap (λ (l : List ℕ). over (columnsAndRows w l) s) (keep-gap g)

@@ -52,5 +52,7 @@ pub mod SummaryLaws
 pub mod PitchLaws
 -- the runs of a smoothed row
 pub mod SmoothedRuns
+-- where the page dots of a frame box lie
+pub mod SpanLaws
 -- the frame place of a page dot, and the dots listed
 pub mod DotLaws

@@ -8,7 +8,9 @@ ghost use lib.Seq.{sets};
 ghost use Rattle.memory.specs.Lists.{countIf, keep, upto};
 ghost use Rattle.memory.specs.Words.{over};
 ghost use Rattle.grouping.specs.Readings.{inBox, listed, columnsAndRows, dotList};
-ghost use Rattle.grouping.specs.Dots.{frameOf, listedAt, FrameWords};
+ghost use Rattle.grouping.specs.Dots.{frameOf, listedAt, FrameWords, OneWay};
+use crate::spans::column_span;
+use crate::spans::row_span;
 use labelling::Rect;
 use memory::wide;
 
@@ -29,13 +31,14 @@ pub fn count_dots(
     kind: u8,
     r: Rect,
 ) -> usize
-    requires { ⌜ FrameWords (frameOf (sides .«page_w») (sides .«page_h») (sides .w) (sides .h) (now shear) (now «shear_x»)) (now kinds) ⌝ }
+    requires { ⌜ FrameWords (frameOf (sides .«page_w») (sides .«page_h») (sides .w) (sides .h) (now shear) (now «shear_x»)) (now kinds) × OneWay (frameOf (sides .«page_w») (sides .«page_h») (sides .w) (sides .h) (now shear) (now «shear_x»)) ⌝ }
     ensures { λ n. ⌜ n ≡ countIf (listed (frameOf (sides .«page_w») (sides .«page_h») (sides .w) (sides .h) (now (shear .entry)) (now («shear_x» .entry))) (now (kinds .entry)) kind r) (sides .«page_w» * sides .«page_h») ⌝ }
 {
-    let rows = sides.page_h;
+    let rows = row_span(shear, shear_x, sides, r);
+    let end = rows.to + 1;
     let mut n = 0;
-    let mut y = 0;
-    while y < rows {
+    let mut y = rows.from;
+    while y < end {
         n = count_row(shear, shear_x, kinds, sides, kind, r, y, n);
         y += 1;
     }
@@ -53,14 +56,15 @@ fn count_row(
     y: usize,
     n: usize,
 ) -> usize
-    requires { ⌜ FrameWords (frameOf (sides .«page_w») (sides .«page_h») (sides .w) (sides .h) (now shear) (now «shear_x»)) (now kinds) × (y < sides .«page_h»)
+    requires { ⌜ FrameWords (frameOf (sides .«page_w») (sides .«page_h») (sides .w) (sides .h) (now shear) (now «shear_x»)) (now kinds) × OneWay (frameOf (sides .«page_w») (sides .«page_h») (sides .w) (sides .h) (now shear) (now «shear_x»)) × (y < sides .«page_h»)
         × (n ≡ countIf (listed (frameOf (sides .«page_w») (sides .«page_h») (sides .w) (sides .h) (now shear) (now «shear_x»)) (now kinds) kind r) (y * sides .«page_w»)) ⌝ }
     ensures { λ m. ⌜ m ≡ countIf (listed (frameOf (sides .«page_w») (sides .«page_h») (sides .w) (sides .h) (now (shear .entry)) (now («shear_x» .entry))) (now (kinds .entry)) kind r) ((y + 1) * sides .«page_w») ⌝ }
 {
-    let columns = sides.page_w;
+    let columns = column_span(shear, shear_x, sides, r, y);
+    let end = columns.to;
     let mut m = n;
-    let mut c = 0;
-    while c < columns {
+    let mut c = columns.from;
+    while c < end {
         m = m + one_if(is_listed(shear, shear_x, kinds, sides, kind, r, c, y));
         c += 1;
     }
@@ -77,14 +81,15 @@ pub fn write_dots(
     r: Rect,
     out: &mut [u32],
 ) -> usize
-    requires { ⌜ FrameWords (frameOf (sides .«page_w») (sides .«page_h») (sides .w) (sides .h) (now shear) (now «shear_x»)) (now kinds) × (2 * countIf (listed (frameOf (sides .«page_w») (sides .«page_h») (sides .w) (sides .h) (now shear) (now «shear_x»)) (now kinds) kind r) (sides .«page_w» * sides .«page_h») ≤ length (now out)) ⌝ }
+    requires { ⌜ FrameWords (frameOf (sides .«page_w») (sides .«page_h») (sides .w) (sides .h) (now shear) (now «shear_x»)) (now kinds) × OneWay (frameOf (sides .«page_w») (sides .«page_h») (sides .w) (sides .h) (now shear) (now «shear_x»)) × (2 * countIf (listed (frameOf (sides .«page_w») (sides .«page_h») (sides .w) (sides .h) (now shear) (now «shear_x»)) (now kinds) kind r) (sides .«page_w» * sides .«page_h») ≤ length (now out)) ⌝ }
     ensures { λ n. ⌜ (n ≡ countIf (listed (frameOf (sides .«page_w») (sides .«page_h») (sides .w) (sides .h) (now (shear .entry)) (now («shear_x» .entry))) (now (kinds .entry)) kind r) (sides .«page_w» * sides .«page_h»))
         × (now (out .exit) ≡ over (dotList (frameOf (sides .«page_w») (sides .«page_h») (sides .w) (sides .h) (now (shear .entry)) (now («shear_x» .entry))) (now (kinds .entry)) kind r) (now (out .entry))) ⌝ }
 {
-    let rows = sides.page_h;
+    let rows = row_span(shear, shear_x, sides, r);
+    let end = rows.to + 1;
     let mut n = 0;
-    let mut y = 0;
-    while y < rows {
+    let mut y = rows.from;
+    while y < end {
         n = write_row(shear, shear_x, kinds, sides, kind, r, y, n, out);
         y += 1;
     }
@@ -103,16 +108,17 @@ fn write_row(
     n: usize,
     out: &mut [u32],
 ) -> usize
-    requires { ⌜ FrameWords (frameOf (sides .«page_w») (sides .«page_h») (sides .w) (sides .h) (now shear) (now «shear_x»)) (now kinds) × (y < sides .«page_h») × (n ≡ countIf (listed (frameOf (sides .«page_w») (sides .«page_h») (sides .w) (sides .h) (now shear) (now «shear_x»)) (now kinds) kind r) (y * sides .«page_w»))
+    requires { ⌜ FrameWords (frameOf (sides .«page_w») (sides .«page_h») (sides .w) (sides .h) (now shear) (now «shear_x»)) (now kinds) × OneWay (frameOf (sides .«page_w») (sides .«page_h») (sides .w) (sides .h) (now shear) (now «shear_x»)) × (y < sides .«page_h») × (n ≡ countIf (listed (frameOf (sides .«page_w») (sides .«page_h») (sides .w) (sides .h) (now shear) (now «shear_x»)) (now kinds) kind r) (y * sides .«page_w»))
         × (2 * countIf (listed (frameOf (sides .«page_w») (sides .«page_h») (sides .w) (sides .h) (now shear) (now «shear_x»)) (now kinds) kind r) (sides .«page_w» * sides .«page_h») ≤ length (now out)) ⌝ }
     ensures { λ m. ⌜ (m ≡ countIf (listed (frameOf (sides .«page_w») (sides .«page_h») (sides .w) (sides .h) (now (shear .entry)) (now («shear_x» .entry))) (now (kinds .entry)) kind r) ((y + 1) * sides .«page_w»))
         × ((s : List ℕ) → now (out .entry) ≡ over (columnsAndRows (sides .«page_w») (keep (listed (frameOf (sides .«page_w») (sides .«page_h») (sides .w) (sides .h) (now (shear .entry)) (now («shear_x» .entry))) (now (kinds .entry)) kind r) (upto (y * sides .«page_w»)))) s
         → now (out .exit) ≡ over (columnsAndRows (sides .«page_w») (keep (listed (frameOf (sides .«page_w») (sides .«page_h») (sides .w) (sides .h) (now (shear .entry)) (now («shear_x» .entry))) (now (kinds .entry)) kind r) (upto ((y + 1) * sides .«page_w»)))) s) ⌝ }
 {
-    let columns = sides.page_w;
+    let columns = column_span(shear, shear_x, sides, r, y);
+    let end = columns.to;
     let mut m = n;
-    let mut c = 0;
-    while c < columns {
+    let mut c = columns.from;
+    while c < end {
         if is_listed(shear, shear_x, kinds, sides, kind, r, c, y) {
             put_dot(out, m, c as u32, y as u32);
             m += 1;

@@ -8,6 +8,7 @@ mod number;
 mod numbers;
 mod pitch;
 mod record;
+mod spans;
 mod summary;
 
 pub use block::blocks;

@@ -12,6 +12,8 @@ pub mod InverseTheorems
 pub mod PairTheorems
 -- words held against the shear that a slope gives
 pub mod ShearTests
+-- the words that hold a frame's two shears, one behind the other
+pub mod ShearParts
 -- the frame row by row, as the code moves a plane into it
 pub mod RowLaws
 -- a page plane moved dot by dot

@@ -3,3 +3,5 @@
 pub mod Valid
 -- what is known of a sheet that it passes
 pub mod Facts
+-- a sheet of its eighteen numbers
+pub mod Sheets

@@ -5,7 +5,7 @@ use native.Mathlib.Omega.{arith}
 use Rattle.memory.specs.Words.{over}
 use Rattle.levelling.specs.Frames.{Frame}
 use Rattle.levelling.specs.Planes.{levelled}
-use Rattle.boundary.proofs.LevelLaws.{Limits, parts-are, parts-fit}
+use Rattle.levelling.proofs.ShearParts.{parts-are, parts-fit}
 use borrow.Author.Needs.{needs}
 use Rattle.boundary.proofs.levels.level.Statement.{statement}
 use Rattle.boundary.proofs.levels.level.Tie as tie
@@ -40,10 +40,9 @@ part-level-plane-end-2 c = search needs
 level-plane-requires : tie.Need-level-plane-requires
 level-plane-requires c κs =
     let p = c .before .before .before .before .before .before .before .before .before .before .before in
-    let l : Limits (p .args .page-w) (p .args .page-h) (p .args .slope) = record { sides = p .pre .0; one = p .pre .1 .0 } in
     let e = p .pre .1 .1 .0 in
     let n = p .pre .1 .1 .1 in
-    (parts-fit _ _ _ _ _ _ _ _ _ l (c .before .before .before .before .before .before .fill-shears .ensures) (e .0) (e .1) (n .0) (n .2), l .sides .w-fits)
+    (parts-fit _ _ _ _ _ _ _ _ _ (p .pre .0) (p .pre .1 .0) (c .before .before .before .before .before .before .fill-shears .ensures) (e .0) (e .1) (n .0) (n .2), p .pre .0 .w-fits)
 
 same-length : tie.Need-same-length
 same-length c = search needs
@@ -54,12 +53,11 @@ same-length-2 c = search needs
 returns : tie.Need-returns
 returns c =
     let p = c .before .before .before .before .before .before .before .before .before .before .before .before .before .before in
-    let l : Limits (p .args .page-w) (p .args .page-h) (p .args .slope) = record { sides = p .pre .0; one = p .pre .1 .0 } in
     let e = p .pre .1 .1 .0 in
     let s = c .before .before .before .before .before .before .before .before .before .fill-shears .ensures in (
       s,
       c .before .before .level-plane .ensures
-          ∙ ap (λ (f : Frame). over (levelled f (p .args .fill) (p .args .page .now)) (p .args .out .now)) (parts-are _ _ _ _ _ _ _ l s (e .0) (e .1)),
+          ∙ ap (λ (f : Frame). over (levelled f (p .args .fill) (p .args .page .now)) (p .args .out .now)) (parts-are _ _ _ _ _ _ _ (p .pre .0) (p .pre .1 .0) s (e .0) (e .1)),
     )
 
 pub level-spec : {M : Type 1} → statement M

@@ -1,7 +1,7 @@
--- `boundary::pages::novlizeb_segment` promises what `segment_page` does, of the sheet of its numbers. Assumes nothing.
+-- `boundary::pages::novlizeb_segment_plane` promises what `segment_page` does, of the sheet of its numbers. Assumes nothing.
 use borrow.Author.Needs.{needs}
-use Rattle.boundary.proofs.pages.novlizeb_segment.Statement.{statement}
-use Rattle.boundary.proofs.pages.novlizeb_segment.Tie as tie
+use Rattle.boundary.proofs.pages.novlizeb_segment_plane.Statement.{statement}
+use Rattle.boundary.proofs.pages.novlizeb_segment_plane.Tie as tie
 
 segment-page-requires : tie.Need-segment-page-requires
 segment-page-requires c κs = search needs
@@ -21,8 +21,8 @@ same-length-4 c = search needs
 returns : tie.Need-returns
 returns c = c .before .before .before .before .before .before .before .before .segment-page .ensures
 
-pub novlizeb-segment-spec : {M : Type 1} → statement M
-novlizeb-segment-spec =
+pub novlizeb-segment-plane-spec : {M : Type 1} → statement M
+novlizeb-segment-plane-spec =
     tie.close
     (tie.spec
     segment-page-requires

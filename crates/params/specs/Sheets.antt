@@ -1,7 +1,7 @@
--- What the clauses of the boundary cite: a parameter sheet of its eighteen numbers. Assumes nothing.
+-- A parameter sheet of its eighteen numbers, as a host hands it.
 use Prim.Native.Nat.{ℕ}
 use lib.Ieee.{Float}
 use Rattle.params.specs.declared.LayoutParams.{LayoutParams}
 
 -- the sheet whose fields are these, in the order in which it declares them
 abbrev pub sheetOf :

@@ -1,8 +1,8 @@
--- `boundary::levels::novlizeb_frame_size` promises what `levelling::frame_size` does, within the limits. Assumes nothing.
+-- `boundary::levels::novlizeb_plane_size` promises what `levelling::frame_size` does, within the limits. Assumes nothing.
 use Rattle.boundary.proofs.LevelLaws.{limits-held, frame-outside, frame-inside}
 use borrow.Author.Needs.{needs}
-use Rattle.boundary.proofs.levels.novlizeb_frame_size.Statement.{statement}
-use Rattle.boundary.proofs.levels.novlizeb_frame_size.Tie as tie
+use Rattle.boundary.proofs.levels.novlizeb_plane_size.Statement.{statement}
+use Rattle.boundary.proofs.levels.novlizeb_plane_size.Tie as tie
 
 in-limits-requires : tie.Need-in-limits-requires
 in-limits-requires c κs = search needs
@@ -33,8 +33,8 @@ returns-2 c =
     let t = c .before .before .before .before .in-limits in
     frame-inside _ _ _ (t .result) _ _ (t .ensures) (c .before .before .before .if1 .left) (e .0) (e .1)
 
-pub novlizeb-frame-size-spec : {M : Type 1} → statement M
-novlizeb-frame-size-spec =
+pub novlizeb-plane-size-spec : {M : Type 1} → statement M
+novlizeb-plane-size-spec =
     tie.close
     (tie.spec
     in-limits-requires
