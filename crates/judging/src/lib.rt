@@ -1,0 +1,42 @@
+// What a store holds, and what turns a call back: the words of its header, and the judges of every entry. The numbers are document 01's; the
+// definitions are in specs/rules.
+mod judging;
+mod levels;
+mod results;
+mod segments;
+mod shears;
+mod spoiled;
+mod words;
+
+pub use judging::is_page;
+pub use judging::judge_leaf;
+pub use judging::judge_place;
+pub use levels::frame_held;
+pub use levels::judge_frame;
+pub use levels::level_head;
+pub use segments::judge_segment;
+pub use spoiled::judge_reading;
+pub use words::BLOCKS;
+pub use words::CAPACITY;
+pub use words::COLUMNS;
+pub use words::EMPTY;
+pub use words::FIGURES;
+pub use words::FIGURES_END;
+pub use words::FIGURES_LENGTH;
+pub use words::FRAME_HEIGHT;
+pub use words::FRAME_WIDTH;
+pub use words::GLYPH_DOTS;
+pub use words::GLYPHS;
+pub use words::GRAPHICS;
+pub use words::HEADER;
+pub use words::INK_DOTS;
+pub use words::LEVELLED;
+pub use words::LINES;
+pub use words::PAGE_HEIGHT;
+pub use words::PAGE_WIDTH;
+pub use words::RULES;
+pub use words::SEGMENTED;
+pub use words::SKEW;
+pub use words::SLOPE;
+pub use words::STATE;
+pub use words::UNIT;

@@ -1,0 +1,189 @@
+-- The figures and the lists of a store that may be read: what is copied is what the reading tells.
+use mathlib.Core.Path.{_≡_, refl, sym, ap, _∙_, subst}
+use mathlib.Core.Bool.{true, false, _&&_}
+use mathlib.Core.List.{List, [], _∷_, _++_}
+use Prim.Native.Nat.{ℕ, suc, _+_, _-_, _*_, _≤_, _<_}
+use native.Mathlib.Omega.{arith}
+use borrow.Author.Tests.{lt-ltb, le-ltb, eq-eqb, ne-eqb, ltb-false}
+use lib.Dec.{ltb}
+use lib.ListN.{length, getD, take, drop, set}
+use Rattle.memory.specs.Limits.{maxPageSide, maxFrameWidth, maxFrameHeight, maxCapacity}
+use Rattle.memory.specs.Refusals.{refuseIf}
+use Rattle.memory.specs.Words.{over}
+use Rattle.memory.proofs.BoolLaws.{and-left, and-right}
+use Rattle.levelling.specs.Frames.{frame}
+use Rattle.levelling.proofs.FrameLaws.{frame-fits}
+use Rattle.segmenting.specs.Figures.{figuresLength}
+use Rattle.judging.specs.rules.Header.{Held, held, frameHeld, storeHeld, dotsHeld, listsAt, part, figuresAt}
+use Rattle.judging.specs.rules.Views.{viewOf, viewWith}
+use Rattle.judging.specs.rules.Spoiled.{kindsOk, unitOk, countsOk, inkHeld, resultsSpoiled}
+use Rattle.judging.specs.rules.Refusals.{resultRefusal}
+use Rattle.store.specs.rules.Readings.{ResultReading, Which, figuresTold, listWords, listCount}
+use Rattle.store.specs.rules.Readings.Output.{words}
+use Rattle.store.specs.rules.Readings.Which.{columns, rules, graphics, glyphs, lines, blocks}
+use Rattle.store.specs.rules.Outcomes.{told, resultTold}
+use Rattle.judging.specs.stages.Judged.{wordsOk}
+use Rattle.store.specs.stages.Areas.{whichOf, areaAt, recordWords, countAt}
+use Rattle.judging.proofs.PartLaws.{length-part}
+use Rattle.judging.proofs.LimitLaws.{limited}
+use Rattle.judging.proofs.ResultLaws.{figure-word, few}
+use Rattle.judging.proofs.SpoiledLaws.{ReadableResults, results-split}
+use Rattle.store.proofs.ToldLaws.{told-refused, told-late, told-done, told-good}
+use Rattle.store.proofs.HeldFrames.{frame-words}
+
+-- ---- the figures
+
+front-one : (c out : List ℕ) → 1 ≤ length c → (getD c 0 0 ≡ 0 → ⊥) → set (over c out) 0 1 ≡ over (figuresTold c) out
+front-one [] out h z = absurd (omega arith)
+front-one (x ∷ c) out h z = rw (ne-eqb x 0 z)
+
+front-zero : (c out : List ℕ) → 1 ≤ length c → getD c 0 0 ≡ 0 → over c out ≡ over (figuresTold c) out
+front-zero [] out h z = absurd (omega arith)
+front-zero (x ∷ c) out h z = rw (eq-eqb x 0 z) (ap (λ y. y ∷ (c ++ drop (suc (length c)) out)) z)
+
+module _ (s out out' : List ℕ) (h : 64 ≤ length s) (e : out' ≡ over (part 10 15 s) out) where
+  some : 1 ≤ length (part 10 15 s)
+  some = let l = length-part 10 15 s (omega arith) in omega arith
+
+  pub put-one : (getD s 10 0 ≡ 0 → ⊥) → set out' 0 1 ≡ over (figuresTold (part 10 15 s)) out
+  put-one z = ap (λ l. set l 0 1) e ∙ front-one (part 10 15 s) out some (λ q. z (sym (figure-word s 0 (omega arith)) ∙ q))
+
+  pub put-zero : getD s 10 0 ≡ 0 → out' ≡ over (figuresTold (part 10 15 s)) out
+  put-zero z = e ∙ front-zero (part 10 15 s) out some (figure-word s 0 (omega arith) ∙ z)
+
+module _ (s ink kinds out : List ℕ) (n : ℕ) (en : n ≡ resultRefusal (length s) (length ink) (length kinds) (held s) (ltb (length out) 15) (resultsSpoiled s ink kinds) false false) where
+  pub figures-refused : (n ≡ 0 → ⊥) → told n 0 (words out) ≡ resultTold (ResultReading.figures out) s ink kinds
+  figures-refused z = told-refused (ResultReading.figures out) s ink kinds n en z
+
+  pub figures-room : n ≡ 0 → (64 ≤ length s) × (15 ≤ length out)
+  figures-room z = let g = told-good (ResultReading.figures out) s ink kinds n en z in (g .0 .words, ltb-false (length out) 15 (g .1))
+
+  pub figures-done : n ≡ 0 → (out' : List ℕ) → out' ≡ over (figuresTold (part figuresAt figuresLength s)) out → told 0 0 (words out') ≡ resultTold (ResultReading.figures out) s ink kinds
+  unfolding viewOf viewWith refuseIf
+  figures-done z out' e = ap (λ (l : List ℕ). told 0 0 (words l)) e ∙ told-done (ResultReading.figures out) s ink kinds n en z refl
+
+-- ---- the place of a list by its number
+
+pub place-by : (which pw w h P : ℕ) (k : Which) → whichOf which ≡ k → (a : ℕ) → a ≡ listsAt pw h + areaAt k w P
+    → (a ≡ listsAt pw h + areaAt (whichOf which) w P) × (recordWords k ≡ recordWords (whichOf which)) × (countAt k ≡ countAt (whichOf which))
+place-by which pw w h P k q a e = (e ∙ ap (λ z. listsAt pw h + areaAt z w P) (sym q), ap recordWords (sym q), ap countAt (sym q))
+
+pub which-last : (n : ℕ) → (n ≡ 0 → ⊥) → (n ≡ 1 → ⊥) → (n ≡ 2 → ⊥) → (n ≡ 3 → ⊥) → (n ≡ 4 → ⊥) → whichOf n ≡ blocks
+which-last n a b c d e = rw (ne-eqb n 0 a, ne-eqb n 1 b, ne-eqb n 2 c, ne-eqb n 3 d, ne-eqb n 4 e)
+
+-- ---- a store that may be read
+
+module _ (s ink kinds : List ℕ) (R : ReadableResults s ink kinds) where
+  abbrev g : Held
+  g = held s
+
+  -- the words 1, 3, 4 and 5
+  pub sides-are : (getD s 1 0 ≡ frameHeld (held s) .page-w) × (getD s 3 0 ≡ frameHeld (held s) .w) × (getD s 4 0 ≡ frameHeld (held s) .h) × (getD s 5 0 ≡ held s .capacity) × (getD s 1 0 ≡ held s .page-w) × (getD s 2 0 ≡ held s .page-h)
+  unfolding held frame
+  sides-are = let f = frame-words s (R .limits) (R .sound) in (refl, f .0, f .1, refl, refl, refl)
+
+  pub sides-low : (getD s 1 0 ≤ maxPageSide) × (getD s 3 0 ≤ maxFrameWidth) × (getD s 4 0 ≤ maxFrameHeight) × (getD s 5 0 ≤ maxCapacity)
+  sides-low =
+      let L = limited (held s) (R .limits) in
+      let F = frame-fits (held s .page-w) (held s .page-h) (held s .slope) (L .sides) (L .within) in
+      let a = sides-are in
+      let w = L .sides .w-fits in
+      let p = L .few in
+      (omega (arith, a .4, w), omega (arith, a .1, F .0), omega (arith, a .2, F .1), omega (arith, a .3, p))
+
+  pub words-ok : wordsOk (frameHeld (held s) .w) (frameHeld (held s) .h) (held s .capacity) (part figuresAt figuresLength s) (listsAt (held s .page-w) (frameHeld (held s) .h)) s ≡ true
+  words-ok =
+      and-left (wordsOk (frameHeld (held s) .w) (frameHeld (held s) .h) (held s .capacity) (part figuresAt figuresLength s) (listsAt (held s .page-w) (frameHeld (held s) .h)) s)
+      (kindsOk (inkHeld (held s) ink) (take (dotsHeld (held s)) kinds) (dotsHeld (held s))) (sym (results-split s (inkHeld (held s) ink) kinds) ∙ R .results)
+
+  pub counts-low : (getD s 13 0 ≤ 3 * held s .capacity) × (getD s 14 0 ≤ held s .capacity) × (getD s 15 0 ≤ held s .capacity) × (getD s 16 0 ≤ held s .capacity) × (getD s 17 0 ≤ held s .capacity) × (getD s 18 0 ≤ frameHeld (held s) .w)
+  unfolding wordsOk
+  counts-low =
+      let u = unitOk (part figuresAt figuresLength s) in
+      let c = countsOk (frameHeld (held s) .w) (held s .capacity) (part figuresAt figuresLength s) in
+      let b = and-right u c (and-left (u && c) _ words-ok) in
+      let f = few _ _ _ _ _ _ (frameHeld (held s) .w) (held s .capacity) b in
+      let word : (j : ℕ) → j < 15 → getD (part 10 15 s) j 0 ≡ getD s (10 + j) 0 = figure-word s in
+      let r = word 3 (omega arith) in
+      let p = word 4 (omega arith) in
+      let y = word 5 (omega arith) in
+      let l = word 6 (omega arith) in
+      let k = word 7 (omega arith) in
+      let m = word 8 (omega arith) in
+      (omega (arith, f .0, r), omega (arith, f .1, p), omega (arith, f .2, y), omega (arith, f .3, l), omega (arith, f .4, k), omega (arith, f .5, m))
+
+  pub there : (k : Which) → listsAt (getD s 1 0) (getD s 4 0) + areaAt k (getD s 3 0) (getD s 5 0) + getD s (countAt k) 0 * recordWords k ≤ length s
+  there k =
+      let a = sides-are in
+      let c = counts-low in
+      go k (R .room) (a .1) (a .2) (a .3) (a .4) (c .0) (c .1) (c .2) (c .3) (c .4) (c .5)
+    where
+      go : (k : Which) → storeHeld (held s) ≤ length s → getD s 3 0 ≡ frameHeld (held s) .w → getD s 4 0 ≡ frameHeld (held s) .h → getD s 5 0 ≡ held s .capacity → getD s 1 0 ≡ held s .page-w
+          → getD s 13 0 ≤ 3 * held s .capacity → getD s 14 0 ≤ held s .capacity → getD s 15 0 ≤ held s .capacity → getD s 16 0 ≤ held s .capacity → getD s 17 0 ≤ held s .capacity → getD s 18 0 ≤ frameHeld (held s) .w
+          → listsAt (getD s 1 0) (getD s 4 0) + areaAt k (getD s 3 0) (getD s 5 0) + getD s (countAt k) 0 * recordWords k ≤ length s
+      go columns m a b c d f₁ f₂ f₃ f₄ f₅ f₆ = omega arith
+      go rules m a b c d f₁ f₂ f₃ f₄ f₅ f₆ = omega arith
+      go graphics m a b c d f₁ f₂ f₃ f₄ f₅ f₆ = omega arith
+      go glyphs m a b c d f₁ f₂ f₃ f₄ f₅ f₆ = omega arith
+      go lines m a b c d f₁ f₂ f₃ f₄ f₅ f₆ = omega arith
+      go blocks m a b c d f₁ f₂ f₃ f₄ f₅ f₆ = omega arith
+
+  count-there : (k : Which) → getD s (countAt k) 0 ≡ listCount k (viewOf s kinds)
+  unfolding viewOf viewWith
+  count-there columns = sym (figure-word s 8 (omega arith))
+  count-there rules = sym (figure-word s 3 (omega arith))
+  count-there graphics = sym (figure-word s 4 (omega arith))
+  count-there glyphs = sym (figure-word s 5 (omega arith))
+  count-there lines = sym (figure-word s 6 (omega arith))
+  count-there blocks = sym (figure-word s 7 (omega arith))
+
+  words-there : (k : Which) → part (listsAt (frameHeld (held s) .page-w) (frameHeld (held s) .h) + areaAt k (frameHeld (held s) .w) (held s .capacity)) (listCount k (viewOf s kinds) * recordWords k) s ≡ listWords k (viewOf s kinds)
+  unfolding viewOf viewWith
+  words-there columns = ap (λ z. part z (listCount columns (viewOf s kinds) * recordWords columns) s) (let q : listsAt (frameHeld (held s) .page-w) (frameHeld (held s) .h) + 0 ≡ listsAt (frameHeld (held s) .page-w) (frameHeld (held s) .h) = omega arith in q)
+  words-there rules = refl
+  words-there graphics = refl
+  words-there glyphs = refl
+  words-there lines = refl
+  words-there blocks = refl
+
+  module _ (k : Which) (at width word : ℕ) (ea : at ≡ listsAt (getD s 1 0) (getD s 4 0) + areaAt k (getD s 3 0) (getD s 5 0)) (ew : width ≡ recordWords k) (eo : word ≡ countAt k) where
+    pub list-word : word < length s
+    list-word = subst (λ z. z < length s) (sym eo) (go k (R .words))
+      where
+        go : (k : Which) → 64 ≤ length s → countAt k < length s
+        go columns h = omega arith
+        go rules h = omega arith
+        go graphics h = omega arith
+        go glyphs h = omega arith
+        go lines h = omega arith
+        go blocks h = omega arith
+
+    pub list-end : at + getD s word 0 * width ≤ length s
+    list-end = subst (λ z. z ≤ length s) (sym (λ i. ea i + getD s (eo i) 0 * ew i)) (there k)
+
+    list-count : getD s word 0 ≡ listCount k (viewOf s kinds)
+    list-count = ap (λ z. getD s z 0) eo ∙ count-there k
+
+    list-part : part at (getD s word 0 * width) s ≡ listWords k (viewOf s kinds)
+    list-part =
+        let a = sides-are in
+        (λ i. part (ea i) (list-count i * ew i) s)
+        ∙ ((λ i. part (listsAt (a .0 i) (a .2 i) + areaAt k (a .1 i) (a .3 i)) (listCount k (viewOf s kinds) * recordWords k) s) ∙ words-there k)
+
+    long : length (listWords k (viewOf s kinds)) ≡ getD s word 0 * width
+    long = ap length (sym list-part) ∙ length-part at (getD s word 0 * width) s list-end
+
+    module _ (out : List ℕ) (n : ℕ) (en : n ≡ resultRefusal (length s) (length ink) (length kinds) (held s) false (resultsSpoiled s ink kinds) false false) (gn : n ≡ 0) where
+      pub list-short : length out < at + getD s word 0 * width - at → told 9 0 (words out) ≡ resultTold (ResultReading.list k out) s ink kinds
+      unfolding refuseIf
+      list-short h =
+          told-late (ResultReading.list k out) s ink kinds n en gn 9
+          (sym (rw (lt-ltb (length out) (length (listWords k (viewOf s kinds))) (let l = long in omega arith)))) (λ z. omega arith)
+
+      pub list-done : at + getD s word 0 * width - at ≤ length out → (out' : List ℕ) → out' ≡ over (take (at + getD s word 0 * width - at) (drop at s)) out → told 0 (getD s word 0) (words out') ≡ resultTold (ResultReading.list k out) s ink kinds
+      unfolding part refuseIf
+      list-done h out' e =
+          let q : at + getD s word 0 * width - at ≡ getD s word 0 * width = omega arith in
+          let w = ap (λ z. take z (drop at s)) q ∙ list-part in
+          (λ i. told 0 (list-count i) (words ((e ∙ ap (λ (z : List ℕ). over z out) w) i)))
+          ∙ told-done (ResultReading.list k out) s ink kinds n en gn (rw (le-ltb (length out) (length (listWords k (viewOf s kinds))) (let l = long in omega arith)))

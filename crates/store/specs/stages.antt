@@ -1,0 +1,4 @@
+-- a header that tells of a segmentation
+pub mod Heads
+-- the lists of a store by their places
+pub mod Areas

@@ -1,0 +1,34 @@
+// The store: its entries and readings. What each answers and leaves is in specs/rules/Outcomes.
+mod answers;
+mod clearing;
+mod dots;
+mod figures;
+mod frames;
+mod layouts;
+mod leaves;
+mod lists;
+mod mappings;
+mod measures;
+mod medians;
+mod points;
+
+pub use answers::Answer;
+pub use answers::Outcome;
+pub use clearing::clear;
+pub use dots::count_dots;
+pub use dots::read_dots;
+pub use figures::read_figures;
+pub use frames::read_frame;
+pub use layouts::segment;
+pub use leaves::level;
+pub use lists::read_blocks;
+pub use lists::read_columns;
+pub use lists::read_glyphs;
+pub use lists::read_graphics;
+pub use lists::read_lines;
+pub use lists::read_rules;
+pub use mappings::level_gray;
+pub use mappings::rect_to_page;
+pub use measures::read_summary;
+pub use measures::twenty_line_measure;
+pub use points::to_page;
