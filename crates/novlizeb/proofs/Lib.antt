@@ -1,0 +1,2 @@
+-- an entry's promise, told as one number
+pub mod AnswerLaws

@@ -1,0 +1,2 @@
+-- what a reader must believe
+pub mod rules

@@ -1,0 +1,2 @@
+-- what the parts of `play` do
+pub mod Playing
