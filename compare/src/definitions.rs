@@ -6,7 +6,7 @@ use original::pixel::layout::{summarize, Layout, LayoutParams, Rect};
 use crate::random::Random;
 
 /// The names of `summarize`'s numbers, in the order in which it puts them.
-const SUMMARY: [&str; 12] = [
+pub const SUMMARY: [&str; 12] = [
     "xheight_px",
     "skew_deg_applied",
     "glyphs",

@@ -1,9 +1,9 @@
 //! The list of cases with the Rust's answers that the gate replays (`crates/replay`).
 //!
-//! One case a line, in upper-case hexadecimal: two digits of kind, four of the count of words, then the words, 16 digits
-//! each, then a line feed. The words are the inputs and after them the Rust's answers; `crates/replay` knows for each kind
-//! which is which. A float is its bits, and a NaN answer is one pattern that stands for every NaN. A signed number is its
-//! two's complement at 64 bits.
+//! One case a line, in upper-case hexadecimal: two digits of kind, four of how many digits follow, those digits, a line feed. They are
+//! numbers of 32 bits, each a digit that says how many digits it has, 0 to 8, and those digits without leading zeros. A word is two such
+//! numbers, its high half first. The words are the inputs and after them the Rust's answers; `crates/replay` knows for each kind which is
+//! which. A float is its bits, and a NaN answer is one pattern that stands for every NaN. A signed number is its two's complement at 64 bits.
 
 use std::fmt::Write;
 
@@ -13,22 +13,36 @@ use crate::tally::Tally;
 /// The pattern of a NaN answer.
 const NAN: u64 = 0x7FF8_0000_0000_0000;
 
-/// The most words of a case: what `crates/replay` has room for.
-const MOST_WORDS: usize = 4095;
+/// The most digits of a case, and the most numbers: what `crates/replay` has room for.
+const MOST_DIGITS: usize = 65_535;
+const MOST_NUMBERS: usize = 8192;
 
 pub struct List {
     text: String,
 }
 
 impl List {
+    /// A case of words.
     pub fn case(&mut self, kind: u8, words: &[u64]) {
-        assert!(words.len() <= MOST_WORDS, "a case of kind {kind:02X} is too long");
-        write!(self.text, "{kind:02X}{:04X}", words.len()).expect("a String takes all");
-        for word in words {
-            write!(self.text, "{word:016X}").expect("a String takes all");
-        }
-        self.text.push('\n');
+        let halves: Vec<u32> = words.iter().flat_map(|&word| [(word >> 32) as u32, word as u32]).collect();
+        self.numbers(kind, &halves);
     }
+
+    /// A case of numbers.
+    pub fn numbers(&mut self, kind: u8, numbers: &[u32]) {
+        let digits: String = numbers.iter().map(|&number| digits_of(number)).collect();
+        assert!(
+            digits.len() <= MOST_DIGITS && numbers.len() <= MOST_NUMBERS,
+            "a case of kind {kind:02X} is too long"
+        );
+        writeln!(self.text, "{kind:02X}{:04X}{digits}", digits.len()).expect("a String takes all");
+    }
+}
+
+/// How many digits a number has, and those.
+fn digits_of(number: u32) -> String {
+    let digits = if number == 0 { String::new() } else { format!("{number:X}") };
+    format!("{}{digits}", digits.len())
 }
 
 /// An answer's word: every NaN is the one pattern.
@@ -53,6 +67,11 @@ pub fn packed(mask: &[u8]) -> Vec<u64> {
 pub fn hash(words: &[u32]) -> u64 {
     let step = |h: u64, &word: &u32| (h * 16_777_619 + u64::from(word)) % 4_294_967_291;
     words.iter().fold(1, step)
+}
+
+/// The same of bytes.
+pub fn hash_bytes(bytes: &[u8]) -> u64 {
+    hash(&bytes.iter().map(|&byte| u32::from(byte)).collect::<Vec<u32>>())
 }
 
 /// The whole list, of every part in turn.

@@ -7,6 +7,7 @@
 
 mod bench;
 mod definitions;
+mod host;
 mod lent;
 mod list;
 mod masks;

@@ -86,6 +86,37 @@ pub fn random_masks(random: &mut Random, each: &mut impl FnMut(&mut Random, &[u8
     }
 }
 
+/// Lengths of runs and gaps: short ones, and those around the blocks of dots that the code takes at once.
+const LENGTHS: [usize; 16] = [1, 1, 2, 3, 5, 16, 31, 32, 33, 63, 64, 65, 127, 128, 129, 160];
+
+/// A wide mask whose runs and gaps begin and end at, before and past the edges of such blocks; every third row is like the one above but
+/// for a few dots, so that pieces go on.
+pub fn crossing(width: usize, height: usize, random: &mut Random) -> Vec<u8> {
+    let mut mask = Vec::with_capacity(width * height);
+    for y in 0..height {
+        let from = mask.len();
+        if y % 3 == 2 {
+            mask.extend_from_within(from - width..);
+            for _ in 0..3 {
+                mask[from + random.below(width as u64) as usize] ^= 1;
+            }
+        }
+        let mut ink = random.below(2) as u8;
+        while mask.len() < from + width {
+            let length = random.pick(&LENGTHS).min(from + width - mask.len());
+            mask.resize(mask.len() + length, ink);
+            ink = 1 - ink;
+        }
+    }
+    mask
+}
+
+/// The mask with rows for columns.
+pub fn turned(mask: &[u8], width: usize) -> Vec<u8> {
+    let height = mask.len() / width;
+    (0..mask.len()).map(|i| mask[i % height * width + i / height]).collect()
+}
+
 /// Ink of any byte but 0.
 fn vary(mask: &mut [u8], random: &mut Random) {
     for dot in mask.iter_mut().filter(|dot| **dot != 0) {

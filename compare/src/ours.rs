@@ -55,7 +55,7 @@ mod c {
             extents_length: usize,
         ) -> u64;
         pub fn novlizeb_applied(least: f64, skew: f64, value: f64) -> f64;
-        pub fn novlizeb_frame_size(page_width: u32, page_height: u32, slope: f64) -> u64;
+        pub fn novlizeb_plane_size(page_width: u32, page_height: u32, slope: f64) -> u64;
         pub fn novlizeb_level_plane(
             page: *const u8,
             page_length: usize,
@@ -114,7 +114,7 @@ mod c {
             counts: *mut u32,
             counts_length: usize,
         ) -> u32;
-        pub fn novlizeb_segment(
+        pub fn novlizeb_segment_plane(
             ink: *const u8,
             ink_length: usize,
             width: u32,
@@ -203,7 +203,7 @@ pub struct Answer {
 }
 
 impl Answer {
-    fn of(word: u64) -> Self {
+    pub fn of(word: u64) -> Self {
         Answer {
             number: (word >> 32) as u32,
             value: word as u32,
@@ -315,7 +315,7 @@ pub fn applied(least: f64, skew: f64, value: f64) -> f64 {
 
 /// The frame's width and height; both 0 where the sides or the slope are outside their limits.
 pub fn frame_size(page_width: u32, page_height: u32, slope: f64) -> (u32, u32) {
-    let word = unsafe { c::novlizeb_frame_size(page_width, page_height, slope) };
+    let word = unsafe { c::novlizeb_plane_size(page_width, page_height, slope) };
     (word as u32, (word >> 32) as u32)
 }
 
@@ -435,7 +435,7 @@ pub struct Page<'a> {
 /// A whole segmentation of an ink plane: document 01's number of its refusal, 0 where it has none.
 pub fn segment(ink: &[u8], width: u32, height: u32, p: &LayoutParams, capacity: u32, lent: &mut Page) -> u32 {
     unsafe {
-        c::novlizeb_segment(
+        c::novlizeb_segment_plane(
             ink.as_ptr(),
             ink.len(),
             width,

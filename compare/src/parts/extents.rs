@@ -11,7 +11,7 @@ use crate::lent::Words;
 use crate::list::{hash, packed, List};
 use crate::masks::{self, near, shown, LARGE_SHAPES, SIDES};
 use crate::ours::{self, Answer};
-use crate::pages::KINDS;
+use crate::pages::{Kind, KINDS};
 use crate::random::Random;
 use crate::tally::Tally;
 
@@ -148,5 +148,16 @@ fn list(list: &mut List) {
     }
     for (width, height) in [(1, 1), (1, 2), (2, 1), (1, 40), (40, 1)] {
         case(&vec![1; width * height], width);
+    }
+    for (width, height) in [(300, 2), (333, 4), (65, 70)] {
+        for _ in 0..2 {
+            let mask = masks::crossing(width, height, &mut random);
+            case(&mask, width);
+            case(&masks::turned(&mask, width), height);
+        }
+    }
+    for kind in [Kind::Text, Kind::Noise(30), Kind::Noise(70), Kind::Checkerboard, Kind::Staircase] {
+        case(&kind.page(300, 5, &mut random), 300);
+        case(&kind.page(70, 66, &mut random), 70);
     }
 }

@@ -332,4 +332,13 @@ fn list(list: &mut List) {
     }
     case(&[], 0, 1, 1);
     case(&[], 1, 0, 1);
+    for (width, height) in [(300, 1), (300, 3), (320, 4), (384, 6), (401, 9), (512, 3), (1030, 2)] {
+        for _ in 0..4 {
+            let mask = masks::crossing(width, height, &mut random);
+            case(&mask, width, height, 64);
+        }
+    }
+    for kind in [Kind::Text, Kind::Table, Kind::Blobs, Kind::Solid, Kind::Noise(50), Kind::Comb, Kind::Stripes, Kind::Dot] {
+        case(&kind.page(340, 12, &mut random), 340, 12, 64);
+    }
 }

@@ -10,8 +10,8 @@ use original::{level_mask, segment_mask};
 use super::Part;
 use crate::bench::Bench;
 use crate::lent::{Bytes, Words};
-use crate::list::{hash, packed, List};
-use crate::masks::shown;
+use crate::list::{hash, hash_bytes, packed, List};
+use crate::masks::{self, shown};
 use crate::ours;
 use crate::pages::{Kind, KINDS};
 use crate::random::Random;
@@ -374,11 +374,8 @@ fn bench(bench: &mut Bench) {
     }
 }
 
-/// Kind 0B of the list: width, height, slope, the mask in four words; the frame, the hash of both shears, the ink plane.
+/// Kind 0B of the list: width, height, slope, the mask; the frame, the hashes of both shears and of the ink plane.
 const KIND: u8 = 0x0B;
-
-/// The words of a listed page's mask.
-const MASK_WORDS: usize = 4;
 
 /// The list's slopes: both zeros, tiny ones, halves, ones and some sixteenths with both their neighbours, of both signs.
 fn listed_slopes() -> Vec<f64> {
@@ -393,25 +390,41 @@ fn listed_slopes() -> Vec<f64> {
     all
 }
 
+/// Slopes of wide pages: those at which most columns move as the one before, the last and the first around the bound to steep ones, and
+/// steep ones.
+const WIDE_SLOPES: [f64; 8] = [0.004, 0.02, 0.05, 0.062, 0.075, 0.2, 0.7, 1.0];
+
+/// Small pages at every listed slope, and wide ones with runs and gaps of many dots.
 fn list(list: &mut List) {
     let mut random = Random::new();
     for slope in listed_slopes() {
         for (width, height) in [(12, 9), (3, 17)] {
             let plane = Kind::Noise(50).page(width, height, &mut random);
-            let page = Page {
-                plane: &plane,
-                width,
-                height,
-                slope,
-            };
-            let rust = page.rust();
-            let mut words = vec![width as u64, height as u64, slope.to_bits()];
-            words.extend(packed(&plane));
-            words.resize(3 + MASK_WORDS, 0);
-            words.push((rust.height as u64) << 32 | rust.width as u64);
-            words.push(hash(&shears_of(&rust)));
-            words.extend(packed(&rust.ink));
-            list.case(KIND, &words);
+            case(list, &plane, width, slope);
         }
     }
+    for slope in WIDE_SLOPES.into_iter().flat_map(|slope| [slope, -slope]) {
+        for (width, height) in [(80, 12), (130, 8), (150, 7)] {
+            case(list, &masks::crossing(width, height, &mut random), width, slope);
+        }
+        let kind = random.pick(&[Kind::Text, Kind::Table, Kind::Blobs, Kind::Noise(3), Kind::Dot]);
+        case(list, &kind.page(97, 20, &mut random), 97, slope);
+    }
+}
+
+fn case(list: &mut List, plane: &[u8], width: usize, slope: f64) {
+    let height = plane.len() / width;
+    let page = Page {
+        plane,
+        width,
+        height,
+        slope,
+    };
+    let rust = page.rust();
+    let mut words = vec![width as u64, height as u64, slope.to_bits()];
+    words.extend(packed(plane));
+    words.push((rust.height as u64) << 32 | rust.width as u64);
+    words.push(hash(&shears_of(&rust)));
+    words.push(hash_bytes(&rust.ink));
+    list.case(KIND, &words);
 }

@@ -35,4 +35,5 @@ parts! {
     rulings,
     kinds,
     segments,
+    store,
 }

@@ -14,8 +14,8 @@ use super::Part;
 use crate::bench::{Bench, Times};
 use crate::definitions;
 use crate::lent::{Bytes, Words};
-use crate::list::{hash, packed, List};
-use crate::masks::{near, shown};
+use crate::list::{hash, hash_bytes, packed, List};
+use crate::masks::{self, near, shown};
 use crate::ours;
 use crate::pages::{Kind, KINDS};
 use crate::random::Random;
@@ -32,8 +32,8 @@ pub const PART: Part = Part {
 const MOST_WIDTH: u32 = 24_574;
 const MOST_HEIGHT: u32 = 16_383;
 pub const MOST_CAPACITY: u32 = 65_535;
-const MOST_LINES: usize = 4095;
-const NO_LINE: u32 = 0xFFF;
+pub const MOST_LINES: usize = 4095;
+pub const NO_LINE: u32 = 0xFFF;
 
 const FIGURES: usize = 15;
 const SORT_FIGURES: usize = 7;
@@ -80,14 +80,14 @@ impl Lent {
 
 /// The Rust's results for an ink plane, and what it does not tell: the components of each labelling, whether the unit was
 /// measured, and the kind of each dot.
-struct Answers {
-    layout: Layout,
-    components: [usize; 5],
-    measured: bool,
-    kinds: Vec<u8>,
+pub struct Answers {
+    pub layout: Layout,
+    pub components: [usize; 5],
+    pub measured: bool,
+    pub kinds: Vec<u8>,
 }
 
-fn answers(ink: &[u8], width: usize, p: &LayoutParams) -> Answers {
+pub fn answers(ink: &[u8], width: usize, p: &LayoutParams) -> Answers {
     let height = ink.len() / width;
     let layout = segment_mask(ink, width, height, 0.0, 0.0, p).expect("the page is accepted");
     let (components, measured, kinds) = compare_sorted(ink.to_vec(), width, height, p);
@@ -101,7 +101,7 @@ fn answers(ink: &[u8], width: usize, p: &LayoutParams) -> Answers {
 
 impl Answers {
     /// Document 01's number with this capacity.
-    fn number(&self, capacity: usize) -> u32 {
+    pub fn number(&self, capacity: usize) -> u32 {
         if self.components.iter().any(|&count| capacity < count) {
             20
         } else if MOST_LINES < self.layout.lines.len() {
@@ -111,7 +111,7 @@ impl Answers {
         }
     }
 
-    fn figures(&self) -> [u32; FIGURES] {
+    pub fn figures(&self) -> [u32; FIGURES] {
         let l = &self.layout;
         let bits = l.xheight.to_bits();
         let dots = |kind: u8| self.kinds.iter().filter(|&&k| k == kind).count() as u32;
@@ -158,7 +158,7 @@ impl Answers {
     }
 
     /// Each list with its place.
-    fn lists(&self, width: usize, capacity: usize) -> [(usize, Vec<u32>); 6] {
+    pub fn lists(&self, width: usize, capacity: usize) -> [(usize, Vec<u32>); 6] {
         let l = &self.layout;
         let boxes = |list: &[Rect]| list.iter().flat_map(corners).collect();
         let glyphs = l.glyphs.iter().flat_map(|g| {
@@ -244,7 +244,7 @@ fn around(tally: &mut Tally, lent: &mut Lent, random: &mut Random, ink: &[u8], w
 }
 
 /// A sheet: of values at which small pages differ, of any, or with thresholds at the sides of what is on the page.
-fn any_sheet(random: &mut Random, width: usize, height: usize) -> LayoutParams {
+pub fn any_sheet(random: &mut Random, width: usize, height: usize) -> LayoutParams {
     match random.below(4) {
         0 => sheet(&valid(random)),
         1 => {
@@ -403,7 +403,7 @@ fn compare(tally: &mut Tally) {
 }
 
 /// A sheet for scanned leaves.
-fn leaf_sheet() -> LayoutParams {
+pub fn leaf_sheet() -> LayoutParams {
     LayoutParams {
         glyph_min_area: 8,
         glyph_max_extent_frac: 0.5,
@@ -571,10 +571,28 @@ impl<'a> Timed<'a> {
 }
 
 /// The most dots and components of a page that the gate replays.
-const REPLAYED_DOTS: usize = 1024;
+const REPLAYED_DOTS: usize = 4096;
 const REPLAYED_CAPACITY: usize = 64;
 
-/// Small pages of every kind, and those with lines, blocks and columns.
+/// Wide pages, whose runs and gaps are of many dots.
+fn wide_pages(list: &mut List, random: &mut Random) {
+    for i in 0..48 {
+        let (width, height) = random.pick(&[(300, 8), (320, 12), (352, 11), (500, 5)]);
+        let ink = match i % 3 {
+            0 => random.pick(&[Kind::Text, Kind::Table, Kind::Blobs, Kind::Stripes]).page(width, height, random),
+            1 => Kind::Noise(random.pick(&[1, 2, 85, 95])).page(width, height, random),
+            _ => masks::crossing(width, height, random),
+        };
+        let p = any_sheet(random, width, height);
+        let rust = answers(&ink, width, &p);
+        let most = rust.components.iter().copied().max().unwrap_or(0).max(1);
+        if most <= REPLAYED_CAPACITY {
+            case(list, &ink, width, &p, most, &rust);
+        }
+    }
+}
+
+/// Small pages of every kind, those with lines, blocks and columns, and wide ones.
 fn list(list: &mut List) {
     let mut random = Random::new();
     for i in 0..420 {
@@ -597,6 +615,7 @@ fn list(list: &mut List) {
             case(list, &ink, width, &p, capacity, &rust);
         }
     }
+    wide_pages(list, &mut random);
 }
 
 /// The words are: width, height, the eighteen of the sheet, capacity, the page; then the number, and the figures, the lists' words and
@@ -616,9 +635,9 @@ fn case(list: &mut List, ink: &[u8], width: usize, p: &LayoutParams, capacity: u
         for (at, list) in rust.lists(width, capacity) {
             results[at..at + list.len()].copy_from_slice(&list);
         }
-        kinds = rust.kinds.iter().map(|&kind| u32::from(kind)).collect();
+        kinds.copy_from_slice(&rust.kinds);
     }
-    words.extend([hash(&figures), hash(&results), hash(&kinds)]);
+    words.extend([hash(&figures), hash(&results), hash_bytes(&kinds)]);
     list.case(0x0C, &words);
 }
 

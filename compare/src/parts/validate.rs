@@ -93,7 +93,7 @@ pub fn plain() -> Words {
 }
 
 /// The limits of a float field, each with its neighbours, and the numbers that are none.
-fn limits() -> Vec<u64> {
+pub fn limits() -> Vec<u64> {
     let mut all = Vec::new();
     for x in [0.0, 0.5, 1.0, 1.0e4] {
         let bits = f64::to_bits(x);
@@ -158,7 +158,7 @@ fn line_heights(base: &Words, x: f64, each: &mut impl FnMut(&Words)) {
 }
 
 /// A valid sheet with a few fields set to limits or to anything.
-fn mutated(random: &mut Random, limits: &[u64]) -> Words {
+pub fn mutated(random: &mut Random, limits: &[u64]) -> Words {
     let mut w = valid(random);
     for _ in 0..1 + random.below(4) {
         let i = random.below(FIELDS as u64) as usize;

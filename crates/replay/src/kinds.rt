@@ -2,6 +2,7 @@
 //
 // To add a kind: a function, here or in a file of its own, from the digits of the words to a bool, and
 // its line in agrees. The words of a kind are said above its function; a part of compare/ writes them.
+use crate::histories;
 use crate::levels;
 use crate::masks;
 use crate::segments;
@@ -26,6 +27,7 @@ pub fn agrees(kind: u64, body: &[u8]) -> bool {
         10 => masks::extents(body),
         11 => levels::level(body),
         12 => segments::segment(body),
+        13 => histories::history(body),
         _ => false,
     }
 }
@@ -72,7 +74,7 @@ fn round_output(body: &[u8]) -> bool {
 }
 
 // The first of the words as floats, as many as there are values.
-fn read_floats(body: &[u8], values: &mut [f64]) {
+pub fn read_floats(body: &[u8], values: &mut [f64]) {
     let mut i = 0;
     while i < values.len() {
         values[i] = float(body, i);

@@ -1,9 +1,11 @@
 // Replays the list of cases with the Rust's answers that is its standard input, and writes how many
 // cases there were and on how many this project answers otherwise. compare/list makes the list.
 //
-// A case is a line of upper-case hexadecimal: two digits of kind, four of the count of words, the
-// words, 16 digits each, and a line feed. The words are the inputs and then the Rust's answers, as
+// A case is a line of upper-case hexadecimal: two digits of kind, four of how many digits follow, those,
+// and a line feed. They are numbers of 32 bits, each a digit that counts its digits and then those. Two
+// numbers are a word, the high half first. The words are the inputs and then the Rust's answers, as
 // kinds.rt has them for each kind. A line that is not so made counts as a difference.
+mod histories;
 mod kinds;
 mod levels;
 mod masks;
@@ -16,10 +18,7 @@ use libc::STDOUT_FILENO;
 // More cases than a list ever has: a proved loop has to end, and nothing says that the input does.
 const MOST_CASES: u64 = 1_000_000;
 
-// The most words of a case. Their digits and the line feed fit io::large_buffer.
-const MOST_WORDS: u64 = 4095;
-
-// The digits before the words: those of the kind and of the count.
+// The digits before the numbers: those of the kind and of the count.
 const HEAD: usize = 6;
 
 const LINE_FEED: u8 = 10;
@@ -37,12 +36,16 @@ struct Tally {
     first: u64,
 }
 
-// Reads the words of a case and its line feed into room, and judges them.
-fn judge_body(kind: u64, words: u64, room: &mut [u8]) -> Outcome {
-    if words > MOST_WORDS {
-        return Outcome::Differs;
-    }
-    let digits = words as usize * 16;
+// Whether the case of these digits has the Rust's answer.
+fn agrees(kind: u64, digits: &[u8]) -> bool {
+    let mut room = io::large_buffer();
+    let n = text::spread(digits, &mut room);
+    kinds::agrees(kind, &room[0..n])
+}
+
+// Reads the digits of a case and its line feed into room, and judges them.
+fn judge_body(kind: u64, count: u64, room: &mut [u8]) -> Outcome {
+    let digits = count as usize;
     if digits >= room.len() {
         return Outcome::Differs;
     }
@@ -55,7 +58,7 @@ fn judge_body(kind: u64, words: u64, room: &mut [u8]) -> Outcome {
         return Outcome::Differs;
     }
     let body = &room[0..digits];
-    if text::are_digits(body) & kinds::agrees(kind, body) {
+    if text::are_digits(body) & agrees(kind, body) {
         Outcome::Same
     } else {
         Outcome::Differs

@@ -6,7 +6,7 @@ use extents::ExtentsAnswer;
 use labelling::LabelAnswer;
 
 // The most dots of a mask.
-const MOST_DOTS: usize = 1024;
+const MOST_DOTS: usize = 5120;
 
 // The digits before a mask: those of three words.
 pub const MASK_FROM: usize = 48;
@@ -17,7 +17,7 @@ const RECORD: usize = 9;
 // The records of 64 pieces, and scratch for them and MOST_DOTS dots.
 const RECORD_WORDS: usize = 576;
 
-const SCRATCH_WORDS: usize = 5184;
+const SCRATCH_WORDS: usize = 21568;
 
 // The sides of a mask.
 struct Size {
@@ -60,7 +60,7 @@ pub fn read_mask(digits: &[u8], mask: &mut [u8]) {
 }
 
 // One word more in a hash.
-fn hash_step(h: u64, word: u32) -> u64
+pub fn hash_step(h: u64, word: u32) -> u64
     requires { ⌜ h < 4294967291 ⌝ }
     ensures { λ r. ⌜ r < 4294967291 ⌝ }
 {
@@ -68,7 +68,7 @@ fn hash_step(h: u64, word: u32) -> u64
 }
 
 // Many words as one, as compare/src/list.rs has it.
-fn hash(words: &[u32]) -> u64 {
+pub fn hash(words: &[u32]) -> u64 {
     let mut h: u64 = 1;
     let mut i = 0;
     while i < words.len() {
@@ -107,7 +107,7 @@ pub fn hash_of(words: &[u32], n: usize) -> u64 {
 }
 
 // Whether the last three words are these.
-fn ends_with(body: &[u8], answer: u64, first: u64, second: u64) -> bool {
+pub fn ends_with(body: &[u8], answer: u64, first: u64, second: u64) -> bool {
     let words = text::count(body);
     if words < 3 {
         return false;

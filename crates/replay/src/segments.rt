@@ -5,7 +5,7 @@ use crate::text;
 use params::LayoutParams;
 
 // The most dots of a page.
-const MOST_DOTS: usize = 1024;
+const MOST_DOTS: usize = 4096;
 
 // The digits before the sheet, those of two words, and before the page, those of 21.
 const SHEET_FROM: usize = 32;
@@ -13,9 +13,9 @@ const SHEET_FROM: usize = 32;
 const PAGE_FROM: usize = 336;
 
 // Scratch for as many dots and a capacity of 64, and results at the greatest width.
-const SCRATCH_WORDS: usize = 5184;
+const SCRATCH_WORDS: usize = 17472;
 
-const RESULT_WORDS: usize = 4288;
+const RESULT_WORDS: usize = 10432;
 
 const FIGURES: usize = 15;
 
@@ -48,7 +48,7 @@ fn segment_ink(
     figures: &mut [u32],
 ) -> u32 {
     let mut scratch = [0u32; SCRATCH_WORDS];
-    boundary::novlizeb_segment(
+    boundary::novlizeb_segment_plane(
         ink,
         width,
         height,
