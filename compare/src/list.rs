@@ -24,7 +24,10 @@ pub struct List {
 impl List {
     /// A case of words.
     pub fn case(&mut self, kind: u8, words: &[u64]) {
-        let halves: Vec<u32> = words.iter().flat_map(|&word| [(word >> 32) as u32, word as u32]).collect();
+        let halves: Vec<u32> = words
+            .iter()
+            .flat_map(|&word| [(word >> 32) as u32, word as u32])
+            .collect();
         self.numbers(kind, &halves);
     }
 
@@ -41,7 +44,11 @@ impl List {
 
 /// How many digits a number has, and those.
 fn digits_of(number: u32) -> String {
-    let digits = if number == 0 { String::new() } else { format!("{number:X}") };
+    let digits = if number == 0 {
+        String::new()
+    } else {
+        format!("{number:X}")
+    };
     format!("{}{digits}", digits.len())
 }
 

@@ -156,7 +156,7 @@ fn list(list: &mut List) {
             case(&masks::turned(&mask, width), height);
         }
     }
-    for kind in [Kind::Text, Kind::Noise(30), Kind::Noise(70), Kind::Checkerboard, Kind::Staircase] {
+    for kind in [Kind::Text, Kind::Noise(10), Kind::Noise(15), Kind::Noise(20), Kind::Noise(30), Kind::Noise(70), Kind::Staircase] {
         case(&kind.page(300, 5, &mut random), 300);
         case(&kind.page(70, 66, &mut random), 70);
     }

@@ -3,12 +3,14 @@
 
 use original::pixel::layout::LayoutParams;
 
-use super::account::Account;
+use super::account::{Account, Levelled};
 use super::calls::{Asked, Call, Leaf, Lengths, Memory, Told};
 use super::histories::{crowded_leaf, next};
-use super::making::{lend, Room};
+use super::judge::LISTS;
+use super::making::{any_reading, good_leaf, lend, Room};
 use super::rules;
 use crate::list::{answer, hash, hash_bytes, packed, List};
+use crate::pages::Kind;
 use crate::parts::segments::MOST_LINES;
 use crate::parts::validate::{plain, sheet};
 use crate::random::Random;
@@ -16,7 +18,8 @@ use crate::random::Random;
 /// The kind of its cases: the head's eleven lengths, the script, its floats, its dots; then the log, six hashes and the integers.
 const KIND: u8 = 0x0D;
 
-const HISTORIES: u32 = 170;
+const HISTORIES: u32 = 150;
+const LEAVES: u32 = 20;
 
 /// The words of a call.
 const CALL_WORDS: usize = 21;
@@ -351,6 +354,77 @@ fn made(random: &mut Random, room: &Room, count: u64) -> Vec<Call> {
     calls
 }
 
+/// The call with enough of all that it takes.
+fn full(room: &Room, account: &mut Account, asked: Asked) -> Call {
+    let lent = Lengths {
+        store: room.store,
+        ink: room.plane,
+        kinds: room.plane,
+        scratch: MOST[3],
+        out: usize::MAX,
+    };
+    let mut call = Call { asked, lent };
+    call.lent.out = match call.asked {
+        Asked::Level(_) | Asked::Segment(_) | Asked::Clear => 0,
+        _ => account.tell(&call).filled.len(),
+    };
+    trim(&mut call);
+    call
+}
+
+/// Calls one after the other, each with enough.
+fn all_full(room: &Room, all: Vec<Asked>) -> Vec<Call> {
+    let mut account = Account::Nothing;
+    let one = |asked: Asked| {
+        let call = full(room, &mut account, asked);
+        account.tell(&call);
+        call
+    };
+    all.into_iter().map(one).collect()
+}
+
+/// A leaf of text with a sheet by which a block has lines one below the other.
+fn text_leaf(random: &mut Random, room: &Room) -> Leaf {
+    loop {
+        let mut leaf = good_leaf(random, room);
+        let (width, height) = (60 + random.below(31) as usize, 45 + random.below(20) as usize);
+        (leaf.width, leaf.height, leaf.capacity) = (width as u32, height as u32, room.capacity);
+        leaf.mask = Kind::Text.page(width, height, random);
+        leaf.sheet = short_sheet(&leaf.sheet);
+        leaf.slope = random.pick(&[0.0, 0.02, -0.02, 0.05, -0.05]);
+        if rules::leaf_number(&leaf).is_some() {
+            continue;
+        }
+        let answers = Levelled::new(&leaf).answers(&leaf.sheet);
+        let pitched = answers.layout.blocks.iter().any(|block| block.lines.len() > 1);
+        if pitched && answers.number(leaf.capacity as usize) == 0 {
+            return leaf;
+        }
+    }
+}
+
+/// A leaf levelled, segmented and read in every way, in any order; then cleared and read again.
+fn whole_reading(list: &mut List, random: &mut Random) {
+    let room = Room {
+        plane: 16_384,
+        ..Room::new(90, 120)
+    };
+    let leaf = text_leaf(random, &room);
+    let frame = rules::frame(leaf.width as usize, leaf.height as usize, 0.0, rules::applied(&leaf, leaf.slope));
+    let mut all = vec![Asked::Frame, Asked::Figures, Asked::Summary, Asked::TwentyLines];
+    all.extend(LISTS.map(Asked::List));
+    all.extend((0..8).map(|_| any_reading(random, &frame)));
+    for i in 0..all.len() {
+        let j = random.below(all.len() as u64) as usize;
+        all.swap(i, j);
+    }
+    let sheet = leaf.sheet.clone();
+    all.splice(0..0, [Asked::Level(leaf), Asked::Segment(sheet)]);
+    all.extend([Asked::Clear, Asked::Summary]);
+    let calls = all_full(&room, all);
+    assert!(case(list, &room, calls), "there is room for a leaf");
+}
+
 /// A page with as many lines as a page may have, and one with more.
 fn crowded(list: &mut List, random: &mut Random) {
     for count in [MOST_LINES, MOST_LINES + 1] {
@@ -365,15 +439,7 @@ fn crowded(list: &mut List, random: &mut Random) {
         let mut p = sheet(&plain());
         p.smear_xh = 0.0;
         let all = [Asked::Level(leaf), Asked::Segment(p), Asked::Figures, Asked::TwentyLines];
-        let lent = Lengths {
-            store: room.store,
-            ink: room.plane,
-            kinds: room.plane,
-            scratch: MOST[3],
-            out: rules::FIGURES,
-        };
-        let mut calls: Vec<Call> = all.into_iter().map(|asked| Call { asked, lent }).collect();
-        calls.iter_mut().for_each(trim);
+        let calls = all_full(&room, all.to_vec());
         assert!(case(list, &room, calls), "there is room for a crowded page");
     }
 }
@@ -396,6 +462,9 @@ pub fn list(list: &mut List) {
         if case(list, &room, calls) {
             written += 1;
         }
+    }
+    for _ in 0..LEAVES {
+        whole_reading(list, &mut random);
     }
     crowded(list, &mut random);
 }

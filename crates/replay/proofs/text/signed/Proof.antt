@@ -1,4 +1,4 @@
--- `replay::bits::signed` is safe: -1 less a number below 2 ^ 63 fits an `i64`. Assumes nothing.
+-- `replay::text::signed` is safe: -1 less a number below 2 ^ 63 fits an `i64`. Assumes nothing.
 use borrow.Author.Needs.{needs}
 use mathlib.Core.Path.{sym, subst}
 use Prim.Native.Nat.{ℕ, zero, suc, _-_, _<_, _^_}
