@@ -30,9 +30,12 @@ pitches ls (b ∷ bs) = differences (map (λ i. getD ls i noRect .y0 + getD ls i
 abbrev pub pitchesOf : Layout → List ℕ
 pitchesOf l = pitches (map (λ (t : TextLine). t .bbox) (l .lines)) (l .blocks)
 
--- the twenty-line measure: 10 times their median, and 0 without any
+-- the twenty-line measure of differences: 10 times their median, and 0 without any
+abbrev pub twentyOf : List ℕ → ℕ
+twentyOf l = 10 * median l
+
 unfoldable pub twentyLineMeasure : Layout → ℕ
-twentyLineMeasure l = 10 * median (pitchesOf l)
+twentyLineMeasure l = twentyOf (pitchesOf l)
 
 -- 2.0 (`two-is` of proofs/SummaryLaws.antt)
 abbrev pub two : Float

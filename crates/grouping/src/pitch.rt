@@ -5,6 +5,7 @@ ghost use lib.ListN.{length, getD};
 ghost use Rattle.memory.specs.Lists.{occurs};
 ghost use Rattle.memory.specs.Limits.{maxFrameHeight};
 ghost use Rattle.sorting.specs.Units.{median};
+ghost use Rattle.grouping.specs.Readings.{twentyOf};
 ghost use Rattle.grouping.specs.Pitches.{centreAt, blockAt, pitchesBelow, walkedPitches, lastCentre, PitchAdded, BlockedLines};
 use crate::counts::clear;
 use crate::numbers::LINE_WORDS;
@@ -20,7 +21,7 @@ pub fn twenty_line_measure(
     scratch: &mut [u32],
 ) -> u32
     requires { ⌜ BlockedLines h n blocks (now lines) × (h ≤ maxFrameHeight) × (2 * h + blocks ≤ length (now scratch)) ⌝ }
-    ensures { λ r. ⌜ r ≡ 10 * median (pitchesBelow (centreAt (now (lines .entry))) (blockAt (now (lines .entry))) n blocks) ⌝ }
+    ensures { λ r. ⌜ r ≡ twentyOf (pitchesBelow (centreAt (now (lines .entry))) (blockAt (now (lines .entry))) n blocks) ⌝ }
 {
     10 * median_pitch(lines, n, blocks, h, scratch)
 }

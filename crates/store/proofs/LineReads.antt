@@ -15,7 +15,7 @@ use Rattle.memory.specs.Refusals.{refuseIf}
 use Rattle.memory.proofs.BoolLaws.{and-left, and-right}
 use Rattle.sorting.specs.Units.{median}
 use Rattle.grouping.specs.Pitches.{centreAt, blockAt, pitchesBelow}
-use Rattle.grouping.specs.Readings.{summarized, summaryNumbers}
+use Rattle.grouping.specs.Readings.{twentyOf, summarized, summaryNumbers}
 use Rattle.grouping.specs.Words.{fields, lineWords}
 use Rattle.grouping.specs.declared.summary.Summary.{Summary}
 use Rattle.segmenting.specs.Results.{linesAt}
@@ -27,7 +27,7 @@ use Rattle.store.specs.rules.Readings.{ResultReading, Which, pitchesHeld
 use Rattle.store.specs.rules.Readings.Output.{none, floats}
 use Rattle.store.specs.rules.Outcomes.{told, resultTold}
 use Rattle.judging.specs.stages.Judged.{listsOk, wordsOk}
-use Rattle.store.specs.stages.Areas.{linesStart, linesWords, LinesHere, LinesAt, pitchRead, heightRead, summaryWords}
+use Rattle.store.specs.stages.Areas.{linesStart, linesWords, LinesHere, LinesAt, pitchRead, twentyRead, heightRead, summaryWords}
 use Rattle.judging.proofs.PartLaws.{length-part}
 use Rattle.judging.proofs.ResultLaws.{figure-word, figure-float}
 use Rattle.judging.proofs.SpoiledLaws.{ReadableResults}
@@ -145,10 +145,18 @@ module _ (s ink kinds : List ℕ) (R : ReadableResults s ink kinds) where
       let l = sym (figure-word s 6 (omega arith)) in
       λ i. median (fields lineWords glyphHeightAt (part (listsAt (a .0 i) (a .2 i) + linesAt (a .1 i) (a .3 i)) (l i * lineWords) s) (l i))
 
+  twenty-is : twentyRead s ≡ twentyHeld (viewOf s kinds)
+  unfolding viewOf viewWith twentyRead twentyHeld
+  twenty-is =
+      let a = sides-are s ink kinds R in
+      let l = sym (figure-word s 6 (omega arith)) in
+      let b = sym (figure-word s 7 (omega arith)) in
+      λ i. (let p = part (listsAt (a .0 i) (a .2 i) + linesAt (a .1 i) (a .3 i)) (l i * lineWords) s in twentyOf (pitchesBelow (centreAt p) (blockAt p) (l i) (b i)))
+
   pub twenty-done : (n : ℕ) → n ≡ resultRefusal (length s) (length ink) (length kinds) (held s) false (resultsSpoiled s ink kinds) false false → n ≡ 0
-      → (r : ℕ) → r ≡ pitchRead s → told 0 (10 * r) none ≡ resultTold ResultReading.twentyLines s ink kinds
-  unfolding twentyHeld refuseIf
-  twenty-done n en gn r e = ap (λ z. told 0 (10 * z) none) (e ∙ pitch-is) ∙ told-done ResultReading.twentyLines s ink kinds n en gn refl
+      → (r : ℕ) → r ≡ twentyRead s → told 0 r none ≡ resultTold ResultReading.twentyLines s ink kinds
+  unfolding refuseIf
+  twenty-done n en gn r e = ap (λ z. told 0 z none) (e ∙ twenty-is) ∙ told-done ResultReading.twentyLines s ink kinds n en gn refl
 
 -- the part as the code takes it
 pub lines-cut : (s : List ℕ) → LinesAt s → (a : ℕ) → a ≡ linesStart s → take (a + getD s 16 0 * 8 - a) (drop a s) ≡ linesWords s
@@ -159,6 +167,11 @@ lines-cut s L a e =
 
 pub lines-asked : (s : List ℕ) (L : LinesAt s) (a : ℕ) → a ≡ linesStart s → LinesHere (getD s 4 0) (getD s 16 0) (getD s 17 0) (take (a + getD s 16 0 * 8 - a) (drop a s))
 lines-asked s L a e = subst (λ (l : List ℕ). LinesHere (getD s 4 0) (getD s 16 0) (getD s 17 0) l) (sym (lines-cut s L a e)) (L .lines)
+
+pub twenty-found : (s : List ℕ) (L : LinesAt s) (a : ℕ) (e : a ≡ linesStart s) (r : ℕ)
+    → r ≡ twentyOf (pitchesBelow (centreAt (take (a + getD s 16 0 * 8 - a) (drop a s))) (blockAt (take (a + getD s 16 0 * 8 - a) (drop a s))) (getD s 16 0) (getD s 17 0)) → r ≡ twentyRead s
+unfolding twentyRead
+twenty-found s L a e r f = f ∙ ap (λ (l : List ℕ). twentyOf (pitchesBelow (centreAt l) (blockAt l) (getD s 16 0) (getD s 17 0))) (lines-cut s L a e)
 
 pub pitch-found : (s : List ℕ) (L : LinesAt s) (a : ℕ) (e : a ≡ linesStart s) (r : ℕ)
     → r ≡ median (pitchesBelow (centreAt (take (a + getD s 16 0 * 8 - a) (drop a s))) (blockAt (take (a + getD s 16 0 * 8 - a) (drop a s))) (getD s 16 0) (getD s 17 0)) → r ≡ pitchRead s

@@ -23,7 +23,7 @@ use Rattle.grouping.specs.Blocks.{noRect, blockFirsts, blockNumber, blocksOf}
 use Rattle.grouping.specs.Layouts.{Layout, TextLine, layout, textLine}
 use Rattle.grouping.specs.Lines.{SmoothedLine}
 use Rattle.grouping.specs.Pitches.{centreAt, blockAt, linesIn, pitchesBelow}
-use Rattle.grouping.specs.Readings.{differences, pitches, pitchesOf, twentyLineMeasure, summarized, summary, totalsOf}
+use Rattle.grouping.specs.Readings.{differences, pitches, pitchesOf, twentyOf, twentyLineMeasure, summarized, summary, totalsOf}
 use Rattle.grouping.specs.Words.{lineRecord, fields}
 use Rattle.grouping.proofs.ListLaws.{Each, keep-same, map-table}
 use Rattle.grouping.proofs.PitchLaws.{pitches-by-number}
@@ -131,7 +131,7 @@ module _ (p : LayoutParams) (w h : ℕ) (m : List ℕ) where
 
   pub twenty-genuine : (f : Frame) (skew : Float) → twentyHeld (viewOfLayout f skew (layout p w h m)) ≡ twentyLineMeasure (layout p w h m)
   unfolding twentyHeld twentyLineMeasure
-  twenty-genuine f skew = ap (λ (z : List ℕ). 10 * median z) (pitches-are f skew)
+  twenty-genuine f skew = ap twentyOf (pitches-are f skew)
 
   -- ---- `summarize`
 

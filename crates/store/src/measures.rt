@@ -12,6 +12,7 @@ use crate::answers::Answer;
 use crate::answers::Outcome;
 use crate::medians::height_read;
 use crate::medians::pitch_read;
+use crate::medians::twenty_read;
 use grouping::Summary;
 use grouping::Totals;
 use judging::BLOCKS;
@@ -40,8 +41,7 @@ pub fn twenty_line_measure(store: &[u32], ink: &[u8], kinds: &[u8]) -> Answer
     if number != 0 {
         return Answer::Refused(number);
     }
-    let pitch = pitch_read(store);
-    Answer::Told(10 * pitch)
+    Answer::Told(twenty_read(store))
 }
 
 // The summary of what the words say.

@@ -1,8 +1,6 @@
 // Medians over the lines of a store: counted in a table of the function's own, since a reading is lent no scratch.
 ghost use mathlib.Core.Path.{_≡_};
-ghost use Prim.Native.Nat.{_*_, _≤_};
-ghost use lib.ListN.{getD};
-ghost use Rattle.store.specs.stages.Areas.{linesStart, LinesAt, pitchRead, heightRead};
+ghost use Rattle.store.specs.stages.Areas.{linesStart, LinesAt, pitchRead, twentyRead, heightRead};
 use grouping::LINE_WORDS;
 use judging::BLOCKS;
 use judging::CAPACITY;
@@ -33,13 +31,31 @@ fn lines_start(store: &[u32]) -> usize
 // The median pitch of the lines of a store, 0 where there is none.
 pub fn pitch_read(store: &[u32]) -> u32
     requires { ⌜ LinesAt (now store) ⌝ }
-    ensures { λ r. ⌜ (r ≡ pitchRead (now (store .entry))) × (r ≤ 2 * getD (now (store .entry)) 4 0) ⌝ }
+    ensures { λ r. ⌜ r ≡ pitchRead (now (store .entry)) ⌝ }
 {
     let n = store[LINES] as usize;
     let at = lines_start(store);
     let end = at + n * LINE_WORDS;
     let mut table = [0u32; TABLE];
     grouping::median_pitch(
+        &store[at..end],
+        n,
+        store[BLOCKS] as usize,
+        store[FRAME_HEIGHT],
+        &mut table,
+    )
+}
+
+// Their twenty-line measure.
+pub fn twenty_read(store: &[u32]) -> u32
+    requires { ⌜ LinesAt (now store) ⌝ }
+    ensures { λ r. ⌜ r ≡ twentyRead (now (store .entry)) ⌝ }
+{
+    let n = store[LINES] as usize;
+    let at = lines_start(store);
+    let end = at + n * LINE_WORDS;
+    let mut table = [0u32; TABLE];
+    grouping::twenty_line_measure(
         &store[at..end],
         n,
         store[BLOCKS] as usize,

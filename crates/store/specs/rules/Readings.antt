@@ -16,7 +16,7 @@ use Rattle.levelling.specs.declared.Point.{Point}
 use Rattle.sorting.specs.Kinds.{glyphKind, speckKind}
 use Rattle.sorting.specs.Units.{median}
 use Rattle.grouping.specs.Pitches.{centreAt, blockAt, pitchesBelow}
-use Rattle.grouping.specs.Readings.{summarized, summaryNumbers, listed, dotList}
+use Rattle.grouping.specs.Readings.{twentyOf, summarized, summaryNumbers, listed, dotList}
 use Rattle.grouping.specs.Words.{lineWords, fields}
 use Rattle.grouping.specs.declared.summary.Summary.{Summary}
 use Rattle.grouping.specs.declared.summary.Totals.{Totals}
@@ -193,9 +193,9 @@ summaryHeld v =
     summarized (unitHeld (v .figures)) (v .skew) (v .frame .w) (v .frame .h) (totalsHeld (v .figures)) (median (pitchesHeld v))
     (median (fields lineWords glyphHeightAt (v .lines) (lineCount (v .figures))))
 
--- 10 times the median pitch, 0 without any
+-- the twenty-line measure of these
 unfoldable pub twentyHeld : View → ℕ
-twentyHeld v = 10 * median (pitchesHeld v)
+twentyHeld v = twentyOf (pitchesHeld v)
 
 -- how many page dots of one kind have their frame place in the box
 unfoldable pub dotCount : Frame → List ℕ → ℕ → Rect → ℕ

@@ -9,7 +9,7 @@ use Rattle.memory.specs.Limits.{maxPageSide, maxFrameWidth, maxFrameHeight, max
 use Rattle.levelling.specs.Frames.{Frame}
 use Rattle.grouping.specs.Dots.{frameOf, FrameWords, OneWay}
 use Rattle.sorting.specs.Units.{median}
-use Rattle.grouping.specs.Readings.{summarized}
+use Rattle.grouping.specs.Readings.{twentyOf, summarized}
 use Rattle.grouping.specs.declared.summary.Summary.{Summary}
 use Rattle.grouping.specs.Pitches.{centreAt, blockAt, pitchesBelow, BlockedLines}
 use Rattle.grouping.specs.Words.{fields, lineWords, blockWords, columnWords, glyphWords}
@@ -102,6 +102,10 @@ pitchRead s = median (pitchesBelow (centreAt (linesWords s)) (blockAt (linesWord
 
 unfoldable pub heightRead : List ℕ → ℕ
 heightRead s = median (fields lineWords glyphHeightAt (linesWords s) (getD s 16 0))
+
+-- their twenty-line measure
+unfoldable pub twentyRead : List ℕ → ℕ
+twentyRead s = twentyOf (pitchesBelow (centreAt (linesWords s)) (blockAt (linesWords s)) (getD s 16 0) (getD s 17 0))
 
 -- the twelve numbers of `summarize`, from the words of a store
 unfoldable pub summaryWords : List ℕ → Summary

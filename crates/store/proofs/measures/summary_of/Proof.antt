@@ -50,7 +50,7 @@ summarize-requires : tie.Need-summarize-requires
 summarize-requires c κs = search needs
 
 returns : tie.Need-returns
-returns c = summary-by (c .before .before .before .before .before .before .before .before .before .before .before .before .before .before .before .before .args .store .now) (c .summarize .result) (c .before .before .before .before .before .before .before .before .before .before .before .before .float-at .result) (c .before .before .before .before .before .before .before .before .before .before .before .float-at2 .result) (c .before .before .before .before .before .before .before .before .before .before .before .before .before .before .pitch-read .result) (c .before .before .before .before .before .before .before .before .before .before .before .before .before .height-read .result) (c .before .before .before .before .before .before .before .before .before .before .before .before .float-at .ensures) (c .before .before .before .before .before .before .before .before .before .before .before .float-at2 .ensures) (c .before .before .before .before .before .before .before .before .before .before .before .before .before .before .pitch-read .ensures .0) (c .before .before .before .before .before .before .before .before .before .before .before .before .before .height-read .ensures) (c .summarize .ensures)
+returns c = summary-by (c .before .before .before .before .before .before .before .before .before .before .before .before .before .before .before .before .args .store .now) (c .summarize .result) (c .before .before .before .before .before .before .before .before .before .before .before .before .float-at .result) (c .before .before .before .before .before .before .before .before .before .before .before .float-at2 .result) (c .before .before .before .before .before .before .before .before .before .before .before .before .before .before .pitch-read .result) (c .before .before .before .before .before .before .before .before .before .before .before .before .before .height-read .result) (c .before .before .before .before .before .before .before .before .before .before .before .before .float-at .ensures) (c .before .before .before .before .before .before .before .before .before .before .before .float-at2 .ensures) (c .before .before .before .before .before .before .before .before .before .before .before .before .before .before .pitch-read .ensures) (c .before .before .before .before .before .before .before .before .before .before .before .before .before .height-read .ensures) (c .summarize .ensures)
 
 pub summary-of-spec : {M : Type 1} → statement M
 summary-of-spec =

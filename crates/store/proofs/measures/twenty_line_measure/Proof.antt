@@ -13,18 +13,12 @@ judge-reading-requires c κs = search needs
 returns : tie.Need-returns
 returns c = told-refused ResultReading.twentyLines (c .before .before .before .before .before .args .store .now) (c .before .before .before .before .before .args .ink .now) (c .before .before .before .before .before .args .kinds .now) (c .before .judge-reading .result) (c .before .judge-reading .ensures) (c .if1 .taken)
 
-pitch-read-requires : tie.Need-pitch-read-requires
-pitch-read-requires c κs = lines-at (c .before .before .before .before .before .args .store .now) (c .before .before .before .before .before .args .ink .now) (c .before .before .before .before .before .args .kinds .now) (told-good ResultReading.twentyLines (c .before .before .before .before .before .args .store .now) (c .before .before .before .before .before .args .ink .now) (c .before .before .before .before .before .args .kinds .now) (c .before .judge-reading .result) (c .before .judge-reading .ensures) (c .if1 .left) .0)
-
-mul-t7 : tie.Need-mul-t7
-mul-t7 c =
-    let a = c .pitch-read .ensures .1 in
-    let b = lines-at (c .before .before .before .before .before .before .args .store .now) (c .before .before .before .before .before .before .args .ink .now) (c .before .before .before .before .before .before .args .kinds .now) (told-good ResultReading.twentyLines (c .before .before .before .before .before .before .args .store .now) (c .before .before .before .before .before .before .args .ink .now) (c .before .before .before .before .before .before .args .kinds .now) (c .before .before .judge-reading .result) (c .before .before .judge-reading .ensures) (c .before .if1 .left) .0) .low .2 in
-    omega (arith, a, b)
+twenty-read-requires : tie.Need-twenty-read-requires
+twenty-read-requires c κs = lines-at (c .before .before .before .before .before .args .store .now) (c .before .before .before .before .before .args .ink .now) (c .before .before .before .before .before .args .kinds .now) (told-good ResultReading.twentyLines (c .before .before .before .before .before .args .store .now) (c .before .before .before .before .before .args .ink .now) (c .before .before .before .before .before .args .kinds .now) (c .before .judge-reading .result) (c .before .judge-reading .ensures) (c .if1 .left) .0)
 
 returns-2 : tie.Need-returns-2
-returns-2 c = twenty-done (c .before .before .before .before .before .before .args .store .now) (c .before .before .before .before .before .before .args .ink .now) (c .before .before .before .before .before .before .args .kinds .now) (told-good ResultReading.twentyLines (c .before .before .before .before .before .before .args .store .now) (c .before .before .before .before .before .before .args .ink .now) (c .before .before .before .before .before .before .args .kinds .now) (c .before .before .judge-reading .result) (c .before .before .judge-reading .ensures) (c .before .if1 .left) .0) (c .before .before .judge-reading .result) (c .before .before .judge-reading .ensures) (c .before .if1 .left) (c .pitch-read .result) (c .pitch-read .ensures .0)
+returns-2 c = twenty-done (c .before .before .before .before .before .before .args .store .now) (c .before .before .before .before .before .before .args .ink .now) (c .before .before .before .before .before .before .args .kinds .now) (told-good ResultReading.twentyLines (c .before .before .before .before .before .before .args .store .now) (c .before .before .before .before .before .before .args .ink .now) (c .before .before .before .before .before .before .args .kinds .now) (c .before .before .judge-reading .result) (c .before .before .judge-reading .ensures) (c .before .if1 .left) .0) (c .before .before .judge-reading .result) (c .before .before .judge-reading .ensures) (c .before .if1 .left) (c .twenty-read .result) (c .twenty-read .ensures)
 
 pub twenty-line-measure-spec : {M : Type 1} → statement M
 twenty-line-measure-spec =
-    tie.close (tie.spec judge-reading-requires returns pitch-read-requires mul-t7 returns-2)
+    tie.close (tie.spec judge-reading-requires returns twenty-read-requires returns-2)

@@ -50,7 +50,7 @@ median-pitch-requires c κs =
     (L .lines, L .low, omega (arith, L .low, L .few-blocks))
 
 returns : tie.Need-returns
-returns c = (pitch-found (c .before .before .before .before .before .before .before .before .before .args .store .now) (c .before .before .before .before .before .before .before .before .before .pre) (c .before .before .before .before .before .before .lines-start .result) (c .before .before .before .before .before .before .lines-start .ensures) (c .before .median-pitch .result) (c .before .median-pitch .ensures .0), c .before .median-pitch .ensures .1)
+returns c = pitch-found (c .before .before .before .before .before .before .before .before .before .args .store .now) (c .before .before .before .before .before .before .before .before .before .pre) (c .before .before .before .before .before .before .lines-start .result) (c .before .before .before .before .before .before .lines-start .ensures) (c .before .median-pitch .result) (c .before .median-pitch .ensures .0)
 
 pub pitch-read-spec : {M : Type 1} → statement M
 pitch-read-spec =
