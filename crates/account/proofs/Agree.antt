@@ -483,7 +483,7 @@ module _ (L : Lent) (m : Account) (v : World) (g : Agrees L m v) (l : Lent) (ps 
           (λ h r d n. (
             spoiled-not h r d n,
             (λ t. badResult q (view-leaf h r n t .frame)) ∙ ap (badResult q) (sym (frame-of a 2)),
-            (λ t. shortResult q (view-leaf h r n t)) ∙ short-ruled (levellingOf a) (layoutOf a sheet) q,
+            (λ t. shortResult q (view-leaf h r n t)) ∙ short-ruled (levellingOf a) sheet (levellingOf a .frame .w) (levellingOf a .frame .h) (levellingOf a .ink) q,
           ))
 
       answer-result : N ≡ 0 → (valueResult q (viewOf s k) ≡ valueOf q (levellingOf a) (layoutOf a sheet)) × (fillResult q (viewOf s k) ≡ fillOf q (levellingOf a) (layoutOf a sheet))

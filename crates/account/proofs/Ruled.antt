@@ -2,24 +2,27 @@
 use mathlib.Core.Path.{_≡_, refl, ap}
 use mathlib.Core.List.{List}
 use Prim.Native.Nat.{ℕ}
+use lib.Dec.{ltb}
+use lib.ListN.{length}
 use Rattle.memory.specs.Words.{over}
 use Rattle.params.specs.declared.LayoutParams.{LayoutParams}
 use Rattle.levelling.specs.Planes.{Levelling}
-use Rattle.grouping.specs.Layouts.{Layout, layout}
+use Rattle.grouping.specs.Layouts.{layout}
 use Rattle.grouping.specs.Readings.{summaryNumbers}
 use Rattle.grouping.specs.declared.summary.Summary.{Summary}
 use Rattle.segmenting.specs.Figures.{figureWords}
 use Rattle.judging.specs.rules.Views.{viewOfLayout}
+use Rattle.listing.proofs.SheetOfPage.{sheet-of-layout}
 use Rattle.store.specs.rules.Readings.{filled, ResultReading, shortResult, valueResult, fillResult}
 use Rattle.store.specs.rules.Readings.Output.{words, floats}
 use Rattle.store.specs.rules.Readings.Which.{columns, rules, graphics, glyphs, lines, blocks}
-use Rattle.store.specs.rules.Readings.ResultReading.{figures, summary, list, twentyLines, countDots, dots}
+use Rattle.store.specs.rules.Readings.ResultReading.{figures, summary, list, twentyLines, countDots, dots, listing}
 use Rattle.store.proofs.GenuineLaws.{UnitFine}
 use Rattle.store.proofs.ReadingLaws.{figures-told, twenty-genuine, summary-genuine}
 use Rattle.account.specs.rules.Accounts.{shortOf, valueOf, fillOf}
 
-module _ (v : Levelling) (l : Layout) where
-  pub short-ruled : (q : ResultReading) → shortResult q (viewOfLayout (v .frame) (v .skew) l) ≡ shortOf q v l
+module _ (v : Levelling) (p : LayoutParams) (w h : ℕ) (m : List ℕ) where
+  pub short-ruled : (q : ResultReading) → shortResult q (viewOfLayout (v .frame) (v .skew) (layout p w h m)) ≡ shortOf q v (layout p w h m)
   unfolding viewOfLayout
   short-ruled (figures out) = refl
   short-ruled (summary out) = refl
@@ -32,8 +35,8 @@ module _ (v : Levelling) (l : Layout) where
   short-ruled twentyLines = refl
   short-ruled (countDots k r) = refl
   short-ruled (dots k r out) = refl
+  short-ruled (listing out) = ap (λ (z : List ℕ). ltb (length out) (length z)) (sheet-of-layout v p w h m)
 
-module _ (v : Levelling) (p : LayoutParams) (w h : ℕ) (m : List ℕ) where
   pub value-ruled : (q : ResultReading) → valueResult q (viewOfLayout (v .frame) (v .skew) (layout p w h m)) ≡ valueOf q v (layout p w h m)
   unfolding viewOfLayout figureWords
   value-ruled (figures out) = refl
@@ -47,6 +50,7 @@ module _ (v : Levelling) (p : LayoutParams) (w h : ℕ) (m : List ℕ) where
   value-ruled twentyLines = twenty-genuine p w h m (v .frame) (v .skew)
   value-ruled (countDots k r) = refl
   value-ruled (dots k r out) = refl
+  value-ruled (listing out) = ap length (sheet-of-layout v p w h m)
 
   pub fill-ruled : (q : ResultReading) → UnitFine (layout p w h m .unit) → fillResult q (viewOfLayout (v .frame) (v .skew) (layout p w h m)) ≡ fillOf q v (layout p w h m)
   unfolding viewOfLayout
@@ -61,3 +65,4 @@ module _ (v : Levelling) (p : LayoutParams) (w h : ℕ) (m : List ℕ) where
   fill-ruled twentyLines U = refl
   fill-ruled (countDots k r) U = refl
   fill-ruled (dots k r out) U = refl
+  fill-ruled (listing out) U = ap (λ (z : List ℕ). words (over z out)) (sheet-of-layout v p w h m)

@@ -43,6 +43,8 @@ use Rattle.store.proofs.twenty_line_measure as twenty-line-measure
 use Rattle.store.proofs.twenty_line_measure.Reads as twenty-line-measure-reads
 use Rattle.store.proofs.read_summary as read-summary
 use Rattle.store.proofs.read_summary.Reads as read-summary-reads
+use Rattle.store.proofs.write_sheet as write-sheet
+use Rattle.store.proofs.write_sheet.Reads as write-sheet-reads
 use Rattle.judging.specs.rules.Leaves.{leafOf}
 use Rattle.store.specs.rules.Readings.{LevelReading, ResultReading, Which}
 use Rattle.store.specs.rules.Readings.Output.{words, integers, none, floats}
@@ -136,3 +138,7 @@ twenty-line-measure-tied κs a r s h = record { left = refl; said = h }
 pub read-summary-tied : (κs : Lfts 4) (a : ArgsD read-summary.signature κs) (r : ResD read-summary.signature κs) (s : AtExit read-summary.ended κs) → read-summary-reads.Post κs a r s
     → Did (Act.readResult (ResultReading.summary (now (a .1 .1 .1 .0)))) (world (now (a .0)) (now (a .1 .0)) (now (a .1 .1 .0))) (told (outcomeNumber r) 0 (floats (now (s .1 .1 .1 .0)))) (world (now (a .0)) (now (a .1 .0)) (now (a .1 .1 .0)))
 read-summary-tied κs a r s h = record { left = refl; said = h }
+
+pub write-sheet-tied : (κs : Lfts 4) (a : ArgsD write-sheet.signature κs) (r : ResD write-sheet.signature κs) (s : AtExit write-sheet.ended κs) → write-sheet-reads.Post κs a r s
+    → Did (Act.readResult (ResultReading.listing (now (a .1 .1 .1 .0)))) (world (now (a .0)) (now (a .1 .0)) (now (a .1 .1 .0))) (told (answerNumber r) (answerValue r) (words (now (s .1 .1 .1 .0)))) (world (now (a .0)) (now (a .1 .0)) (now (a .1 .1 .0)))
+write-sheet-tied κs a r s h = record { left = refl; said = h }

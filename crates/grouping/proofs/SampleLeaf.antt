@@ -5,39 +5,13 @@ use mathlib.Core.List.{List, [], _∷_}
 use Prim.Native.Nat.{ℕ}
 use lib.Ieee.{Float, binary64, ofBits}
 use Rattle.params.specs.declared.LayoutParams.{LayoutParams}
+use Rattle.params.specs.ShowSheets.{showSheet}
 use Rattle.params.specs.Valid.{valid}
 use Rattle.labelling.specs.declared.rect.Rect.{Rect}
 use Rattle.rounding.specs.Lengths.{float}
 use Rattle.grouping.specs.Layouts.{Page, page, layoutRefusal}
 use Rattle.grouping.specs.Readings.{summary, twentyLineMeasure, dotList}
-use Rattle.grouping.specs.Figures.{figures, headFigures, lineFigures, blockFigures, glyphFigures, columnFigures}
 use Rattle.grouping.proofs.Computed.{computed}
-
-abbrev half : Float
-half = ofBits binary64 0x3FE0_0000_0000_0000
-
--- the show program's sheet
-abbrev pub showSheet : LayoutParams
-showSheet = record {
-  «glyph_min_area» = 1;
-  «glyph_max_extent_frac» = float 1;
-  «xheight_min_area» = 1;
-  «xheight_fallback_px» = float 1;
-  «rule_min_len_xh» = float 4;
-  «rule_max_thick_xh» = half;
-  «rule_run_xh» = float 4;
-  «graphic_min_xh» = float 8;
-  «smear_xh» = float 1;
-  «line_min_glyphs» = 1;
-  «line_min_height_xh» = half;
-  «line_max_height_xh» = float 3;
-  «block_min_overlap» = half;
-  «block_gap_margin_lines» = half;
-  «block_max_gap_lines» = float 3;
-  «column_gap_xh» = float 1;
-  «column_cover_frac» = float 0;
-  «shear_min_deg» = float 0;
-}
 
 -- rows 00, 50, 50, 00
 abbrev pub sampleMask : List ℕ
@@ -53,20 +27,6 @@ sampleLeaf = page sampleMask 6 4 (float 0) (float 0) showSheet showSheet
 pub sample-sheet-valid : valid showSheet ≡ true
 unfolding computed
 sample-sheet-valid = refl
-
--- exactly the figures of 01's printed sheet
-pub sample-figures :
-    figures sampleLeaf
-    ≡ (0 ∷ 1 ∷ 6 ∷ 4 ∷ 6 ∷ 4 ∷ 0x4000_0000_0000_0000 ∷ [])
-    ∷ (1 ∷ 1 ∷ 1 ∷ 3 ∷ 2 ∷ 2 ∷ 4 ∷ 2 ∷ 0 ∷ [])
-    ∷ (2 ∷ 1 ∷ 1 ∷ 3 ∷ 2 ∷ 1 ∷ [])
-    ∷ (5 ∷ 1 ∷ 1 ∷ 1 ∷ 2 ∷ 2 ∷ 0 ∷ [])
-    ∷ (5 ∷ 3 ∷ 1 ∷ 3 ∷ 2 ∷ 2 ∷ 0 ∷ [])
-    ∷ (6 ∷ 1 ∷ 3 ∷ [])
-    ∷ (7 ∷ 4 ∷ 0 ∷ 0 ∷ 0 ∷ 4 ∷ 0 ∷ [])
-    ∷ []
-unfolding computed figures headFigures lineFigures blockFigures glyphFigures columnFigures
-sample-figures = refl
 
 -- its kinds, dot by dot
 pub sample-kinds :

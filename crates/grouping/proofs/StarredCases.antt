@@ -16,7 +16,7 @@ use Rattle.sorting.specs.Units.{median}
 use Rattle.grouping.specs.Smoothing.{smoothed}
 use Rattle.grouping.specs.Columns.{column, columnsOf}
 use Rattle.grouping.proofs.Computed.{computed}
-use Rattle.grouping.proofs.SampleLeaf.{showSheet}
+use Rattle.params.specs.ShowSheets.{showSheet}
 
 -- 2.5 and 0.5 as the logic has them, 5 and 1 times 2 to the power -1
 abbrev two-and-a-half : Float

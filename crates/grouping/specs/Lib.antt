@@ -22,5 +22,3 @@ pub mod Readings
 pub mod Pitches
 -- the dot list over words
 pub mod Dots
--- the figures of the printed sheet
-pub mod Figures

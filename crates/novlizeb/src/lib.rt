@@ -25,3 +25,4 @@ pub use results::novlizeb_read_lines;
 pub use results::novlizeb_read_rules;
 pub use results::novlizeb_read_summary;
 pub use results::novlizeb_twenty_line_measure;
+pub use results::novlizeb_write_sheet;

@@ -156,3 +156,16 @@ pub extern "C" fn novlizeb_read_dots(
 {
     word_of(store::read_dots(store, ink, kinds, kind, Rect { x0, y0, x1, y1 }, out))
 }
+
+// The printed sheet: how many bytes, and these.
+#[no_mangle]
+pub extern "C" fn novlizeb_write_sheet(
+    store: &[u32],
+    ink: &[u8],
+    kinds: &[u8],
+    out: &mut [u8],
+) -> u64
+    ensures { λ r. ⌜ (r ≡ toldWord (resultTold (ResultReading.listing (now (out .entry))) (now (store .entry)) (now (ink .entry)) (now (kinds .entry)))) × (words (now (out .exit)) ≡ resultTold (ResultReading.listing (now (out .entry))) (now (store .entry)) (now (ink .entry)) (now (kinds .entry)) .output) ⌝ }
+{
+    word_of(store::write_sheet(store, ink, kinds, out))
+}

@@ -5,3 +5,5 @@ pub mod Valid
 pub mod Facts
 -- a sheet of its eighteen numbers
 pub mod Sheets
+-- the show program's sheet
+pub mod ShowSheets

@@ -69,7 +69,7 @@ chosen false false false false l p x q r h g = tt
 doubles : (fs : List Float) → ((k : ℕ) → T (fits binary64 (numberAt fs k))) → (bs : List ℕ) (x : ℕ) (w : List ℕ) (o : Outputs) → Doubles (actOf fs bs x w o)
 unfolding actOf leafFrom sheetFrom
 doubles fs known bs x w o =
-    chosen (eqb (wordAt w opAt) 1) (eqb (wordAt w opAt) 2) (leb 3 (wordAt w opAt) && leb (wordAt w opAt) 6) (leb 7 (wordAt w opAt) && leb (wordAt w opAt) 17)
+    chosen (eqb (wordAt w opAt) 1) (eqb (wordAt w opAt) 2) (leb 3 (wordAt w opAt) && leb (wordAt w opAt) 6) (leb 7 (wordAt w opAt) && leb (wordAt w opAt) 18)
     (leafFrom w fs bs) (sheetFrom w fs) (min (wordAt w scratchAt) x) (levelReading w bs o) (resultReading w o)
     (known (wordAt w turnsAt), known (wordAt w turnsAt + 1)) (known (wordAt w sheetAt + 1))
 

@@ -1,11 +1,11 @@
 -- What the calls of a script do, over plain values: the parts of `play` cite these.
 use mathlib.Core.Path.{_≡_, refl, sym, ap, ap₂, _∙_, subst}
-use mathlib.Core.Bool.{Bool, true, false, _&&_}
+use mathlib.Core.Bool.{Bool, true, false, cond, _&&_}
 use mathlib.Core.List.{List, [], _++_}
 use Prim.Native.Nat.{ℕ, _+_, min}
 use native.Mathlib.Omega.{arith}
 use borrow.Author.Tests.{eq-eqb, ne-eqb}
-use lib.Dec.{leb}
+use lib.Dec.{eqb, leb}
 use lib.IntN.{ℤ}
 use lib.Ieee.{Float}
 use lib.ListN.{length, take, drop, take-append-drop}
@@ -17,11 +17,11 @@ use Rattle.judging.specs.rules.Leaves.{leafOf}
 use Rattle.store.specs.rules.Readings.{LevelReading, ResultReading, Which}
 use Rattle.store.specs.rules.Readings.Output.{none, words, integers, floats}
 use Rattle.store.specs.rules.Readings.LevelReading.{point, box, gray, frameFigures}
-use Rattle.store.specs.rules.Readings.ResultReading.{figures, summary, list, twentyLines, countDots, dots}
+use Rattle.store.specs.rules.Readings.ResultReading.{figures, summary, list, twentyLines, countDots, dots, listing}
 use Rattle.store.specs.rules.Outcomes.{Left, left, levelLeft, segmentLeft, clearLeft, Told, told, levelTold, resultTold}
 use Rattle.account.specs.rules.Calls.{Act, world, call, says}
 use Rattle.account.specs.rules.Calls.Act.{level, segment, clear, readLevel, readResult}
-use Rattle.scripts.specs.rules.Scripts.{Outputs, outputs, Memory, memory, opAt, storeAt, inkAt, kindsAt, scratchAt, outAt, widthAt, heightAt, capacityAt, kindAt, leftAt, topAt, turnsAt, cut, lentOf, bytesOf, numberAt, sheetFrom, boxOf, leafFrom, listNamed, levelReading, wordsReading, resultReading, lentBy, actOf, fillsGray, putBack, stepped}
+use Rattle.scripts.specs.rules.Scripts.{Outputs, outputs, Memory, memory, opAt, storeAt, inkAt, kindsAt, scratchAt, outAt, widthAt, heightAt, capacityAt, kindAt, leftAt, topAt, turnsAt, cut, lentOf, bytesOf, numberAt, sheetFrom, boxOf, leafFrom, listNamed, levelReading, wordsReading, resultReading, lentBy, actOf, fillsBytes, putBack, stepped}
 use Rattle.scripts.specs.stages.Playing.{leftBack, Filled, Did}
 
 -- ---- front parts
@@ -118,7 +118,7 @@ module _ (w bs s ws gs : List ℕ) (is : List ℤ) where
   abbrev pub LevelRead : ℕ → List ℕ → List ℕ → List ℤ → Type 0
   LevelRead r ws' gs' is' =
       (ns : List Float)
-      → Filled (fillsGray (readLevel (levelReading w bs (outputs ws gs is ns)))) (levelTold (levelReading w bs (outputs ws gs is ns)) s) r 0 (outputs ws gs is ns) (outputs ws' gs' is' ns)
+      → Filled (fillsBytes (readLevel (levelReading w bs (outputs ws gs is ns)))) (levelTold (levelReading w bs (outputs ws gs is ns)) s) r 0 (outputs ws gs is ns) (outputs ws' gs' is' ns)
 
   is-point : wordAt w opAt ≡ 3 → (o : Outputs) → levelReading w bs o ≡ point (wordAt w leftAt) (wordAt w topAt) (lentOf w outAt (o .integers))
   unfolding levelReading
@@ -137,9 +137,9 @@ module _ (w bs s ws gs : List ℕ) (is : List ℤ) where
   is-frame y x z o = simp (ne-eqb (wordAt w opAt) 3 y, ne-eqb (wordAt w opAt) 4 x, ne-eqb (wordAt w opAt) 5 z)
 
   read-as : (q : LevelReading) (ns : List Float) → levelReading w bs (outputs ws gs is ns) ≡ q → {r : ℕ} {o : Outputs}
-      → Filled (fillsGray (readLevel q)) (levelTold q s) r 0 (outputs ws gs is ns) o
-      → Filled (fillsGray (readLevel (levelReading w bs (outputs ws gs is ns)))) (levelTold (levelReading w bs (outputs ws gs is ns)) s) r 0 (outputs ws gs is ns) o
-  read-as q ns e {r} {o} h = subst (λ (q : LevelReading). Filled (fillsGray (readLevel q)) (levelTold q s) r 0 (outputs ws gs is ns) o) (sym e) h
+      → Filled (fillsBytes (readLevel q)) (levelTold q s) r 0 (outputs ws gs is ns) o
+      → Filled (fillsBytes (readLevel (levelReading w bs (outputs ws gs is ns)))) (levelTold (levelReading w bs (outputs ws gs is ns)) s) r 0 (outputs ws gs is ns) o
+  read-as q ns e {r} {o} h = subst (λ (q : LevelReading). Filled (fillsBytes (readLevel q)) (levelTold q s) r 0 (outputs ws gs is ns) o) (sym e) h
 
   module _ {op : ℕ} (eo : op ≡ wordAt w opAt) {n : ℕ} {r : ℕ} where
     pub read-point : op ≡ 3 → n ≡ cut w outAt is → {x y : ℕ} → x ≡ wordAt w leftAt → y ≡ wordAt w topAt
@@ -214,11 +214,12 @@ module _ (w out s i k : List ℕ) {op : ℕ} (eo : op ≡ wordAt w opAt) {a b n 
       (simp (ne-eqb (wordAt w opAt) 7 (λ (q : wordAt w opAt ≡ 7). y (eo ∙ q)), ne-eqb (wordAt w opAt) 11 (λ (q : wordAt w opAt ≡ 11). z (eo ∙ q))))
       (h ∙ ap (λ (l : ℕ). resultTold (list (listNamed l) out) s i k) eo)
 
-module _ (w s i k ws : List ℕ) (ns : List Float) where
+module _ (w s i k ws gs : List ℕ) (ns : List Float) where
   -- what `read_results` says of its outputs
-  abbrev pub ResultRead : ℕ → ℕ → List ℕ → List Float → Type 0
-  ResultRead a b ws' ns' =
-      (gs : List ℕ) (is : List ℤ) → Filled false (resultTold (resultReading w (outputs ws gs is ns)) s i k) a b (outputs ws gs is ns) (outputs ws' gs is ns')
+  abbrev pub ResultRead : ℕ → ℕ → List ℕ → List ℕ → List Float → Type 0
+  ResultRead a b ws' gs' ns' =
+      (is : List ℤ)
+      → Filled (fillsBytes (readResult (resultReading w (outputs ws gs is ns)))) (resultTold (resultReading w (outputs ws gs is ns)) s i k) a b (outputs ws gs is ns) (outputs ws' gs' is ns')
 
   is-summary : wordAt w opAt ≡ 8 → (o : Outputs) → resultReading w o ≡ summary (lentOf w outAt (o .numbers))
   unfolding resultReading
@@ -232,37 +233,60 @@ module _ (w s i k ws : List ℕ) (ns : List Float) where
   unfolding resultReading
   is-count y x z o = simp (ne-eqb (wordAt w opAt) 8 y, ne-eqb (wordAt w opAt) 9 x, eq-eqb (wordAt w opAt) 10 z)
 
-  is-words : (wordAt w opAt ≡ 8 → ⊥) → (wordAt w opAt ≡ 9 → ⊥) → (wordAt w opAt ≡ 10 → ⊥) → (o : Outputs) → resultReading w o ≡ wordsReading w (lentOf w outAt (o .words))
+  is-sheet : (wordAt w opAt ≡ 8 → ⊥) → (wordAt w opAt ≡ 9 → ⊥) → (wordAt w opAt ≡ 10 → ⊥) → wordAt w opAt ≡ 18 → (o : Outputs) → resultReading w o ≡ listing (lentOf w outAt (o .gray))
   unfolding resultReading
-  is-words y x z o = simp (ne-eqb (wordAt w opAt) 8 y, ne-eqb (wordAt w opAt) 9 x, ne-eqb (wordAt w opAt) 10 z)
+  is-sheet y x z t o = simp (ne-eqb (wordAt w opAt) 8 y, ne-eqb (wordAt w opAt) 9 x, ne-eqb (wordAt w opAt) 10 z, eq-eqb (wordAt w opAt) 18 t)
 
-  result-as : (q : ResultReading) (gs : List ℕ) (is : List ℤ) → resultReading w (outputs ws gs is ns) ≡ q → {a b : ℕ} {o : Outputs}
-      → Filled false (resultTold q s i k) a b (outputs ws gs is ns) o → Filled false (resultTold (resultReading w (outputs ws gs is ns)) s i k) a b (outputs ws gs is ns) o
-  result-as q gs is e {a} {b} {o} h = subst (λ (q : ResultReading). Filled false (resultTold q s i k) a b (outputs ws gs is ns) o) (sym e) h
+  is-words : (wordAt w opAt ≡ 8 → ⊥) → (wordAt w opAt ≡ 9 → ⊥) → (wordAt w opAt ≡ 10 → ⊥) → (wordAt w opAt ≡ 18 → ⊥) → (o : Outputs)
+      → resultReading w o ≡ wordsReading w (lentOf w outAt (o .words))
+  unfolding resultReading
+  is-words y x z t o = simp (ne-eqb (wordAt w opAt) 8 y, ne-eqb (wordAt w opAt) 9 x, ne-eqb (wordAt w opAt) 10 z, ne-eqb (wordAt w opAt) 18 t)
+
+  -- those that fill words fill no bytes
+  words-only : (out : List ℕ) → fillsBytes (readResult (wordsReading w out)) ≡ false
+  unfolding wordsReading
+  words-only out = go (eqb (wordAt w opAt) 7) (eqb (wordAt w opAt) 11)
+    where
+      go : (b c : Bool) → fillsBytes (readResult (cond b (figures out) (cond c (dots (wordAt w kindAt) (boxOf w) out) (list (listNamed (wordAt w opAt)) out)))) ≡ false
+      go true c = refl
+      go false true = refl
+      go false false = refl
+
+  result-as : (q : ResultReading) (is : List ℤ) → resultReading w (outputs ws gs is ns) ≡ q → {a b : ℕ} {o : Outputs}
+      → Filled (fillsBytes (readResult q)) (resultTold q s i k) a b (outputs ws gs is ns) o
+      → Filled (fillsBytes (readResult (resultReading w (outputs ws gs is ns)))) (resultTold (resultReading w (outputs ws gs is ns)) s i k) a b (outputs ws gs is ns) o
+  result-as q is e {a} {b} {o} h = subst (λ (q : ResultReading). Filled (fillsBytes (readResult q)) (resultTold q s i k) a b (outputs ws gs is ns) o) (sym e) h
 
   module _ {op : ℕ} (eo : op ≡ wordAt w opAt) {a b r v : ℕ} (ea : a ≡ r) (eb : b ≡ v) where
     pub read-summary : op ≡ 8 → {n : ℕ} → n ≡ cut w outAt ns → {out : List Float} → told r v (floats out) ≡ resultTold (summary (take n ns)) s i k
-        → length out ≡ length (take n ns) → ResultRead a b ws (out ++ drop n ns)
-    read-summary z {n} en {out} h long gs is =
-        result-as _ gs is (is-summary (sym eo ∙ z) (outputs ws gs is ns))
+        → length out ≡ length (take n ns) → ResultRead a b ws gs (out ++ drop n ns)
+    read-summary z {n} en {out} h long is =
+        result-as _ is (is-summary (sym eo ∙ z) (outputs ws gs is ns))
         (filled-numbers false _ a b n ws gs is ns out ((λ j. told (ea j) (eb j) (floats out)) ∙ (h ∙ (λ j. resultTold (summary (take (en j) ns)) s i k))) (long ∙ sym (part-long (wordAt w outAt) n ns en)))
 
-    pub read-twenty : (op ≡ 8 → ⊥) → op ≡ 9 → told r v none ≡ resultTold twentyLines s i k → ResultRead a b ws ns
-    read-twenty y z h gs is =
-        result-as _ gs is (is-twenty (λ q. y (eo ∙ q)) (sym eo ∙ z) (outputs ws gs is ns))
+    pub read-twenty : (op ≡ 8 → ⊥) → op ≡ 9 → told r v none ≡ resultTold twentyLines s i k → ResultRead a b ws gs ns
+    read-twenty y z h is =
+        result-as _ is (is-twenty (λ q. y (eo ∙ q)) (sym eo ∙ z) (outputs ws gs is ns))
         (filled-none false _ a b 0 ws gs is ns ((λ j. told (ea j) (eb j) none) ∙ h))
 
     pub read-count : (op ≡ 8 → ⊥) → (op ≡ 9 → ⊥) → op ≡ 10 → {kind : ℕ} → kind ≡ wordAt w kindAt → {x : Rect} → x ≡ boxOf w
-        → told r v none ≡ resultTold (countDots kind x) s i k → ResultRead a b ws ns
-    read-count y x z ek er h gs is =
-        result-as _ gs is (is-count (λ q. y (eo ∙ q)) (λ q. x (eo ∙ q)) (sym eo ∙ z) (outputs ws gs is ns))
+        → told r v none ≡ resultTold (countDots kind x) s i k → ResultRead a b ws gs ns
+    read-count y x z ek er h is =
+        result-as _ is (is-count (λ q. y (eo ∙ q)) (λ q. x (eo ∙ q)) (sym eo ∙ z) (outputs ws gs is ns))
         (filled-none false _ a b 0 ws gs is ns ((λ j. told (ea j) (eb j) none) ∙ (h ∙ (λ j. resultTold (countDots (ek j) (er j)) s i k))))
 
-  pub read-words : {op : ℕ} → op ≡ wordAt w opAt → (op ≡ 8 → ⊥) → (op ≡ 9 → ⊥) → (op ≡ 10 → ⊥) → {n : ℕ} → n ≡ cut w outAt ws → {a b : ℕ} {out : List ℕ}
-      → told a b (words out) ≡ resultTold (wordsReading w (take n ws)) s i k → length out ≡ length (take n ws) → ResultRead a b (out ++ drop n ws) ns
-  read-words eo y x z {n} en {a} {b} {out} h long gs is =
-      result-as _ gs is (is-words (λ q. y (eo ∙ q)) (λ q. x (eo ∙ q)) (λ q. z (eo ∙ q)) (outputs ws gs is ns))
-      (filled-words _ a b n ws gs is ns out (h ∙ (λ j. resultTold (wordsReading w (take (en j) ws)) s i k)) (long ∙ sym (part-long (wordAt w outAt) n ws en)))
+    pub read-sheet : (op ≡ 8 → ⊥) → (op ≡ 9 → ⊥) → (op ≡ 10 → ⊥) → op ≡ 18 → {n : ℕ} → n ≡ cut w outAt gs → {out : List ℕ} → told r v (words out) ≡ resultTold (listing (take n gs)) s i k
+        → length out ≡ length (take n gs) → ResultRead a b ws (out ++ drop n gs) ns
+    read-sheet y x t z {n} en {out} h long is =
+        result-as _ is (is-sheet (λ q. y (eo ∙ q)) (λ q. x (eo ∙ q)) (λ q. t (eo ∙ q)) (sym eo ∙ z) (outputs ws gs is ns))
+        (filled-gray _ a b n ws gs is ns out ((λ j. told (ea j) (eb j) (words out)) ∙ (h ∙ (λ j. resultTold (listing (take (en j) gs)) s i k))) (long ∙ sym (part-long (wordAt w outAt) n gs en)))
+
+  pub read-words : {op : ℕ} → op ≡ wordAt w opAt → (op ≡ 8 → ⊥) → (op ≡ 9 → ⊥) → (op ≡ 10 → ⊥) → (op ≡ 18 → ⊥) → {n : ℕ} → n ≡ cut w outAt ws → {a b : ℕ} {out : List ℕ}
+      → told a b (words out) ≡ resultTold (wordsReading w (take n ws)) s i k → length out ≡ length (take n ws) → ResultRead a b (out ++ drop n ws) gs ns
+  read-words eo y x z t {n} en {a} {b} {out} h long is =
+      result-as _ is (is-words (λ q. y (eo ∙ q)) (λ q. x (eo ∙ q)) (λ q. z (eo ∙ q)) (λ q. t (eo ∙ q)) (outputs ws gs is ns))
+      (subst (λ (g : Bool). Filled g (resultTold (wordsReading w (lentOf w outAt ws)) s i k) a b (outputs ws gs is ns) (outputs (out ++ drop n ws) gs is ns)) (sym (words-only (lentOf w outAt ws)))
+      (filled-words _ a b n ws gs is ns out (h ∙ (λ j. resultTold (wordsReading w (take (en j) ws)) s i k)) (long ∙ sym (part-long (wordAt w outAt) n ws en))))
 
 -- ---- one call
 
@@ -301,7 +325,7 @@ module _ (fs : List Float) (bs : List ℕ) (x : ℕ) (w s i k : List ℕ) (o : O
         (ea ∙ ap (λ (u : Left). u .number) h, eb, λ j. memory (world (h j .store) (sym (part-back (wordAt w inkAt) i) j) (h j .plane)) o)
 
     pub did-read-level : (op ≡ 1 → ⊥) → (op ≡ 2 → ⊥) → (leb 3 op && leb op 6) ≡ true → {n : ℕ} → n ≡ cut w storeAt s → {o' : Outputs}
-        → Filled (fillsGray (readLevel (levelReading w bs o))) (levelTold (levelReading w bs o) (take n s)) r 0 o o'
+        → Filled (fillsBytes (readLevel (levelReading w bs o))) (levelTold (levelReading w bs o) (take n s)) r 0 o o'
         → Did fs bs x w (memory (world s i k) o) a b (memory (world s i k) o')
     unfolding actOf
     did-read-level y z t en F =
@@ -310,29 +334,29 @@ module _ (fs : List Float) (bs : List ℕ) (x : ℕ) (w s i k : List ℕ) (o : O
           ea ∙ (F .number ∙ ap (λ (n : ℕ). levelTold (levelReading w bs o) (take n s) .number) en),
           eb ∙ (F .value ∙ ap (λ (n : ℕ). levelTold (levelReading w bs o) (take n s) .value) en),
           λ j. memory (world (sym (part-back (wordAt w storeAt) s) j) (sym (part-back (wordAt w inkAt) i) j) (sym (part-back (wordAt w kindsAt) k) j))
-              ((F .outputs ∙ ap (λ (n : ℕ). putBack (levelTold (levelReading w bs o) (take n s) .output) (fillsGray (readLevel (levelReading w bs o))) o) en) j),
+              ((F .outputs ∙ ap (λ (n : ℕ). putBack (levelTold (levelReading w bs o) (take n s) .output) (fillsBytes (readLevel (levelReading w bs o))) o) en) j),
         )
 
-    pub did-clear : {s' : List ℕ} → (op ≡ 1 → ⊥) → (op ≡ 2 → ⊥) → (leb 3 op && leb op 6) ≡ false → (leb 7 op && leb op 17) ≡ false → {n : ℕ} → n ≡ cut w storeAt s
+    pub did-clear : {s' : List ℕ} → (op ≡ 1 → ⊥) → (op ≡ 2 → ⊥) → (leb 3 op && leb op 6) ≡ false → (leb 7 op && leb op 18) ≡ false → {n : ℕ} → n ≡ cut w storeAt s
         → left r s' [] ≡ clearLeft (take n s) → length s' ≡ length (take n s) → Did fs bs x w (memory (world s i k) o) a b (memory (world (s' ++ drop n s) i k) o)
     unfolding actOf
     did-clear {s'} y z t u {n} en h long =
         let g : left r (s' ++ drop n s) ([] ++ drop 0 []) ≡ leftBack (clearLeft (lentOf w storeAt s)) s [] =
         left-back (clearLeft (lentOf w storeAt s)) r n 0 s' [] s [] (h ∙ (λ j. clearLeft (take (en j) s))) (long ∙ sym (part-long (wordAt w storeAt) n s en)) refl in
         did-as clear
-        (simp (ne-eqb (wordAt w opAt) 1 (not-here y), ne-eqb (wordAt w opAt) 2 (not-here z), test-here (λ (n : ℕ). leb 3 n && leb n 6) t, test-here (λ (n : ℕ). leb 7 n && leb n 17) u))
+        (simp (ne-eqb (wordAt w opAt) 1 (not-here y), ne-eqb (wordAt w opAt) 2 (not-here z), test-here (λ (n : ℕ). leb 3 n && leb n 6) t, test-here (λ (n : ℕ). leb 7 n && leb n 18) u))
         (ea ∙ ap (λ (u : Left). u .number) g, eb, λ j. memory (world (g j .store) (sym (part-back (wordAt w inkAt) i) j) (sym (part-back (wordAt w kindsAt) k) j)) o)
 
-  pub did-read-result : (op ≡ 1 → ⊥) → (op ≡ 2 → ⊥) → (leb 3 op && leb op 6) ≡ false → (leb 7 op && leb op 17) ≡ true
+  pub did-read-result : (op ≡ 1 → ⊥) → (op ≡ 2 → ⊥) → (leb 3 op && leb op 6) ≡ false → (leb 7 op && leb op 18) ≡ true
       → {n m l : ℕ} → n ≡ cut w storeAt s → m ≡ cut w inkAt i → l ≡ cut w kindsAt k → {a b : ℕ} {o' : Outputs}
-      → Filled false (resultTold (resultReading w o) (take n s) (take m i) (take l k)) a b o o' → Did fs bs x w (memory (world s i k) o) a b (memory (world s i k) o')
+      → Filled (fillsBytes (readResult (resultReading w o))) (resultTold (resultReading w o) (take n s) (take m i) (take l k)) a b o o' → Did fs bs x w (memory (world s i k) o) a b (memory (world s i k) o')
   unfolding actOf
   did-read-result y z t u {n} {m} {l} en em el F =
       let e : resultTold (resultReading w o) (take n s) (take m i) (take l k) ≡ resultTold (resultReading w o) (lentOf w storeAt s) (lentOf w inkAt i) (lentOf w kindsAt k) =
       (λ j. resultTold (resultReading w o) (take (en j) s) (take (em j) i) (take (el j) k)) in
       did-as (readResult (resultReading w o))
-      (simp (ne-eqb (wordAt w opAt) 1 (not-here y), ne-eqb (wordAt w opAt) 2 (not-here z), test-here (λ (n : ℕ). leb 3 n && leb n 6) t, test-here (λ (n : ℕ). leb 7 n && leb n 17) u)) (
+      (simp (ne-eqb (wordAt w opAt) 1 (not-here y), ne-eqb (wordAt w opAt) 2 (not-here z), test-here (λ (n : ℕ). leb 3 n && leb n 6) t, test-here (λ (n : ℕ). leb 7 n && leb n 18) u)) (
         F .number ∙ ap (λ (z : Told). z .number) e,
         F .value ∙ ap (λ (z : Told). z .value) e,
-        λ j. memory (world (sym (part-back (wordAt w storeAt) s) j) (sym (part-back (wordAt w inkAt) i) j) (sym (part-back (wordAt w kindsAt) k) j)) ((F .outputs ∙ ap (λ (z : Told). putBack (z .output) false o) e) j),
+        λ j. memory (world (sym (part-back (wordAt w storeAt) s) j) (sym (part-back (wordAt w inkAt) i) j) (sym (part-back (wordAt w kindsAt) k) j)) ((F .outputs ∙ ap (λ (z : Told). putBack (z .output) (fillsBytes (readResult (resultReading w o))) o) e) j),
       )

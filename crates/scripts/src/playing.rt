@@ -1,6 +1,5 @@
 // A script of calls, played on one store, its planes and four outputs: what each word of a call means is in specs/rules/Scripts.
 ghost use mathlib.Core.Path.{_≡_};
-ghost use mathlib.Core.Bool.{false};
 ghost use mathlib.Core.List.{List};
 ghost use Prim.Native.Nat.{ℕ, _+_, _*_, _≤_, min};
 ghost use lib.IntN.{ℤ};
@@ -12,7 +11,7 @@ ghost use Rattle.store.specs.rules.Readings.{ResultReading};
 ghost use Rattle.store.specs.rules.Readings.Output.{words};
 ghost use Rattle.store.specs.rules.Outcomes.{left, levelLeft, segmentLeft, told, levelTold, resultTold};
 ghost use Rattle.account.specs.rules.Calls.{Act, world};
-ghost use Rattle.scripts.specs.rules.Scripts.{scriptOf, outputs, memory, callWords, storeAt, inkAt, kindsAt, scratchAt, wordsOf, lentOf, sheetFrom, leafFrom, listNamed, levelReading, wordsReading, resultReading, fillsGray, Played};
+ghost use Rattle.scripts.specs.rules.Scripts.{scriptOf, outputs, memory, callWords, storeAt, inkAt, kindsAt, scratchAt, wordsOf, lentOf, sheetFrom, leafFrom, listNamed, levelReading, wordsReading, resultReading, fillsBytes, Played};
 ghost use Rattle.scripts.specs.stages.Playing.{leftBack, Filled, Did};
 use crate::script::box_of;
 use crate::script::bytes_of;
@@ -55,6 +54,7 @@ use store::rect_to_page;
 use store::segment;
 use store::to_page;
 use store::twenty_line_measure;
+use store::write_sheet;
 
 // What is called; any other word clears.
 const LEVEL: u32 = 1;
@@ -90,6 +90,8 @@ const GLYPHS: u32 = 15;
 const LINES: u32 = 16;
 
 const BLOCKS: u32 = 17;
+
+const SHEET: u32 = 18;
 
 // What the log gets of a call.
 struct Logged {
@@ -196,7 +198,7 @@ fn read_level(
     gray: &mut [u8],
     integers: &mut [i32],
 ) -> Outcome
-    ensures { λ r. ⌜ ((ns : List Float) → Filled (fillsGray (Act.readLevel (levelReading (now (call .entry)) (now (bytes .entry)) (outputs (now (words .entry)) (now (gray .entry)) (now (integers .entry)) ns)))) (levelTold (levelReading (now (call .entry)) (now (bytes .entry)) (outputs (now (words .entry)) (now (gray .entry)) (now (integers .entry)) ns)) (now (store .entry))) (outcomeNumber r) 0 (outputs (now (words .entry)) (now (gray .entry)) (now (integers .entry)) ns) (outputs (now (words .exit)) (now (gray .exit)) (now (integers .exit)) ns)) ⌝ }
+    ensures { λ r. ⌜ ((ns : List Float) → Filled (fillsBytes (Act.readLevel (levelReading (now (call .entry)) (now (bytes .entry)) (outputs (now (words .entry)) (now (gray .entry)) (now (integers .entry)) ns)))) (levelTold (levelReading (now (call .entry)) (now (bytes .entry)) (outputs (now (words .entry)) (now (gray .entry)) (now (integers .entry)) ns)) (now (store .entry))) (outcomeNumber r) 0 (outputs (now (words .entry)) (now (gray .entry)) (now (integers .entry)) ns) (outputs (now (words .exit)) (now (gray .exit)) (now (integers .exit)) ns)) ⌝ }
 {
     let op = word_at(call, OP);
     if op == TO_PAGE {
@@ -261,9 +263,10 @@ fn read_results(
     ink: &[u8],
     kinds: &[u8],
     words: &mut [u32],
+    gray: &mut [u8],
     numbers: &mut [f64],
 ) -> Logged
-    ensures { λ r. ⌜ ((gs : List ℕ) (is : List ℤ) → Filled false (resultTold (resultReading (now (call .entry)) (outputs (now (words .entry)) gs is (now (numbers .entry)))) (now (store .entry)) (now (ink .entry)) (now (kinds .entry))) (r .number) (r .value) (outputs (now (words .entry)) gs is (now (numbers .entry))) (outputs (now (words .exit)) gs is (now (numbers .exit)))) ⌝ }
+    ensures { λ r. ⌜ ((is : List ℤ) → Filled (fillsBytes (Act.readResult (resultReading (now (call .entry)) (outputs (now (words .entry)) (now (gray .entry)) is (now (numbers .entry)))))) (resultTold (resultReading (now (call .entry)) (outputs (now (words .entry)) (now (gray .entry)) is (now (numbers .entry)))) (now (store .entry)) (now (ink .entry)) (now (kinds .entry))) (r .number) (r .value) (outputs (now (words .entry)) (now (gray .entry)) is (now (numbers .entry))) (outputs (now (words .exit)) (now (gray .exit)) is (now (numbers .exit)))) ⌝ }
 {
     let op = word_at(call, OP);
     if op == SUMMARY {
@@ -276,6 +279,10 @@ fn read_results(
     if op == COUNT_DOTS {
         let kind = word_at(call, KIND);
         return log_answer(count_dots(store, ink, kinds, kind, box_of(call)));
+    }
+    if op == SHEET {
+        let n = cut(call, OUT, gray.len());
+        return log_answer(write_sheet(store, ink, kinds, &mut gray[..n]));
     }
     let n = cut(call, OUT, words.len());
     read_words(call, store, ink, kinds, &mut words[..n])
@@ -308,10 +315,18 @@ fn perform(
     if (op >= TO_PAGE) & (op <= FRAME) {
         return log_outcome(read_level(call, bytes, &store[..n], words, gray, integers));
     }
-    if (op >= FIGURES) & (op <= BLOCKS) {
+    if (op >= FIGURES) & (op <= SHEET) {
         let m = cut(call, INK, ink.len());
         let k = cut(call, KINDS, kinds.len());
-        return read_results(call, &store[..n], &ink[..m], &kinds[..k], words, numbers);
+        return read_results(
+            call,
+            &store[..n],
+            &ink[..m],
+            &kinds[..k],
+            words,
+            gray,
+            numbers,
+        );
     }
     log_outcome(clear(&mut store[..n]))
 }

@@ -36,3 +36,5 @@ pub mod TellLaws
 pub mod DotReads
 -- the lines of a store: medians, twenty-line measure, summary
 pub mod LineReads
+-- the sheet of a store that may be read
+pub mod SheetReads

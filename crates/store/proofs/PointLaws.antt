@@ -21,21 +21,21 @@ use Rattle.levelling.proofs.FrameLaws.{frame-fits, frame-is-frameOf}
 use Rattle.memory.proofs.GreatestLaws.{greatest-bounds}
 use Rattle.judging.specs.rules.Header.{held, frameHeld, storeHeld, part, headerWords}
 use Rattle.judging.specs.rules.Spoiled.{limitsOk, frameSpoiled}
-use Rattle.store.specs.rules.Readings.{Small}
+use Rattle.store.specs.stages.Points.{Coordinate}
 use Rattle.store.proofs.HeldFrames.{frame-words, first-held, second-held}
 use Rattle.judging.proofs.LimitLaws.{Limited, limited}
 use Rattle.judging.proofs.LevelLaws.{Readable}
 
 -- ---- two signed numbers over the front
 
-small-fits : (w : Width) (z : ℤ) → 65536 ≤ 2 ^ hbits w → Small z → SFits w z
+small-fits : (w : Width) (z : ℤ) → 65536 ≤ 2 ^ hbits w → Coordinate z → SFits w z
 small-fits w (pos n) h s = record { sfits = omega arith }
 small-fits w (negsuc n) h s = record { sfits = omega arith }
 
-pub small-word : (z : ℤ) → Small z → SFits w32 (toZ w64 (ofZ w64 z))
+pub small-word : (z : ℤ) → Coordinate z → SFits w32 (toZ w64 (ofZ w64 z))
 small-word z s = subst (SFits w32) (sym (toZ-ofZ (small-fits w64 z (lit≤ tt) s))) (small-fits w32 z (lit≤ tt) s)
 
-kept : (z : ℤ) → Small z → toZ w32 (ofZ w32 (toZ w64 (ofZ w64 z))) ≡ z
+kept : (z : ℤ) → Coordinate z → toZ w32 (ofZ w32 (toZ w64 (ofZ w64 z))) ≡ z
 kept z s = toZ-ofZ (small-word z s) ∙ toZ-ofZ (small-fits w64 z (lit≤ tt) s)
 
 two-set : (out : List ℤ) (x y : ℤ) → 2 ≤ length out → set (set out 0 x) 1 y ≡ x ∷ y ∷ drop 2 out
@@ -43,7 +43,7 @@ two-set [] x y h = absurd (omega arith)
 two-set (a ∷ []) x y h = absurd (omega arith)
 two-set (a ∷ b ∷ out) x y h = refl
 
-pub point-put : (out : List ℤ) (x y : ℤ) → Small x → Small y → 2 ≤ length out
+pub point-put : (out : List ℤ) (x y : ℤ) → Coordinate x → Coordinate y → 2 ≤ length out
     → set (set out 0 (toZ w32 (ofZ w32 (toZ w64 (ofZ w64 x))))) 1 (toZ w32 (ofZ w32 (toZ w64 (ofZ w64 y)))) ≡ x ∷ y ∷ drop 2 out
 point-put out x y sx sy h = (λ i. set (set out 0 (kept x sx i)) 1 (kept y sy i)) ∙ two-set out x y h
 
@@ -65,10 +65,10 @@ shear-x-low : (w h : ℕ) (slope : Float) (r : ℕ) → getD (frame w h slope .s
 unfolding frame
 shear-x-low w h slope r = let b = greatest-bounds (frame w h slope .shear-x) r in omega arith
 
-sub-small : (a b : ℕ) → a ≤ 32767 → b ≤ 32767 → Small (subℕ a b)
+sub-small : (a b : ℕ) → a ≤ 32767 → b ≤ 32767 → Coordinate (subℕ a b)
 sub-small a b h k = go (isLe (compare (suc a) b))
   where
-    go : (t : Bool) → Small (cond t (negsuc (b - suc a)) (pos (a - b)))
+    go : (t : Bool) → Coordinate (cond t (negsuc (b - suc a)) (pos (a - b)))
     go true = omega arith
     go false = omega arith
 
@@ -117,7 +117,7 @@ module _ (s : List ℕ) (y : ℕ) (M : Mappable s y) where
       ∙ ap (λ (z : Frame). toPage z x y) (sym (frame-is-frameOf (held s .page-w) (held s .page-h) (held s .slope) (few .sides) (few .within))))
 
   -- small numbers
-  pub mapped-small : (x : ℕ) → x < frameHeld (held s) .w → Small (toPage (frameHeld (held s)) x y .x) × Small (toPage (frameHeld (held s)) x y .y)
+  pub mapped-small : (x : ℕ) → x < frameHeld (held s) .w → Coordinate (toPage (frameHeld (held s)) x y .x) × Coordinate (toPage (frameHeld (held s)) x y .y)
   unfolding toPage
   mapped-small x lx =
       let F = frame-fits (held s .page-w) (held s .page-h) (held s .slope) (few .sides) (few .within) in
@@ -151,8 +151,8 @@ module _ (s : List ℕ) (x y : ℕ) (M : Mappable s y) (lx : x < frameHeld (held
       mapped-is s y M x r (take (getD s 1 0) (drop 64 s)) (take (getD s 4 0) (drop (64 + getD s 1 0) s)) refl refl
       (λ ph w k. e ph w k ∙ (λ i. toPage (frameOf (ep i) ph (take (ep i) (drop 64 s)) (take (eh i) (drop (64 + ep i) s)) w k) x y))
 
-  pub point-small : Small (r .x) × Small (r .y)
-  point-small = subst (λ (p : Point). Small (p .x) × Small (p .y)) (sym point-is) (mapped-small s y M x lx)
+  pub point-small : Coordinate (r .x) × Coordinate (r .y)
+  point-small = subst (λ (p : Point). Coordinate (p .x) × Coordinate (p .y)) (sym point-is) (mapped-small s y M x lx)
 
 -- an accepted point
 both : (a b : Bool) → not (a && b) ≡ false → (a ≡ true) × (b ≡ true)

@@ -23,7 +23,7 @@ use Rattle.store.specs.rules.Readings.Output.{words}
 use Rattle.store.specs.rules.Readings.Which.{columns, rules, graphics, glyphs, lines, blocks}
 use Rattle.store.specs.rules.Outcomes.{told, resultTold}
 use Rattle.judging.specs.stages.Judged.{wordsOk}
-use Rattle.store.specs.stages.Areas.{whichOf, areaAt, recordWords, countAt}
+use Rattle.store.specs.stages.Areas.{whichOf, areaAt, recordWords, countAt, listStart, listSize, listRead, ListsAt}
 use Rattle.judging.proofs.PartLaws.{length-part}
 use Rattle.judging.proofs.LimitLaws.{limited}
 use Rattle.judging.proofs.ResultLaws.{figure-word, few}
@@ -128,14 +128,14 @@ module _ (s ink kinds : List ℕ) (R : ReadableResults s ink kinds) where
       go lines m a b c d f₁ f₂ f₃ f₄ f₅ f₆ = omega arith
       go blocks m a b c d f₁ f₂ f₃ f₄ f₅ f₆ = omega arith
 
-  count-there : (k : Which) → getD s (countAt k) 0 ≡ listCount k (viewOf s kinds)
+  pub size-read : (k : Which) → listSize k s ≡ listCount k (viewOf s kinds)
   unfolding viewOf viewWith
-  count-there columns = sym (figure-word s 8 (omega arith))
-  count-there rules = sym (figure-word s 3 (omega arith))
-  count-there graphics = sym (figure-word s 4 (omega arith))
-  count-there glyphs = sym (figure-word s 5 (omega arith))
-  count-there lines = sym (figure-word s 6 (omega arith))
-  count-there blocks = sym (figure-word s 7 (omega arith))
+  size-read columns = sym (figure-word s 8 (omega arith))
+  size-read rules = sym (figure-word s 3 (omega arith))
+  size-read graphics = sym (figure-word s 4 (omega arith))
+  size-read glyphs = sym (figure-word s 5 (omega arith))
+  size-read lines = sym (figure-word s 6 (omega arith))
+  size-read blocks = sym (figure-word s 7 (omega arith))
 
   words-there : (k : Which) → part (listsAt (frameHeld (held s) .page-w) (frameHeld (held s) .h) + areaAt k (frameHeld (held s) .w) (held s .capacity)) (listCount k (viewOf s kinds) * recordWords k) s ≡ listWords k (viewOf s kinds)
   unfolding viewOf viewWith
@@ -146,44 +146,70 @@ module _ (s ink kinds : List ℕ) (R : ReadableResults s ink kinds) where
   words-there lines = refl
   words-there blocks = refl
 
-  module _ (k : Which) (at width word : ℕ) (ea : at ≡ listsAt (getD s 1 0) (getD s 4 0) + areaAt k (getD s 3 0) (getD s 5 0)) (ew : width ≡ recordWords k) (eo : word ≡ countAt k) where
-    pub list-word : word < length s
-    list-word = subst (λ z. z < length s) (sym eo) (go k (R .words))
-      where
-        go : (k : Which) → 64 ≤ length s → countAt k < length s
-        go columns h = omega arith
-        go rules h = omega arith
-        go graphics h = omega arith
-        go glyphs h = omega arith
-        go lines h = omega arith
-        go blocks h = omega arith
+  pub list-read : (k : Which) → listRead k s ≡ listWords k (viewOf s kinds)
+  list-read k =
+      let a = sides-are in
+      (λ i. part (listsAt (a .0 i) (a .2 i) + areaAt k (a .1 i) (a .3 i)) (size-read k i * recordWords k) s) ∙ words-there k
 
-    pub list-end : at + getD s word 0 * width ≤ length s
-    list-end = subst (λ z. z ≤ length s) (sym (λ i. ea i + getD s (eo i) 0 * ew i)) (there k)
+  few-records : (k : Which) → listSize k s ≤ 3 * maxCapacity
+  few-records k =
+      let a = sides-are in
+      let l = sides-low in
+      let c = counts-low in
+      go k (a .3) (a .1) (l .1) (l .3) (c .0) (c .1) (c .2) (c .3) (c .4) (c .5)
+    where
+      go : (k : Which) → getD s 5 0 ≡ held s .capacity → getD s 3 0 ≡ frameHeld (held s) .w → getD s 3 0 ≤ maxFrameWidth → getD s 5 0 ≤ maxCapacity
+          → getD s 13 0 ≤ 3 * held s .capacity → getD s 14 0 ≤ held s .capacity → getD s 15 0 ≤ held s .capacity → getD s 16 0 ≤ held s .capacity → getD s 17 0 ≤ held s .capacity → getD s 18 0 ≤ frameHeld (held s) .w
+          → listSize k s ≤ 3 * maxCapacity
+      go columns a b l m f₁ f₂ f₃ f₄ f₅ f₆ = omega arith
+      go rules a b l m f₁ f₂ f₃ f₄ f₅ f₆ = omega arith
+      go graphics a b l m f₁ f₂ f₃ f₄ f₅ f₆ = omega arith
+      go glyphs a b l m f₁ f₂ f₃ f₄ f₅ f₆ = omega arith
+      go lines a b l m f₁ f₂ f₃ f₄ f₅ f₆ = omega arith
+      go blocks a b l m f₁ f₂ f₃ f₄ f₅ f₆ = omega arith
 
-    list-count : getD s word 0 ≡ listCount k (viewOf s kinds)
-    list-count = ap (λ z. getD s z 0) eo ∙ count-there k
+  pub lists-at : ListsAt s
+  lists-at = record { words = R .words; low = sides-low; room = there; few = few-records }
 
-    list-part : part at (getD s word 0 * width) s ≡ listWords k (viewOf s kinds)
-    list-part =
-        let a = sides-are in
-        (λ i. part (ea i) (list-count i * ew i) s)
-        ∙ ((λ i. part (listsAt (a .0 i) (a .2 i) + areaAt k (a .1 i) (a .3 i)) (listCount k (viewOf s kinds) * recordWords k) s) ∙ words-there k)
+  module _ (k : Which) (out : List ℕ) (n : ℕ) (en : n ≡ resultRefusal (length s) (length ink) (length kinds) (held s) false (resultsSpoiled s ink kinds) false false) (gn : n ≡ 0) where
+    long : length (listRead k s) ≡ length (listWords k (viewOf s kinds))
+    long = ap length (list-read k)
 
-    long : length (listWords k (viewOf s kinds)) ≡ getD s word 0 * width
-    long = ap length (sym list-part) ∙ length-part at (getD s word 0 * width) s list-end
+    pub list-short : length out < length (listRead k s) → told 9 0 (words out) ≡ resultTold (ResultReading.list k out) s ink kinds
+    unfolding refuseIf
+    list-short h =
+        told-late (ResultReading.list k out) s ink kinds n en gn 9
+        (sym (rw (lt-ltb (length out) (length (listWords k (viewOf s kinds))) (let l = long in omega arith)))) (λ z. omega arith)
 
-    module _ (out : List ℕ) (n : ℕ) (en : n ≡ resultRefusal (length s) (length ink) (length kinds) (held s) false (resultsSpoiled s ink kinds) false false) (gn : n ≡ 0) where
-      pub list-short : length out < at + getD s word 0 * width - at → told 9 0 (words out) ≡ resultTold (ResultReading.list k out) s ink kinds
-      unfolding refuseIf
-      list-short h =
-          told-late (ResultReading.list k out) s ink kinds n en gn 9
-          (sym (rw (lt-ltb (length out) (length (listWords k (viewOf s kinds))) (let l = long in omega arith)))) (λ z. omega arith)
+    pub list-done : length (listRead k s) ≤ length out → (count : ℕ) (out' : List ℕ) → count ≡ listSize k s → out' ≡ over (listRead k s) out
+        → told 0 count (words out') ≡ resultTold (ResultReading.list k out) s ink kinds
+    unfolding refuseIf
+    list-done h count out' c e =
+        (λ i. told 0 ((c ∙ size-read k) i) (words ((e ∙ ap (λ (z : List ℕ). over z out) (list-read k)) i)))
+        ∙ told-done (ResultReading.list k out) s ink kinds n en gn (rw (le-ltb (length out) (length (listWords k (viewOf s kinds))) (let l = long in omega arith)))
 
-      pub list-done : at + getD s word 0 * width - at ≤ length out → (out' : List ℕ) → out' ≡ over (take (at + getD s word 0 * width - at) (drop at s)) out → told 0 (getD s word 0) (words out') ≡ resultTold (ResultReading.list k out) s ink kinds
-      unfolding part refuseIf
-      list-done h out' e =
-          let q : at + getD s word 0 * width - at ≡ getD s word 0 * width = omega arith in
-          let w = ap (λ z. take z (drop at s)) q ∙ list-part in
-          (λ i. told 0 (list-count i) (words ((e ∙ ap (λ (z : List ℕ). over z out) w) i)))
-          ∙ told-done (ResultReading.list k out) s ink kinds n en gn (rw (le-ltb (length out) (length (listWords k (viewOf s kinds))) (let l = long in omega arith)))
+-- ---- a list by its place
+
+module _ (s : List ℕ) (A : ListsAt s) (k : Which) (at width word : ℕ) (ea : at ≡ listStart k s) (ew : width ≡ recordWords k) (eo : word ≡ countAt k) where
+  pub list-word : word < length s
+  list-word = subst (λ z. z < length s) (sym eo) (go k (A .words))
+    where
+      go : (k : Which) → 64 ≤ length s → countAt k < length s
+      go columns h = omega arith
+      go rules h = omega arith
+      go graphics h = omega arith
+      go glyphs h = omega arith
+      go lines h = omega arith
+      go blocks h = omega arith
+
+  pub list-size : getD s word 0 ≡ listSize k s
+  list-size = ap (λ z. getD s z 0) eo
+
+  pub list-end : at + getD s word 0 * width ≤ length s
+  list-end = subst (λ z. z ≤ length s) (sym (λ i. ea i + getD s (eo i) 0 * ew i)) (A .room k)
+
+  pub list-part : (n : ℕ) → n ≡ getD s word 0 → take (at + n * width - at) (drop at s) ≡ listRead k s
+  unfolding part
+  list-part n e =
+      let q : at + n * width - at ≡ n * width = omega arith in
+      ap (λ z. take z (drop at s)) q ∙ (λ i. take ((e ∙ list-size) i * ew i) (drop (ea i) s))

@@ -11,6 +11,7 @@ mod mappings;
 mod measures;
 mod medians;
 mod points;
+mod sheets;
 
 pub use answers::Answer;
 pub use answers::Outcome;
@@ -32,3 +33,4 @@ pub use mappings::rect_to_page;
 pub use measures::read_summary;
 pub use measures::twenty_line_measure;
 pub use points::to_page;
+pub use sheets::write_sheet;

@@ -7,11 +7,12 @@ ghost use lib.ListN.{length, take, drop};
 ghost use Rattle.judging.specs.rules.Header.{held, frameHeld};
 ghost use Rattle.levelling.specs.Frames.{frameOf};
 ghost use Rattle.levelling.specs.Mapping.{toPage};
-ghost use Rattle.store.specs.rules.Readings.{filled, pointNumbers, pointLength, Small, LevelReading};
+ghost use Rattle.store.specs.rules.Readings.{filled, pointNumbers, pointLength, LevelReading};
 ghost use Rattle.judging.specs.stages.Judged.{levelJudged};
 ghost use Rattle.store.specs.rules.Readings.Output.{integers};
 ghost use Rattle.store.specs.rules.Outcomes.{told, levelTold};
 ghost use Rattle.store.specs.rules.Answers.{outcomeNumber};
+ghost use Rattle.store.specs.stages.Points.{Coordinate};
 use crate::answers::Outcome;
 use judging::FRAME_HEIGHT;
 use judging::HEADER;
@@ -41,7 +42,7 @@ fn judge_point(store: &[u32], x: u32, y: u32, out: usize) -> u32
 
 // Column and row over the front of the numbers lent.
 fn put_point(p: Point, point: &mut [i32])
-    requires { ⌜ (2 ≤ length (now point)) × Small (p .x) × Small (p .y) ⌝ }
+    requires { ⌜ (2 ≤ length (now point)) × Coordinate (p .x) × Coordinate (p .y) ⌝ }
     ensures { λ _. ⌜ now (point .exit) ≡ filled (pointNumbers p) (now (point .entry)) ⌝ }
 {
     point[0] = p.x as i32;

@@ -18,10 +18,11 @@ use Rattle.segmenting.specs.Figures.{figuresOf, figureWords}
 use Rattle.judging.specs.rules.Header.{Held, frameHeld, emptyState, levelledState, segmentedState}
 use Rattle.judging.specs.rules.Leaves.{Leaf, levellingOf, leafHeld, layoutOf}
 use Rattle.judging.specs.rules.Refusals.{levelRefusal, segmentRefusal, resultRefusal, levelReadingRefusal, clearRefusal}
+use Rattle.listing.specs.rules.Pages.{pageSheet}
 use Rattle.store.specs.rules.Readings.{Output, filled, lackingLevel, badLevel, fillLevel, lentLevel, Which, ResultReading, lackingResult, badResult, lentResult, dotCount}
 use Rattle.store.specs.rules.Readings.Output.{none, words, floats}
 use Rattle.store.specs.rules.Readings.Which.{columns, rules, graphics, glyphs, lines, blocks}
-use Rattle.store.specs.rules.Readings.ResultReading.{figures, summary, list, twentyLines, countDots, dots}
+use Rattle.store.specs.rules.Readings.ResultReading.{figures, summary, list, twentyLines, countDots, dots, listing}
 use Rattle.store.specs.rules.Outcomes.{Told, toldBy}
 use Rattle.account.specs.rules.Calls.{Lent, Act, Call}
 use Rattle.account.specs.rules.Calls.Act.{level, segment, clear, readLevel, readResult}
@@ -63,6 +64,10 @@ lengthBy glyphs l = length (l .glyphs)
 lengthBy lines l = length (l .lines)
 lengthBy blocks l = length (l .blocks)
 
+-- the printed sheet of the page that they are
+abbrev pub sheetBy : Levelling → Layout → List ℕ
+sheetBy v l = pageSheet (record { levelled = v; layout = l })
+
 -- an output shorter than the answer
 abbrev pub shortOf : ResultReading → Levelling → Layout → Bool
 shortOf (figures out) v l = false
@@ -71,6 +76,7 @@ shortOf (list k out) v l = ltb (length out) (length (listBy k l))
 shortOf twentyLines v l = false
 shortOf (countDots k r) v l = false
 shortOf (dots k r out) v l = ltb (length out) (length (dotList (v .frame) (l .kinds) k r))
+shortOf (listing out) v l = ltb (length out) (length (sheetBy v l))
 
 -- the value of an answer
 abbrev pub valueOf : ResultReading → Levelling → Layout → ℕ
@@ -80,6 +86,7 @@ valueOf (list k out) v l = lengthBy k l
 valueOf twentyLines v l = twentyLineMeasure l
 valueOf (countDots k r) v l = dotCount (v .frame) (l .kinds) k r
 valueOf (dots k r out) v l = dotCount (v .frame) (l .kinds) k r
+valueOf (listing out) v l = length (sheetBy v l)
 
 -- what an answer fills
 abbrev pub fillOf : ResultReading → Levelling → Layout → Output
@@ -89,6 +96,7 @@ fillOf (list k out) v l = words (over (listBy k l) out)
 fillOf twentyLines v l = none
 fillOf (countDots k r) v l = none
 fillOf (dots k r out) v l = words (over (dotList (v .frame) (l .kinds) k r) out)
+fillOf (listing out) v l = words (over (sheetBy v l) out)
 
 -- the same for what the account holds; a reading of results finds nothing where it does not hold both
 abbrev pub shortBy : Account → ResultReading → Bool

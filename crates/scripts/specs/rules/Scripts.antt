@@ -18,7 +18,7 @@ use Rattle.store.specs.rules.Readings.{Output, filled, LevelReading, Which, Res
 use Rattle.store.specs.rules.Readings.Output.{none, words, integers, floats}
 use Rattle.store.specs.rules.Readings.LevelReading.{point, box, gray, frameFigures}
 use Rattle.store.specs.rules.Readings.Which.{columns, rules, graphics, glyphs, lines, blocks}
-use Rattle.store.specs.rules.Readings.ResultReading.{figures, summary, list, twentyLines, countDots, dots}
+use Rattle.store.specs.rules.Readings.ResultReading.{figures, summary, list, twentyLines, countDots, dots, listing}
 use Rattle.store.specs.rules.Outcomes.{Told}
 use Rattle.account.specs.rules.Calls.{Lent, Act, Call, call, World, world, step, says}
 use Rattle.account.specs.rules.Calls.Act.{level, segment, clear, readLevel, readResult}
@@ -36,7 +36,7 @@ pub record Script : Type 0 where
 abbrev pub scriptOf : List ℕ → List Float → List ℕ → ℕ → Script
 scriptOf cs fs bs x = record { calls = cs; floats = fs; bytes = bs; scratch = x }
 
--- what readings fill: words, gray bytes, integers, numbers
+-- what readings fill: words; bytes, as a gray plane or a sheet; integers; numbers
 pub record Outputs : Type 0 where
   pub words : List ℕ
   pub gray : List ℕ
@@ -188,14 +188,14 @@ leafFrom w fs bs =
     leafOf (bytesOf w bs) (wordAt w widthAt) (wordAt w heightAt) (numberAt fs (wordAt w turnsAt)) (numberAt fs (wordAt w turnsAt + 1)) (sheetFrom w fs) (wordAt w capacityAt)
 
 -- What is called, by the word at opAt: 1 levelling, 2 segmenting; of a levelled page 3 a point, 4 a box, 5 a gray plane, 6 the frame's figures;
--- of results 7 the figures, 8 the summary, 9 the twenty-line measure, 10 a count of dots, 11 those dots, 12 to 17 the six lists; any other word clearing
+-- of results 7 the figures, 8 the summary, 9 the twenty-line measure, 10 a count of dots, 11 those dots, 12 to 17 the six lists, 18 the printed sheet; any other word clearing
 
 -- 12 columns, 13 rules, 14 graphics, 15 glyphs, 16 lines, 17 blocks
 abbrev pub listNamed : ℕ → Which
 listNamed n =
     cond (eqb n 12) columns (cond (eqb n 13) rules (cond (eqb n 14) graphics (cond (eqb n 15) glyphs (cond (eqb n 16) lines blocks))))
 
--- 3 to 6: the frame's figures fill words, a gray plane gray bytes, the others integers
+-- 3 to 6: the frame's figures fill words, a gray plane bytes, the others integers
 unfoldable pub levelReading : List ℕ → List ℕ → Outputs → LevelReading
 levelReading w bs o =
     cond (eqb (wordAt w opAt) 3) (point (wordAt w leftAt) (wordAt w topAt) (lentOf w outAt (o .integers)))
@@ -208,12 +208,13 @@ wordsReading w out =
     cond (eqb (wordAt w opAt) 7) (figures out)
     (cond (eqb (wordAt w opAt) 11) (dots (wordAt w kindAt) (boxOf w) out) (list (listNamed (wordAt w opAt)) out))
 
--- 7 to 17: the summary fills numbers, the twenty-line measure and a count of dots nothing
+-- 7 to 18: the summary fills numbers, the twenty-line measure and a count of dots nothing, the sheet bytes
 unfoldable pub resultReading : List ℕ → Outputs → ResultReading
 resultReading w o =
     cond (eqb (wordAt w opAt) 8) (summary (lentOf w outAt (o .numbers)))
     (cond (eqb (wordAt w opAt) 9) twentyLines
-    (cond (eqb (wordAt w opAt) 10) (countDots (wordAt w kindAt) (boxOf w)) (wordsReading w (lentOf w outAt (o .words)))))
+    (cond (eqb (wordAt w opAt) 10) (countDots (wordAt w kindAt) (boxOf w))
+    (cond (eqb (wordAt w opAt) 18) (listing (lentOf w outAt (o .gray))) (wordsReading w (lentOf w outAt (o .words))))))
 
 -- the act, with x words of scratch
 unfoldable pub actOf : List Float → List ℕ → ℕ → List ℕ → Outputs → Act
@@ -221,7 +222,7 @@ actOf fs bs x w o =
     cond (eqb (wordAt w opAt) 1) (level (leafFrom w fs bs))
     (cond (eqb (wordAt w opAt) 2) (segment (sheetFrom w fs) (min (wordAt w scratchAt) x))
     (cond (leb 3 (wordAt w opAt) && leb (wordAt w opAt) 6) (readLevel (levelReading w bs o))
-    (cond (leb 7 (wordAt w opAt) && leb (wordAt w opAt) 17) (readResult (resultReading w o)) clear)))
+    (cond (leb 7 (wordAt w opAt) && leb (wordAt w opAt) 18) (readResult (resultReading w o)) clear)))
 
 -- the call that these words make on what it finds
 abbrev pub callOf : List Float → List ℕ → ℕ → List ℕ → Memory → Call
@@ -233,16 +234,22 @@ callAt s m i = callOf (s .floats) (s .bytes) (s .scratch) (wordsOf (s .calls) i)
 
 -- What a call leaves
 
--- a reading that fills gray bytes
-abbrev pub fillsGray : Act → Bool
-fillsGray (level a) = false
-fillsGray (segment sheet x) = false
-fillsGray clear = false
-fillsGray (readLevel (point x y out)) = false
-fillsGray (readLevel (box r out)) = false
-fillsGray (readLevel (gray plane out)) = true
-fillsGray (readLevel (frameFigures out)) = false
-fillsGray (readResult q) = false
+-- a reading that fills bytes
+abbrev pub fillsBytes : Act → Bool
+fillsBytes (level a) = false
+fillsBytes (segment sheet x) = false
+fillsBytes clear = false
+fillsBytes (readLevel (point x y out)) = false
+fillsBytes (readLevel (box r out)) = false
+fillsBytes (readLevel (gray plane out)) = true
+fillsBytes (readLevel (frameFigures out)) = false
+fillsBytes (readResult (figures out)) = false
+fillsBytes (readResult (summary out)) = false
+fillsBytes (readResult (list k out)) = false
+fillsBytes (readResult twentyLines) = false
+fillsBytes (readResult (countDots k r)) = false
+fillsBytes (readResult (dots k r out)) = false
+fillsBytes (readResult (listing out)) = true
 
 -- an answer put back over the front of its output
 abbrev pub putBack : Output → Bool → Outputs → Outputs
@@ -254,7 +261,7 @@ putBack (floats x) g o = outputs (o .words) (o .gray) (o .integers) (filled x (o
 
 -- one call: what it leaves in store and planes, and in the outputs
 abbrev pub stepped : Memory → Call → Memory
-stepped m c = memory (step (m .world) c) (putBack (says (m .world) c .output) (fillsGray (c .act)) (m .outputs))
+stepped m c = memory (step (m .world) c) (putBack (says (m .world) c .output) (fillsBytes (c .act)) (m .outputs))
 
 -- Calls one after the other
 

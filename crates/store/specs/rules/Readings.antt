@@ -1,9 +1,9 @@
 -- What each reading asks and answers, from what the store says (01, part 8, "Added by us"): for any store, not only for one that was segmented.
 use mathlib.Core.Bool.{Bool, false, cond, not, _&&_, _||_}
 use mathlib.Core.List.{List, [], _∷_, _++_}
-use Prim.Native.Nat.{ℕ, _+_, _*_, _≤_}
+use Prim.Native.Nat.{ℕ, _*_}
 use lib.Dec.{eqb, ltb, leb}
-use lib.IntN.{ℤ, pos, negsuc}
+use lib.IntN.{ℤ, pos}
 use lib.Ieee.{Float}
 use lib.ListN.{length, drop}
 use Rattle.memory.specs.Lists.{upto, keep}
@@ -23,6 +23,7 @@ use Rattle.grouping.specs.declared.summary.Totals.{Totals}
 use Rattle.segmenting.specs.Figures.{figuresLength}
 use Rattle.judging.specs.rules.Header.{Held, frameHeld, dotsHeld, lowWord, highWord}
 use Rattle.judging.specs.rules.Views.{glyphHeightAt, View, unitCase, unitHeld, inkDotsAt, dotsOfKind, ruleCount, graphicCount, glyphCount, lineCount, blockCount, columnCount}
+use Rattle.listing.specs.rules.Sheets.{sheetHeld}
 
 -- what a reading fills: nothing, words or bytes, signed numbers, floats
 pub data Output : Type 0 where
@@ -72,11 +73,6 @@ badLevel (box r out) g = not (boxInside (frameHeld g) r)
 badLevel (gray plane out) g = false
 badLevel (frameFigures out) g = false
 
--- an integer of few digits, which 32 bits hold
-abbrev pub Small : ℤ → Type 0
-Small (pos n) = n ≤ 32767
-Small (negsuc n) = n ≤ 32767
-
 -- page column, then page row
 abbrev pub pointNumbers : Point → List ℤ
 pointNumbers p = p .x ∷ p .y ∷ []
@@ -114,7 +110,7 @@ pub data Which : Type 0 where
   lines : Which
   blocks : Which
 
--- the figures, `summarize`, a list, the twenty-line measure, how many dots of one kind lie in a box, those dots
+-- the figures, `summarize`, a list, the twenty-line measure, how many dots of one kind lie in a box, those dots, the printed sheet
 pub data ResultReading : Type 0 where
   figures : List ℕ → ResultReading
   summary : List Float → ResultReading
@@ -122,6 +118,7 @@ pub data ResultReading : Type 0 where
   twentyLines : ResultReading
   countDots : ℕ → Rect → ResultReading
   dots : ℕ → Rect → List ℕ → ResultReading
+  listing : List ℕ → ResultReading
 
 -- the numbers of `summarize`
 abbrev pub summaryLength : ℕ
@@ -135,6 +132,7 @@ lackingResult (list k out) = false
 lackingResult twentyLines = false
 lackingResult (countDots k r) = false
 lackingResult (dots k r out) = false
+lackingResult (listing out) = false
 
 -- a kind outside 1 to 5, or a bad box (01, refusal 8)
 abbrev pub badDots : Frame → ℕ → Rect → Bool
@@ -147,6 +145,7 @@ badResult (list k out) f = false
 badResult twentyLines f = false
 badResult (countDots k r) f = badDots f k r
 badResult (dots k r out) f = badDots f k r
+badResult (listing out) f = false
 
 -- the words of a list, and how many records they are
 abbrev pub listWords : Which → View → List ℕ
@@ -209,6 +208,7 @@ shortResult (list k out) v = ltb (length out) (length (listWords k v))
 shortResult twentyLines v = false
 shortResult (countDots k r) v = false
 shortResult (dots k r out) v = ltb (length out) (length (dotList (v .frame) (v .kinds) k r))
+shortResult (listing out) v = ltb (length out) (length (sheetHeld v))
 
 -- the value that it answers
 abbrev pub valueResult : ResultReading → View → ℕ
@@ -218,6 +218,7 @@ valueResult (list k out) v = listCount k v
 valueResult twentyLines v = twentyHeld v
 valueResult (countDots k r) v = dotCount (v .frame) (v .kinds) k r
 valueResult (dots k r out) v = dotCount (v .frame) (v .kinds) k r
+valueResult (listing out) v = length (sheetHeld v)
 
 -- what it fills
 abbrev pub fillResult : ResultReading → View → Output
@@ -227,6 +228,7 @@ fillResult (list k out) v = words (over (listWords k v) out)
 fillResult twentyLines v = none
 fillResult (countDots k r) v = none
 fillResult (dots k r out) v = words (over (dotList (v .frame) (v .kinds) k r) out)
+fillResult (listing out) v = words (over (sheetHeld v) out)
 
 -- what it is lent
 abbrev pub lentResult : ResultReading → Output
@@ -236,3 +238,4 @@ lentResult (list k out) = words out
 lentResult twentyLines = none
 lentResult (countDots k r) = none
 lentResult (dots k r out) = words out
+lentResult (listing out) = words out

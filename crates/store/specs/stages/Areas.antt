@@ -13,9 +13,12 @@ use Rattle.grouping.specs.Readings.{twentyOf, summarized}
 use Rattle.grouping.specs.declared.summary.Summary.{Summary}
 use Rattle.grouping.specs.Pitches.{centreAt, blockAt, pitchesBelow, BlockedLines}
 use Rattle.grouping.specs.Words.{fields, lineWords, blockWords, columnWords, glyphWords}
+use Rattle.segmenting.specs.Figures.{figuresLength}
 use Rattle.segmenting.specs.Results.{rulesAt, graphicsAt, glyphRecordsAt, linesAt, blocksAt}
-use Rattle.judging.specs.rules.Header.{lowWord, highWord, part, listsAt}
+use Rattle.judging.specs.rules.Header.{lowWord, highWord, part, figuresAt, listsAt}
 use Rattle.judging.specs.rules.Views.{glyphHeightAt, rectWords}
+use Rattle.listing.specs.rules.Pages.{edition}
+use Rattle.listing.specs.rules.Sheets.{sheetText}
 use Rattle.store.specs.rules.Readings.{Which}
 use Rattle.store.specs.rules.Readings.Which.{columns, rules, graphics, glyphs, lines, blocks}
 
@@ -50,6 +53,29 @@ countAt graphics = 14
 countAt glyphs = 15
 countAt lines = 16
 countAt blocks = 17
+
+-- where a list of a store begins, how many records it has, their words
+abbrev pub listStart : Which → List ℕ → ℕ
+listStart k s = listsAt (getD s 1 0) (getD s 4 0) + areaAt k (getD s 3 0) (getD s 5 0)
+
+abbrev pub listSize : Which → List ℕ → ℕ
+listSize k s = getD s (countAt k) 0
+
+abbrev pub listRead : Which → List ℕ → List ℕ
+listRead k s = part (listStart k s) (listSize k s * recordWords k) s
+
+-- they lie in the store
+pub record ListsAt (s : List ℕ) : Type 0 where
+  pub words : 64 ≤ length s
+  pub low : (getD s 1 0 ≤ maxPageSide) × (getD s 3 0 ≤ maxFrameWidth) × (getD s 4 0 ≤ maxFrameHeight) × (getD s 5 0 ≤ maxCapacity)
+  pub room : (k : Which) → listStart k s + listSize k s * recordWords k ≤ length s
+  pub few : (k : Which) → listSize k s ≤ 3 * maxCapacity
+
+-- the sheet of a store by its words
+abbrev pub sheetRead : List ℕ → List ℕ
+sheetRead s =
+    sheetText edition (getD s 3 0) (getD s 4 0) (getD s 1 0) (getD s 2 0) (part figuresAt figuresLength s)
+    (listRead lines s) (listRead blocks s) (listRead rules s) (listRead graphics s) (listRead glyphs s) (listRead columns s)
 
 -- the frame that the words of a store say, with their shears
 abbrev pub wordsFrame : List ℕ → Frame

@@ -1,0 +1,34 @@
+-- The sheet in the parts that are written one behind the other, and how long each is.
+use Prim.Native.Nat.{ℕ, _+_, _*_}
+use mathlib.Core.List.{List, [], _∷_, _++_}
+use Rattle.judging.specs.rules.Views.{ruleCount, graphicCount, glyphCount, lineCount, blockCount, columnCount}
+use Rattle.listing.specs.rules.Sheets.{wordFormat, fieldCount, fieldsText, wordFrom, entriesText}
+
+-- the words of an entry that stand from word `from` on, in digits
+abbrev pub fieldsFrom : ℕ → List ℕ → ℕ → List ℕ
+fieldsFrom kind s from = fieldsText kind (wordFrom s from) (fieldCount kind)
+
+-- all entries of a kind and of the two kinds after it
+abbrev pub threeKinds : ℕ → List ℕ → ℕ → List ℕ → ℕ → List ℕ → ℕ → List ℕ
+threeKinds kind a m b n c k = entriesText kind a m ++ entriesText (kind + 1) b n ++ entriesText (kind + 2) c k
+
+-- all digits of a format
+abbrev pub allDigits : List ℕ → ℕ
+allDigits [] = 0
+allDigits (n ∷ l) = n + allDigits l
+
+-- the bytes of one entry of a kind: two digits of kind, its words, a line feed
+abbrev pub entryLength : ℕ → ℕ
+entryLength kind = 3 + allDigits (wordFormat kind)
+
+-- the bytes of the whole sheet
+abbrev pub sheetLength : List ℕ → ℕ
+sheetLength figures =
+    entryLength 0
+    + lineCount figures * entryLength 1
+    + blockCount figures * entryLength 2
+    + ruleCount figures * entryLength 3
+    + graphicCount figures * entryLength 4
+    + glyphCount figures * entryLength 5
+    + columnCount figures * entryLength 6
+    + entryLength 7

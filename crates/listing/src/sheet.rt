@@ -1,0 +1,115 @@
+// The whole sheet from the words that tell of a segmentation.
+ghost use mathlib.Core.Path.{_≡_};
+ghost use Prim.Native.Nat.{_*_, _<_, _≤_};
+ghost use lib.ListN.{length};
+ghost use Rattle.memory.specs.Words.{wordAt, over};
+ghost use Rattle.segmenting.specs.Figures.{figuresLength};
+ghost use Rattle.listing.specs.rules.Pages.{edition};
+ghost use Rattle.listing.specs.rules.Sheets.{headText, sheetText};
+ghost use Rattle.listing.specs.stages.Parts.{entryLength, sheetLength};
+ghost use Rattle.listing.specs.stages.Puts.{Put};
+ghost use Rattle.listing.specs.stages.Rooms.{SheetRoom};
+use crate::entries::put_entry;
+use crate::entries::put_three_kinds;
+use crate::formats::entry_length;
+use memory::wide;
+
+// The edition that is printed.
+const EDITION: u32 = 1;
+
+// The places of the figures: the unit, low word first, how long each list is, the dots of ink and of each kind.
+const UNIT_LOW: usize = 1;
+
+const UNIT_HIGH: usize = 2;
+
+const RULES: usize = 3;
+
+const GRAPHICS: usize = 4;
+
+const GLYPHS: usize = 5;
+
+const LINES: usize = 6;
+
+const BLOCKS: usize = 7;
+
+const COLUMNS: usize = 8;
+
+const DOTS: usize = 9;
+
+// The bytes of the entries of a kind, as many as the figure at k says.
+fn entries_length(figures: &[u32], k: usize, kind: usize) -> usize
+    requires { ⌜ (k < length (now figures)) × (kind < 8) ⌝ }
+    ensures { λ r. ⌜ (r ≡ wordAt (now (figures .entry)) k * entryLength kind) × (r < 1099511627776) ⌝ }
+{
+    wide(figures[k]) * entry_length(kind)
+}
+
+// How long the sheet is, before it is written.
+pub fn sheet_length(figures: &[u32]) -> usize
+    requires { ⌜ figuresLength ≤ length (now figures) ⌝ }
+    ensures { λ r. ⌜ r ≡ sheetLength (now (figures .entry)) ⌝ }
+{
+    entry_length(0)
+        + entries_length(figures, LINES, 1)
+        + entries_length(figures, BLOCKS, 2)
+        + entries_length(figures, RULES, 3)
+        + entries_length(figures, GRAPHICS, 4)
+        + entries_length(figures, GLYPHS, 5)
+        + entries_length(figures, COLUMNS, 6)
+        + entry_length(7)
+}
+
+// The head.
+fn put_head(out: &mut [u8], w: u32, h: u32, page_w: u32, page_h: u32, figures: &[u32]) -> usize
+    requires { ⌜ (figuresLength ≤ length (now figures)) × (entryLength 0 ≤ length (now out)) ⌝ }
+    ensures { λ r. ⌜ Put (now (out .entry)) 0 (headText edition w h «page_w» «page_h» (now (figures .entry))) r (now (out .exit)) ⌝ }
+{
+    let low = figures[UNIT_LOW];
+    let high = figures[UNIT_HIGH];
+    let head = [EDITION, w, h, page_w, page_h, high, low];
+    put_entry(out, 0, 0, &head, 0)
+}
+
+// Writes the sheet over the front; its length.
+pub fn write_sheet_text(
+    out: &mut [u8],
+    w: u32,
+    h: u32,
+    page_w: u32,
+    page_h: u32,
+    figures: &[u32],
+    lines: &[u32],
+    blocks: &[u32],
+    rules: &[u32],
+    graphics: &[u32],
+    glyphs: &[u32],
+    columns: &[u32],
+) -> usize
+    requires { ⌜ SheetRoom (now figures) (length (now lines)) (length (now blocks)) (length (now rules)) (length (now graphics)) (length (now glyphs)) (length (now columns)) (length (now out)) ⌝ }
+    ensures { λ r. ⌜ (r ≡ sheetLength (now (figures .entry))) × (now (out .exit) ≡ over (sheetText edition w h «page_w» «page_h» (now (figures .entry)) (now (lines .entry)) (now (blocks .entry)) (now (rules .entry)) (now (graphics .entry)) (now (glyphs .entry)) (now (columns .entry))) (now (out .entry))) ⌝ }
+{
+    let p = put_head(out, w, h, page_w, page_h, figures);
+    let q = put_three_kinds(
+        out,
+        p,
+        1,
+        lines,
+        figures[LINES],
+        blocks,
+        figures[BLOCKS],
+        rules,
+        figures[RULES],
+    );
+    let r = put_three_kinds(
+        out,
+        q,
+        4,
+        graphics,
+        figures[GRAPHICS],
+        glyphs,
+        figures[GLYPHS],
+        columns,
+        figures[COLUMNS],
+    );
+    put_entry(out, r, 7, figures, DOTS)
+}
