@@ -32,10 +32,10 @@ use lib.ListN.{getD}
 use lib.Ieee.{Float, binary64, ofBits, toBits}
 use Rattle.params.specs.declared.LayoutParams.{LayoutParams}
 use Rattle.labelling.specs.declared.rect.Rect.{Rect}
 use Rattle.grouping.specs.Layouts.{Page, page}
 use Rattle.grouping.specs.Readings.{summary, summaryNumbers}
-use Rattle.grouping.specs.Figures.{corners, headFigures, lineFigures, blockFigures, glyphFigures, columnFigures}
 use Rattle.grouping.proofs.Computed.{computed}
+use Rattle.listing.specs.rules.Pages.{corners, headFigures, lineFigures, blockFigures, glyphFigures, columnFigures}
 
 rows : Page → List (List ℕ)
 unfolding computed headFigures lineFigures blockFigures glyphFigures columnFigures

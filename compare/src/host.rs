@@ -105,6 +105,7 @@ mod c {
         reading! { novlizeb_twenty_line_measure() -> u64 }
         reading! { novlizeb_count_dots(kind: u32, x0: u32, y0: u32, x1: u32, y1: u32) -> u64 }
         reading! { novlizeb_read_dots(kind: u32, x0: u32, y0: u32, x1: u32, y1: u32, out: *mut u32, length: usize) -> u64 }
+        reading! { novlizeb_write_sheet(out: *mut u8, length: usize) -> u64 }
         pub fn novlizeb_frame_size(width: u32, height: u32, slope: f64) -> u64;
     }
 }
@@ -286,6 +287,16 @@ pub fn read_dots(held: Held, kind: u32, corners: [u32; 4], out: &mut [u32]) -> A
         y0,
         x1,
         y1,
+        out.as_mut_ptr(),
+        out.len()
+    ))
+}
+
+/// The value is how many bytes the sheet has.
+pub fn write_sheet(held: Held, out: &mut [u8]) -> Answer {
+    Answer::of(call_reading!(
+        c::novlizeb_write_sheet,
+        held,
         out.as_mut_ptr(),
         out.len()
     ))

@@ -3,7 +3,8 @@
 //! One case a line, in upper-case hexadecimal: two digits of kind, four of how many digits follow, those digits, a line feed. They are
 //! numbers of 32 bits, each a digit that says how many digits it has, 0 to 8, and those digits without leading zeros. A word is two such
 //! numbers, its high half first. The words are the inputs and after them the Rust's answers; `crates/replay` knows for each kind which is
-//! which. A float is its bits, and a NaN answer is one pattern that stands for every NaN. A signed number is its two's complement at 64 bits.
+//! which. A text is its bytes, four a number. A float is its bits, and a NaN answer is one pattern that stands for every NaN. A signed
+//! number is its two's complement at 64 bits.
 
 use std::fmt::Write;
 
@@ -40,6 +41,13 @@ impl List {
         );
         writeln!(self.text, "{kind:02X}{:04X}{digits}", digits.len()).expect("a String takes all");
     }
+
+    /// A case of texts: the length of each, and then their bytes.
+    pub fn bytes(&mut self, kind: u8, texts: &[&[u8]]) {
+        let lengths = texts.iter().map(|text| text.len() as u32);
+        let bytes = texts.iter().flat_map(|text| packed_bytes(text));
+        self.numbers(kind, &lengths.chain(bytes).collect::<Vec<u32>>());
+    }
 }
 
 /// How many digits a number has, and those.
@@ -68,6 +76,14 @@ pub fn packed(mask: &[u8]) -> Vec<u64> {
         dots.iter().enumerate().map(bit).sum()
     };
     mask.chunks(64).map(word).collect()
+}
+
+/// Bytes as numbers, four a number, the first the highest. Each is less by the byte of the digit 0, so that zeros have no digits; what is
+/// left of the last number is 0.
+fn packed_bytes(bytes: &[u8]) -> Vec<u32> {
+    let byte = |four: &[u8], i: usize| four.get(i).map_or(0, |byte| u32::from(byte.wrapping_sub(b'0')));
+    let number = |four: &[u8]| (0..4).fold(0, |n, i| n << 8 | byte(four, i));
+    bytes.chunks(4).map(number).collect()
 }
 
 /// Many words as one: each is added to what came before times 16,777,619, and the remainder by 4,294,967,291 goes on.

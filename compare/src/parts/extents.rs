@@ -131,7 +131,27 @@ fn bench(bench: &mut Bench) {
 /// The kind of its cases: width, height, 1 for the columns and 0 for the rows, the mask; then the hash of the extents.
 const KIND: u8 = 0x0A;
 
+/// Full runs: width, height, 1 for the columns and 0 for the rows; then the extent, which every dot has.
+const FULL_KIND: u8 = 0x0F;
+
+/// Full runs along a row and along a column, told along them and across. The first four are document 01's "Run of 70,000: 65,534", the
+/// others are around the greatest extent.
+fn full_runs(list: &mut List) {
+    for length in [70_000, 65_533, 65_534, 65_535] {
+        let mask = vec![1; length];
+        for width in [length, 1] {
+            for columns in [false, true] {
+                let extents = rust_extents(&mask, width, columns);
+                assert!(extents.iter().all(|extent| *extent == extents[0]), "a full run has one extent");
+                let height = (length / width) as u64;
+                list.case(FULL_KIND, &[width as u64, height, u64::from(columns), u64::from(extents[0])]);
+            }
+        }
+    }
+}
+
 fn list(list: &mut List) {
+    full_runs(list);
     let mut random = Random::new();
     let mut case = |mask: &[u8], width: usize| {
         for columns in [false, true] {

@@ -36,4 +36,5 @@ parts! {
     kinds,
     segments,
     store,
+    show,
 }

@@ -157,14 +157,27 @@ fn calls(values: &[f64], times: u32, f: impl Fn(&[f64]) -> f64) {
     }
 }
 
+/// Document 01's "Nine values: four and five": their sum is 0 where the first four and the last five are added by themselves, and 2 or
+/// more where they are split anywhere else or go left to right.
+const NINE: [f64; 9] = [1.0, LARGE, 2.0, 2.0, -LARGE, 1.0, -1.0, 1.0, 1.0];
+
+/// 2^54.
+const LARGE: f64 = 18_014_398_509_481_984.0;
+
+/// A case: the values, then their sum.
+fn sum_case(list: &mut List, values: &[f64]) {
+    let mut words: Vec<u64> = values.iter().map(|v| v.to_bits()).collect();
+    words.push(answer(math::pairwise_sum(values)));
+    list.case(0x07, &words);
+}
+
 fn list(list: &mut List) {
     let mut random = Random::new();
     let mut values = Vec::new();
+    sum_case(list, &NINE);
     let mut case = |kind: Kind, length: usize| {
         fill(&mut random, kind, length, &mut values);
-        let mut words: Vec<u64> = values.iter().map(|v| v.to_bits()).collect();
-        words.push(answer(math::pairwise_sum(&values)));
-        list.case(0x07, &words);
+        sum_case(list, &values);
     };
     for length in 0..=70 {
         case(Kind::Sizes, length);
@@ -176,5 +189,20 @@ fn list(list: &mut List) {
     }
     for length in [127, 128, 129, 500] {
         case(Kind::Sizes, length);
+    }
+}
+
+#[cfg(test)]
+mod tests {
+    use super::*;
+
+    /// The nine values tell where a sum of nine is split.
+    #[test]
+    fn nine_values() {
+        let added = |values: &[f64]| values.iter().fold(0.0, |sum, value| sum + value);
+        let split = |at: usize| added(&NINE[..at]) + added(&NINE[at..]);
+        assert_eq!(math::pairwise_sum(&NINE), 0.0);
+        let zeros: Vec<usize> = (0..=9).filter(|&at| split(at) == 0.0).collect();
+        assert_eq!(zeros, [4]);
     }
 }

@@ -6,6 +6,9 @@ ghost use Rattle.memory.specs.Words.{over};
 ghost use Rattle.listing.specs.rules.Digits.{digitOf, pairOf, hex, refusalText, refusalLength};
 ghost use Rattle.listing.specs.stages.Puts.{Put};
 
+// What ends a line.
+pub const LINE_FEED: u8 = 10;
+
 // The digit of a number below 16.
 fn digit(d: u16) -> u16
     requires { ⌜ d < 16 ⌝ }
@@ -15,7 +18,7 @@ fn digit(d: u16) -> u16
 }
 
 // The two digits of a number below 256, the first in the high byte: every digit of a sheet comes from here.
-pub fn pair(n: u32) -> u16
+fn pair(n: u32) -> u16
     requires { ⌜ n < 256 ⌝ }
     ensures { λ r. ⌜ r ≡ pairOf n ⌝ }
 {
@@ -53,6 +56,6 @@ pub fn put_refusal(out: &mut [u8], number: u32) -> usize
 {
     let p = put_hex(out, 0, 255, 2);
     let q = put_hex(out, p, number, 2);
-    out[q] = 10;
+    out[q] = LINE_FEED;
     q + 1
 }

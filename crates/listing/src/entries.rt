@@ -5,6 +5,7 @@ ghost use lib.ListN.{length};
 ghost use Rattle.listing.specs.rules.Sheets.{fieldCount, entryFrom, entriesText};
 ghost use Rattle.listing.specs.stages.Parts.{fieldsFrom, threeKinds};
 ghost use Rattle.listing.specs.stages.Puts.{Put};
+use crate::digits::LINE_FEED;
 use crate::digits::put_hex;
 use crate::formats::field_count;
 use crate::formats::field_digits;
@@ -32,12 +33,12 @@ pub fn put_entry(out: &mut [u8], at: usize, kind: u32, words: &[u32], from: usiz
 {
     let p = put_hex(out, at, kind, 2);
     let q = put_fields(out, p, kind as usize, words, from);
-    out[q] = 10;
+    out[q] = LINE_FEED;
     q + 1
 }
 
 // All n entries of a kind.
-pub fn put_entries(out: &mut [u8], at: usize, kind: u32, words: &[u32], n: u32) -> usize
+fn put_entries(out: &mut [u8], at: usize, kind: u32, words: &[u32], n: u32) -> usize
     requires { ⌜ (kind < 8) × (n * fieldCount kind ≤ length (now words)) × (at + length (entriesText kind (now words) n) ≤ length (now out)) ⌝ }
     ensures { λ r. ⌜ Put (now (out .entry)) at (entriesText kind (now (words .entry)) n) r (now (out .exit)) ⌝ }
 {

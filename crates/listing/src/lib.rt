@@ -4,6 +4,7 @@ mod entries;
 mod formats;
 mod sheet;
 
+pub use digits::LINE_FEED;
 pub use digits::put_refusal;
 pub use sheet::sheet_length;
 pub use sheet::write_sheet_text;

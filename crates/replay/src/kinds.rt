@@ -6,6 +6,7 @@ use crate::histories;
 use crate::levels;
 use crate::masks;
 use crate::segments;
+use crate::shows;
 use crate::text;
 use params::LayoutParams;
 
@@ -28,6 +29,8 @@ pub fn agrees(kind: u64, body: &[u8]) -> bool {
         11 => levels::level(body),
         12 => segments::segment(body),
         13 => histories::history(body),
+        14 => shows::show(body),
+        15 => masks::full_run(body),
         _ => false,
     }
 }

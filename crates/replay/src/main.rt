@@ -10,6 +10,7 @@ mod kinds;
 mod levels;
 mod masks;
 mod segments;
+mod shows;
 mod text;
 
 use libc::STDIN_FILENO;

@@ -8,6 +8,9 @@ use labelling::LabelAnswer;
 // The most dots of a mask.
 const MOST_DOTS: usize = 5120;
 
+// The most dots of a full run.
+const MOST_RUN: usize = 70000;
+
 // The digits before a mask: those of three words.
 pub const MASK_FROM: usize = 48;
 
@@ -221,4 +224,44 @@ pub fn extents(body: &[u8]) -> bool {
     let mut words = [0u32; MOST_DOTS];
     let along = along_of(text::whole(body, 2));
     extents_of_mask(body, size, along, &mut mask[0..n], &mut words[0..n])
+}
+
+// Whether every word is this one.
+fn are_all(words: &[u32], word: u32) -> bool {
+    let mut i = 0;
+    while i < words.len() {
+        if words[i] != word {
+            return false;
+        }
+        i += 1;
+    }
+    true
+}
+
+// The extents of a mask of nothing but ink; whether all are as the last word has it.
+fn extents_of_run(body: &[u8], size: Size, ink: &[u8], extents: &mut [u32]) -> bool {
+    let along = along_of(text::whole(body, 2));
+    let answer = extents::run_extents(ink, size.width, size.height, along, extents);
+    match answer {
+        ExtentsAnswer::Done => are_all(extents, text::whole(body, 3)),
+        ExtentsAnswer::Refused(_) => false,
+    }
+}
+
+// 0F: width and height of a mask of nothing but ink, 1 for extents along the columns and 0 along the rows; the extent that every dot has.
+pub fn full_run(body: &[u8]) -> bool {
+    let size = Size {
+        width: text::whole(body, 0),
+        height: text::whole(body, 1),
+    };
+    let n = dots(size.width, size.height);
+    if n > MOST_RUN {
+        return false;
+    }
+    if text::count(body) != 4 {
+        return false;
+    }
+    let ink = [1u8; MOST_RUN];
+    let mut words = [0u32; MOST_RUN];
+    extents_of_run(body, size, &ink[0..n], &mut words[0..n])
 }

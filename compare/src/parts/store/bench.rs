@@ -149,6 +149,12 @@ impl<'a> Lent<'a> {
         black_box(out);
     }
 
+    fn sheet(&self, out: &mut [u8]) -> usize {
+        let answer = black_box(host::write_sheet(self.held(), out));
+        assert!(answer.number == 0, "the sheet is refused by {}", answer.number);
+        answer.value as usize
+    }
+
     /// Levelling, segmenting and one reading, as a host does them.
     fn whole(&mut self) {
         self.level();
@@ -168,6 +174,9 @@ impl<'a> Lent<'a> {
         black_box(summarize(&layout));
     }
 }
+
+/// More bytes than a sheet can have.
+const MOST_PRINTED: usize = 9_000_000;
 
 fn milliseconds(time: Duration) -> f64 {
     time.as_secs_f64() * 1e3
@@ -204,17 +213,26 @@ fn page_lines(bench: &mut Bench, lent: &mut Lent, name: &str) {
     ratio("store-segment", name, "the pass alone", segment);
     ratio("store-level", name, "the plane alone", level);
     let size = lent.dots();
-    let [figures, count, list] = bench.together(|| {
+    let mut printed = vec![1; MOST_PRINTED];
+    let bytes = lent.sheet(&mut printed);
+    let [figures, count, list, sheet] = bench.together(|| {
         [
             Times::once(|| (), || lent.figures()),
             Times::once(|| lent.figures(), || lent.count_dots()),
             Times::once(|| lent.figures(), || lent.dot_list()),
+            Times::once(
+                || lent.figures(),
+                || {
+                    lent.sheet(&mut printed);
+                },
+            ),
         ]
     });
     let dot = figures.ours.as_secs_f64() * 1e9 / size as f64;
     println!("store-read {name} {dot:.3} nanoseconds a frame dot");
     beyond("store-count-dots-64x64", name, count);
     beyond("store-dots-64x64", name, list);
+    beyond(&format!("store-sheet of {bytes} bytes"), name, sheet);
     let [whole] = bench.together(|| {
         let rust = Times::once(|| lent.rust(), || ()).rust;
         let ours = Times::once(|| (), || lent.whole()).ours;

@@ -44,6 +44,7 @@ pub enum Asked {
     TwentyLines,
     CountDots(u32, [u32; 4]),
     Dots(u32, [u32; 4]),
+    PrintedSheet,
 }
 
 /// How many words or bytes are lent: of the store and its planes a front part, scratch and the output for this call alone.
@@ -161,7 +162,7 @@ impl Output {
             Asked::Level(_) | Asked::Segment(_) | Asked::Clear => Output::None,
             Asked::TwentyLines | Asked::CountDots(..) => Output::None,
             Asked::Point(_) | Asked::Rect(_) => Output::Signed(words.iter().map(|&word| word as i32).collect()),
-            Asked::Gray(_) => Output::Bytes(words.iter().map(|&word| (word >> 24) as u8).collect()),
+            Asked::Gray(_) | Asked::PrintedSheet => Output::Bytes(words.iter().map(|&word| (word >> 24) as u8).collect()),
             Asked::Summary => Output::Floats(words.iter().map(|&word| f64::from(word)).collect()),
             _ => Output::Words(words),
         }
@@ -215,6 +216,7 @@ fn reading(asked: &Asked, held: Held, output: &mut Output, length: usize) -> Ans
         (Asked::TwentyLines, _) => host::twenty_line_measure(held),
         (Asked::CountDots(kind, corners), _) => host::count_dots(held, *kind, *corners),
         (Asked::Dots(kind, corners), Output::Words(out)) => host::read_dots(held, *kind, *corners, &mut out[..length]),
+        (Asked::PrintedSheet, Output::Bytes(out)) => host::write_sheet(held, &mut out[..length]),
         _ => unreachable!("each reading has its own output"),
     }
 }

@@ -40,7 +40,11 @@ fn record(random: &mut Random, frame: &Layout, which: Which, lines: usize, block
     let corners = good_box(random, frame);
     let mut words = corners.to_vec();
     match which {
-        Which::Columns => words = vec![corners[0], corners[2]],
+        // nobody judges a column's ends
+        Which::Columns => {
+            let any = random.next() as u32;
+            words = vec![random.pick(&[corners[0], any]), corners[2]];
+        }
         Which::Rules | Which::Graphics => {}
         Which::Glyphs => {
             let line = if random.below(3) == 0 || lines == 0 {

@@ -141,6 +141,7 @@ fn op(asked: &Asked) -> u32 {
         Asked::CountDots(..) => 10,
         Asked::Dots(..) => 11,
         Asked::List(which) => 12 + *which as u32,
+        Asked::PrintedSheet => 18,
     }
 }
 
@@ -236,10 +237,10 @@ impl Left {
     }
 }
 
-/// Which output a reading fills: 0 words, 1 gray bytes, 2 integers, 3 numbers.
+/// Which output a reading fills: 0 words, 1 bytes, 2 integers, 3 numbers.
 fn output(asked: &Asked) -> usize {
     match asked {
-        Asked::Gray(_) => 1,
+        Asked::Gray(_) | Asked::PrintedSheet => 1,
         Asked::Point(_) | Asked::Rect(_) => 2,
         Asked::Summary => 3,
         _ => 0,
@@ -411,7 +412,13 @@ fn whole_reading(list: &mut List, random: &mut Random) {
     };
     let leaf = text_leaf(random, &room);
     let frame = rules::frame(leaf.width as usize, leaf.height as usize, 0.0, rules::applied(&leaf, leaf.slope));
-    let mut all = vec![Asked::Frame, Asked::Figures, Asked::Summary, Asked::TwentyLines];
+    let mut all = vec![
+        Asked::Frame,
+        Asked::Figures,
+        Asked::Summary,
+        Asked::TwentyLines,
+        Asked::PrintedSheet,
+    ];
     all.extend(LISTS.map(Asked::List));
     all.extend((0..8).map(|_| any_reading(random, &frame)));
     for i in 0..all.len() {

@@ -178,7 +178,7 @@ fn any_gray(random: &mut Random, frame: &Layout) -> Vec<u8> {
 /// A reading, for a page with this frame.
 pub fn any_reading(random: &mut Random, frame: &Layout) -> Asked {
     let kind = random.pick(&[0, 1, 2, 3, 4, 4, 5, 5, 6, u32::MAX]);
-    match random.below(15) {
+    match random.below(16) {
         0 => Asked::Point(any_point(random, frame)),
         1 => Asked::Rect(any_box(random, frame)),
         2 => Asked::Gray(any_gray(random, frame)),
@@ -188,7 +188,8 @@ pub fn any_reading(random: &mut Random, frame: &Layout) -> Asked {
         6 => Asked::TwentyLines,
         7 => Asked::CountDots(kind, any_box(random, frame)),
         8 => Asked::Dots(kind, any_box(random, frame)),
-        i => Asked::List(LISTS[i as usize - 9]),
+        9 => Asked::PrintedSheet,
+        i => Asked::List(LISTS[i as usize - 10]),
     }
 }
 

@@ -114,6 +114,7 @@ impl Trial<'_> {
         self.call(random, Asked::Figures);
         self.call(random, Asked::Summary);
         self.call(random, Asked::TwentyLines);
+        self.call(random, Asked::PrintedSheet);
         for which in LISTS {
             self.call(random, Asked::List(which));
         }

@@ -245,12 +245,49 @@ pub fn result_answer(asked: &Asked, frame: &Layout, view: &View, out: usize) -> 
             let list = dot_list(frame, view.kinds, *kind, *corners);
             (list.len() / 2, wide(&list))
         }
+        Asked::PrintedSheet => {
+            let text = sheet_text(frame, view);
+            (text.len(), text.bytes().map(u64::from).collect())
+        }
         _ => unreachable!("not a reading of results"),
     };
     if out < filled.len() {
         return Told::refused(9);
     }
     Told::answered(value as u32, filled)
+}
+
+/// The last digits of a number, as many as its field has.
+fn digits(count: usize, number: u32) -> String {
+    let all = format!("{number:08X}");
+    all[8 - count..].to_owned()
+}
+
+/// The printed sheet (01, "Leaves to try"), from the words that a store has for it: each kind's list, and the digits of a record's words.
+fn sheet_text(frame: &Layout, view: &View) -> String {
+    const BOX: [usize; 4] = [4; 4];
+    let kinds: [(Which, Vec<usize>); 6] = [
+        (Which::Lines, [&BOX[..], &[8, 8, 4, 3]].concat()),
+        (Which::Blocks, [&BOX[..], &[3]].concat()),
+        (Which::Rules, BOX.to_vec()),
+        (Which::Graphics, BOX.to_vec()),
+        (Which::Glyphs, [&BOX[..], &[8, 3]].concat()),
+        (Which::Columns, vec![4, 4]),
+    ];
+    let sides = [frame.width, frame.height, frame.page_width, frame.page_height];
+    let mut text = "0001".to_owned();
+    text.extend(sides.map(|side| digits(4, side as u32)));
+    text += &format!("{:08X}{:08X}\n", view.figures[2], view.figures[1]);
+    for (i, (which, widths)) in kinds.iter().enumerate() {
+        for record in view.lists[*which as usize].chunks_exact(widths.len()) {
+            text += &format!("{:02X}", i + 1);
+            text.extend(record.iter().zip(widths).map(|(&word, &width)| digits(width, word)));
+            text.push('\n');
+        }
+    }
+    text += "07";
+    text.extend(view.figures[9..].iter().map(|&dots| digits(8, dots)));
+    text + "\n"
 }
 
 /// 10 times the median of the differences of y0 + y1 between following lines of a block, one below 0 as 0; 0 without any.

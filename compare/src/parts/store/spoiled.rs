@@ -108,6 +108,7 @@ impl Genuine {
             Asked::Figures,
             Asked::Summary,
             Asked::TwentyLines,
+            Asked::PrintedSheet,
             Asked::CountDots(kind, inside),
             Asked::Dots(kind, any_box(random, frame)),
             Asked::CountDots(random.pick(&[0, 1, 6]), any_box(random, frame)),
