@@ -24,6 +24,8 @@ use crate::words::LINES;
 use crate::words::RULES;
 use crate::words::UNIT;
 use memory::float_at;
+use smoothing::MAX_LINES;
+use smoothing::NO_LINE;
 
 // Whether the four words from p on are a box inside a frame.
 fn box_ok(words: &[u32], p: usize, w: u32, h: u32) -> bool
@@ -155,7 +157,7 @@ fn counts_ok(
         & (graphics <= capacity)
         & (glyphs <= capacity)
         & (lines <= capacity)
-        & (lines <= 4095)
+        & (lines <= MAX_LINES)
         & (blocks <= capacity)
         & (columns <= w)
 }
@@ -189,7 +191,7 @@ fn lists_ok(
     let e = boxes_ok(store, glyphs_at, 6, glyphs as usize, w, h);
     let f = boxes_ok(store, lines_at, 8, lines as usize, w, h);
     let g = boxes_ok(store, blocks_at, 5, blocks as usize, w, h);
-    let i = fields_marked(store, glyphs_at, 6, 5, glyphs as usize, 4095, lines);
+    let i = fields_marked(store, glyphs_at, 6, 5, glyphs as usize, NO_LINE, lines);
     let j = fields_below(store, lines_at, 8, 7, lines as usize, blocks);
     a & b & c & d & e & f & g & i & j
 }

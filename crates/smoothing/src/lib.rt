@@ -6,9 +6,11 @@ mod rows;
 mod smooth;
 
 pub use glyphs::write_glyphs;
+pub use lines::NO_LINE;
 pub use lines::number_labels;
 pub use lines::order_lines;
 pub use lines::write_lines;
+pub use rows::MAX_LINES;
 pub use rows::Rows;
 pub use rows::RowsAnswer;
 pub use rows::group_rows;

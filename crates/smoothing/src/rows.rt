@@ -16,7 +16,7 @@ use params::LayoutParams;
 use rounding::round_to_u32;
 
 // The most lines of a page.
-const MAX_LINES: usize = 4095;
+pub const MAX_LINES: u32 = 4095;
 
 // How many smoothed components and lines there are.
 pub struct Rows {
@@ -64,7 +64,7 @@ pub fn group_rows(
     label_glyphs(words, kinds, components, glyphs, 3 * runs + 2 * found.runs);
     count_glyphs(words, kinds, components, glyphs, rows);
     let lines = count_lines(&words[..], smoothed, glyphs, rows, sheet, unit);
-    if MAX_LINES < lines {
+    if (MAX_LINES as usize) < lines {
         return RowsAnswer::TooManyLines;
     }
     RowsAnswer::Grouped(Rows { rows, lines })

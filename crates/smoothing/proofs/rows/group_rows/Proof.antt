@@ -71,6 +71,9 @@ count-glyphs-requires c κs = let S = c .before .before .before .before .before 
 count-lines-requires : tie.Need-count-lines-requires
 count-lines-requires c κs = let S = c .before .before .before .before .before .before .before .before .before .before .before .before .before .before .before .before .pre .1 in let n = c .before .before .before .before .before .before .before .before .before .before .before .before .before .before .before .before .pre .2 in let L = c .before .before .before .before .before .before .before .before .before .before .before .before .before .label-rows .ensures _ S in let u : c .before .before .before .before .before .before .before .before .before .before .before .before .before .label-rows .result .rows ≤ c .before .before .before .before .before .before .before .before .before .before .before .before .before .before .before .before .args .capacity = omega (arith, c .before .before .before .before .before .before .before .before .before .before .if1 .left) in lines-ask S L u n (c .before .before .before .before .before .before .before .label-glyphs .ensures) (c .before .before .before .count-glyphs .ensures)
 
+cast-if2 : tie.Need-cast-if2
+cast-if2 c = search needs
+
 same-length-2 : tie.Need-same-length-2
 same-length-2 c = search needs
 
@@ -109,6 +112,7 @@ group-rows-spec =
     label-glyphs-requires
     count-glyphs-requires
     count-lines-requires
+    cast-if2
     same-length-2
     returns-2
     same-length-3
