@@ -11,7 +11,8 @@ use lib.ListN.{length, getD, take, drop, set, take-append-drop}
 use lib.Seq.{take-suc, set-at, length-take-le, drop-drop}
 use Rattle.memory.specs.Words.{over}
 use Rattle.grouping.specs.Words.{putAt}
-use Rattle.listing.specs.rules.Digits.{digitOf, pairOf, hex}
+use Rattle.listing.specs.rules.Digits.{digitOf, hex}
+use Rattle.listing.specs.stages.Pairs.{pairOf}
 
 pub digit-small : (d : ℕ) → d < 16 → digitOf d ≤ 70
 unfolding digitOf

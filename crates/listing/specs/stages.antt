@@ -1,3 +1,5 @@
+-- two digits at a time, and the bytes of a refusal
+pub mod Pairs
 -- what a writer of a text leaves
 pub mod Puts
 -- what the writer of a sheet asks

@@ -3,7 +3,8 @@ ghost use mathlib.Core.Path.{_≡_};
 ghost use Prim.Native.Nat.{_+_, _<_, _≤_};
 ghost use lib.ListN.{length};
 ghost use Rattle.memory.specs.Words.{over};
-ghost use Rattle.listing.specs.rules.Digits.{digitOf, pairOf, hex, refusalText, refusalLength};
+ghost use Rattle.listing.specs.rules.Digits.{digitOf, hex, refusalText};
+ghost use Rattle.listing.specs.stages.Pairs.{pairOf, refusalLength};
 ghost use Rattle.listing.specs.stages.Puts.{Put};
 
 // What ends a line.

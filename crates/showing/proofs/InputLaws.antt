@@ -10,7 +10,9 @@ use lib.Dec.{eqb, leb}
 use lib.ListN.{length, getD}
 use Rattle.memory.specs.Words.{over}
 use Rattle.memory.proofs.BoolLaws.{and-left, and-right}
-use Rattle.showing.specs.rules.Inputs.{every, digitsAt, widthOf, heightOf, rowsAt, rowDigits, rowAt, rowGood, headGood, sidesGood, wellMade, maxShownSide, longestInput, skewOf, slopeOf, dotsIn, parsed, maskOf}
+use Rattle.judging.specs.rules.Spoiled.{every}
+use Rattle.showing.specs.rules.Inputs.{digitsAt, widthOf, heightOf, rowsAt, rowDigits, rowAt, rowGood, headGood, sidesGood, wellMade, maxShownSide, skewOf, slopeOf, dotsIn, parsed, maskOf}
+use Rattle.showing.specs.stages.Rooms.{longestInput}
 use Rattle.showing.specs.declared.input.Parsed.the-variants.{Malformed, Page}
 
 -- a row before the last one ends where the rows do, or before

@@ -16,7 +16,8 @@ use Rattle.memory.proofs.BoolLaws.{and-left, and-right}
 use Rattle.memory.proofs.PlaneLaws.{dot-row, dot-column, dot-inside}
 use Rattle.memory.proofs.TableLaws.{getD-table}
 use Rattle.listing.specs.rules.Digits.{digitOf, hex, joined, lineFeed}
-use Rattle.showing.specs.rules.Inputs.{isDigit, digitValue, every, digitsAt, numberAt, widthOf, heightOf, skewOf, slopeOf, rowsAt, rowDigits, rowAt, rowNumber, rowDot, rowGood, headGood, wellMade, dotAt, dotsIn, maskOf, dotsNumber, rowText, pageText}
+use Rattle.judging.specs.rules.Spoiled.{every}
+use Rattle.showing.specs.rules.Inputs.{isDigit, digitValue, digitsAt, numberAt, widthOf, heightOf, skewOf, slopeOf, rowsAt, rowDigits, rowAt, rowNumber, rowDot, rowGood, headGood, wellMade, dotAt, dotsIn, maskOf, dotsNumber, rowText, pageText}
 use Rattle.showing.proofs.ReadLaws.{power-more}
 use Rattle.showing.proofs.InputLaws.{made, made-long, row-inside}
 

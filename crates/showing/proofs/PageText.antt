@@ -14,7 +14,8 @@ use lib.Seq.{take-all, take-at, drop-at, drop-drop, getD-drop, getD-take, take-t
 use Rattle.memory.specs.Lists.{table}
 use Rattle.memory.proofs.TableLaws.{getD-table, length-table}
 use Rattle.listing.specs.rules.Digits.{digitOf, hex, joined, lineFeed}
-use Rattle.showing.specs.rules.Inputs.{isDigit, digitValue, every, numberAt, widthOf, heightOf, skewOf, slopeOf, rowsAt, rowDigits, rowAt, rowNumber, rowDot, rowGood, headGood, sidesGood, wellMade, dotAt, dotsIn, parsed, maskOf, dotsNumber, rowText, pageText}
+use Rattle.judging.specs.rules.Spoiled.{every}
+use Rattle.showing.specs.rules.Inputs.{isDigit, digitValue, numberAt, widthOf, heightOf, skewOf, slopeOf, rowsAt, rowDigits, rowAt, rowNumber, rowDot, rowGood, headGood, sidesGood, wellMade, dotAt, dotsIn, parsed, maskOf, dotsNumber, rowText, pageText}
 use Rattle.showing.specs.declared.input.Parsed.the-variants.{Page}
 use Rattle.listing.proofs.DigitLaws.{length-hex}
 use Rattle.listing.proofs.TextLaws.{length-joined}

@@ -7,7 +7,8 @@ use native.Mathlib.Nat.{pow-suc, pow-le-pow-right}
 use native.Mathlib.Numerals.{add-one}
 use native.Mathlib.Omega.{arith}
 use lib.ListN.{getD}
-use Rattle.showing.specs.rules.Inputs.{digitValue, every, numberAt}
+use Rattle.judging.specs.rules.Spoiled.{every}
+use Rattle.showing.specs.rules.Inputs.{digitValue, numberAt}
 
 -- one more test
 pub every-more : (p : ℕ → Bool) (i : ℕ) (good b : Bool) → good ≡ every p i → b ≡ p i → (good && b) ≡ every p (i + 1)

@@ -18,7 +18,8 @@ use Rattle.listing.specs.rules.Digits.{digitOf, hex, refusalText}
 use Rattle.listing.specs.rules.Pages.{pageSheet}
 use Rattle.listing.proofs.SampleSheet.{bytes, sampleText, sample-text}
 use Rattle.showing.specs.declared.input.Parsed.the-variants.{Page}
-use Rattle.showing.specs.rules.Inputs.{isDigit, digitValue, every, numberAt, rowGood, headGood, sidesGood, wellMade, dotsIn, parsed, maskOf}
+use Rattle.judging.specs.rules.Spoiled.{every}
+use Rattle.showing.specs.rules.Inputs.{isDigit, digitValue, numberAt, rowGood, headGood, sidesGood, wellMade, dotsIn, parsed, maskOf}
 use Rattle.showing.specs.rules.Shows.{leafShown, leafNumber, leafText, shown}
 use Rattle.showing.proofs.ShowLaws.{leafSheet, leaf-printed}
 

@@ -6,7 +6,8 @@ use borrow.Author.Tests.{lt-ltb, le-ltb}
 use lib.ListN.{length}
 use Rattle.memory.specs.Refusals.{refuseIf}
 use Rattle.memory.specs.Words.{over}
-use Rattle.listing.specs.rules.Digits.{hex, refusalText, refusalLength}
+use Rattle.listing.specs.rules.Digits.{hex, refusalText}
+use Rattle.listing.specs.stages.Pairs.{refusalLength}
 use Rattle.store.specs.rules.Readings.Output.{words}
 use Rattle.store.specs.rules.Outcomes.{told, toldBy}
 use Rattle.showing.specs.stages.Texts.{textTold}

@@ -1,4 +1,4 @@
--- The printed sheet of a page (01, "Leaves to try"): what each line says, its kind and then its numbers, and the digits that each number has.
+-- The printed sheet of a page (01, "Leaves to try"): what each entry, a line of it, says: its kind and then its numbers, and the digits that each number has.
 use Prim.Native.Nat.{ℕ}
 use mathlib.Core.List.{List, [], _∷_, _++_, map}
 use lib.Ieee.{binary64, toBits}
@@ -18,7 +18,7 @@ edition = 1
 abbrev pub numberDigits : ℕ
 numberDigits = 3
 
--- the digits of each number of a line, by kind
+-- the digits of each number of an entry, by kind
 abbrev pub formats : List (List ℕ)
 formats =
     -- 0, the head: edition, frame width and height, page width and height, unit as f64 bits
@@ -39,8 +39,9 @@ formats =
     ∷ (8 ∷ 8 ∷ 8 ∷ 8 ∷ 8 ∷ 8 ∷ [])
     ∷ []
 
--- What each line says
+-- What each entry says
 
+-- a box: x0, y0, x1, y1
 abbrev pub corners : Rect → List ℕ
 corners r = r .x0 ∷ r .y0 ∷ r .x1 ∷ r .y1 ∷ []
 

@@ -1,11 +1,12 @@
 -- The show program's input (01, "Leaves to try"; docs/DECISIONS.md, 1 to 3): width and height in 4 digits each, skew and slope as f64 bits in 16
 -- each, a line feed; then a line a row, four dots a digit, left highest, zero-padded. Everything else is malformed, and so is a side above 16.
 use Prim.Native.Nat.{ℕ, zero, suc, _+_, _-_, _*_, _/_, _%_, _^_}
-use mathlib.Core.Bool.{Bool, true, cond, _&&_, _||_}
+use mathlib.Core.Bool.{Bool, cond, _&&_, _||_}
 use mathlib.Core.List.{List, [], _∷_, _++_}
 use lib.Dec.{eqb, leb}
 use lib.ListN.{getD, length}
 use Rattle.memory.specs.Lists.{table}
+use Rattle.judging.specs.rules.Spoiled.{every}
 use Rattle.listing.specs.rules.Digits.{lineFeed, hex, joined}
 use Rattle.showing.specs.declared.input.Parsed.{Parsed}
 use Rattle.showing.specs.declared.input.Parsed.the-variants.{Malformed, Page}
@@ -17,11 +18,6 @@ isDigit b = (leb 48 b && leb b 57) || (leb 65 b && leb b 70)
 -- its value; of any other byte, some number below 16
 unfoldable pub digitValue : ℕ → ℕ
 digitValue b = cond (leb b 57) (b % 16) ((b - 55) % 16)
-
--- each number below n passes
-unfoldable pub every : (ℕ → Bool) → ℕ → Bool
-every p zero = true
-every p (suc n) = every p n && p n
 
 -- n digits stand at `at`
 abbrev pub digitsAt : List ℕ → ℕ → ℕ → Bool
@@ -115,11 +111,3 @@ rowText w m y = hex (rowDigits w) (dotsNumber m (y * w) w * 2 ^ (4 * rowDigits w
 -- the other way: the text of a page (`text-of-parsed` of proofs/InputText.antt: a well made input is the text of what it says)
 unfoldable pub pageText : ℕ → ℕ → ℕ → ℕ → List ℕ → List ℕ
 pageText w h skew slope m = hex 4 w ++ hex 4 h ++ hex 16 skew ++ hex 16 slope ++ (lineFeed ∷ []) ++ joined (rowText w m) h
-
--- the longest input that is well made: 16 rows of 4 digits
-abbrev pub longestInput : ℕ
-longestInput = 121
-
--- the most dots of a page
-abbrev pub mostDots : ℕ
-mostDots = maxShownSide * maxShownSide

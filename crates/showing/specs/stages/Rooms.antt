@@ -1,9 +1,18 @@
 -- The memory that a page to 16 × 16 is worked on in: under a slope of 1 it is moved into a frame of 46 × 31.
-use Prim.Native.Nat.{ℕ, _≤_}
+use Prim.Native.Nat.{ℕ, _*_, _≤_}
 use mathlib.Core.Path.{_≡_}
 use mathlib.Core.List.{List}
 use lib.ListN.{length}
 use Rattle.memory.specs.Words.{wordAt}
+use Rattle.showing.specs.rules.Inputs.{maxShownSide}
+
+-- the longest input that is well made: 16 rows of 4 digits
+abbrev pub longestInput : ℕ
+longestInput = 121
+
+-- the most dots of a page, and of its frame
+abbrev pub mostDots : ℕ
+mostDots = maxShownSide * maxShownSide
 
 abbrev pub shownDots : ℕ
 shownDots = 1426

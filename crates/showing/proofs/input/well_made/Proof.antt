@@ -1,7 +1,8 @@
 use mathlib.Core.Path.{_≡_, sym, _∙_}
 use lib.ListN.{length}
 use borrow.Author.Tests.{not-true, not-false}
-use Rattle.showing.specs.rules.Inputs.{every, rowGood, rowAt}
+use Rattle.judging.specs.rules.Spoiled.{every}
+use Rattle.showing.specs.rules.Inputs.{rowGood, rowAt}
 use Rattle.showing.proofs.InputLaws.{head-long, sides-good, head-bad, sides-bad, rows-tell}
 use native.Mathlib.Omega.{arith}
 use borrow.Author.Needs.{needs}

@@ -1,6 +1,7 @@
 use mathlib.Core.Path.{_≡_, refl, ap, _∙_}
 use Prim.Native.Nat.{_-_, _≤_}
-use Rattle.showing.specs.rules.Inputs.{digitsAt, every}
+use Rattle.judging.specs.rules.Spoiled.{every}
+use Rattle.showing.specs.rules.Inputs.{digitsAt}
 use Rattle.showing.proofs.ReadLaws.{every-more}
 use native.Mathlib.Omega.{arith}
 use Rattle.showing.proofs.reading.digits_at.Statement.{statement}

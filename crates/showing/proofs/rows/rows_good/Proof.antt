@@ -1,6 +1,7 @@
 use mathlib.Core.Path.{_≡_, refl, ap, _∙_}
 use Prim.Native.Nat.{_-_, _≤_}
-use Rattle.showing.specs.rules.Inputs.{every, rowGood}
+use Rattle.judging.specs.rules.Spoiled.{every}
+use Rattle.showing.specs.rules.Inputs.{rowGood}
 use Rattle.showing.proofs.ReadLaws.{every-more}
 use Rattle.showing.proofs.InputLaws.{row-inside}
 use native.Mathlib.Omega.{arith}
