@@ -9,13 +9,13 @@ use lib.Dec.{T, eqb}
 use lib.Ieee.{fits, binary64}
 use lib.ListN.{length, take, drop, take-append-drop}
 use lib.Seq.{getD-take, take-take, take-at, take-append-le, length-take-le}
-use Rattle.memory.specs.Limits.{storeWords}
-use Rattle.memory.specs.Words.{wordAt, over}
+use Rattle.memory.specs.rules.Limits.{storeWords}
+use Rattle.memory.specs.rules.Words.{wordAt, over}
 use Rattle.memory.proofs.RefusalLaws.{refusal-passed}
-use Rattle.params.specs.Valid.{valid}
+use Rattle.params.specs.rules.Valid.{valid}
 use Rattle.params.specs.declared.LayoutParams.{LayoutParams}
-use Rattle.levelling.specs.Frames.{Frame}
-use Rattle.grouping.specs.Layouts.{Layout, layout, layoutRefusal}
+use Rattle.levelling.specs.rules.Frames.{Frame}
+use Rattle.segmenting.specs.rules.Layouts.{Layout, layout, layoutRefusal}
 use Rattle.judging.specs.rules.Header.{Held, held, frameHeld, dotsHeld, storeHeld, segmentedState}
 use Rattle.judging.specs.rules.Leaves.{Leaf, levellingOf, leafHeld, layoutOf}
 use Rattle.store.specs.rules.Written.{storeLevelled, storeSegmented, storeCleared}

@@ -8,17 +8,17 @@ use borrow.Author.Tests.{eq-eqb}
 use lib.Dec.{eqb, ltb}
 use lib.ListN.{getD}
 use lib.Seq.{getD-take}
-use Rattle.memory.specs.Lists.{occurs, total}
-use Rattle.memory.specs.Masks.{isInk}
+use Rattle.memory.specs.rules.Lists.{occurs}
+use Rattle.memory.specs.rules.Masks.{isInk}
 use Rattle.params.specs.declared.LayoutParams.{LayoutParams}
-use Rattle.levelling.specs.Frames.{Frame}
-use Rattle.levelling.specs.Planes as planes
+use Rattle.levelling.specs.rules.Frames.{Frame}
+use Rattle.levelling.specs.rules.Planes as planes
 use Rattle.levelling.proofs.PairTheorems.{plane-pairs}
-use Rattle.sorting.specs.Sorted.{sorted, kindCounts}
+use Rattle.sorting.specs.rules.Sorted.{sorted, kindCounts}
 use Rattle.sorting.proofs.KindLaws.{KindOfDot, kind-of-dot, kinds-add-up}
 use Rattle.sorting.proofs.KindLaws.KindOfDot.{blank, ink}
-use Rattle.grouping.specs.Layouts.{Layout, layout, layoutRefusal}
-use Rattle.segmenting.specs.Figures.{figuresOf, figureWords}
+use Rattle.segmenting.specs.rules.Layouts.{Layout, layout, layoutRefusal}
+use Rattle.segmenting.specs.rules.Figures.{figuresOf, figureWords}
 use Rattle.judging.specs.rules.Header.{segmentedState}
 use Rattle.judging.specs.rules.Leaves.{Leaf, levellingOf, layoutOf}
 use Rattle.judging.specs.rules.Views.{viewOf, viewOfLayout}
@@ -128,14 +128,14 @@ module _ (a : Leaf) (sheet : LayoutParams) (v : World) (K : LevelKept 2 a v) (R 
   ink-word = word 9 (omega arith) ∙ ink-count a (K .accepted)
 
   pub sum-words : occurs 1 (a .mask) ≡ dotsWord v 1 + dotsWord v 2 + dotsWord v 3 + dotsWord v 4 + dotsWord v 5
-  unfolding figureWords layout kindCounts total
+  unfolding figureWords layout kindCounts
   sum-words =
       let w = levellingOf a .frame .w in
       let h = levellingOf a .frame .h in
       let m = levellingOf a .ink in
       let plane = sorted sheet w h m .plane in
       let e = ink-count a (K .accepted) in
-      let t : occurs 1 plane + (occurs 2 plane + (occurs 3 plane + (occurs 4 plane + (occurs 5 plane + 0)))) ≡ occurs 1 m =
+      let t : occurs 1 plane + occurs 2 plane + occurs 3 plane + occurs 4 plane + occurs 5 plane ≡ occurs 1 m =
       kinds-add-up sheet w h m (frame-small a (K .accepted) .wide) (ink-long a) (ink-ones a (K .accepted)) in
       let w₁ : dotsWord v 1 ≡ occurs 1 plane = word 10 (omega arith) in
       let w₂ : dotsWord v 2 ≡ occurs 2 plane = word 11 (omega arith) in

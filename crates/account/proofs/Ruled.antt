@@ -4,13 +4,13 @@ use mathlib.Core.List.{List}
 use Prim.Native.Nat.{ℕ}
 use lib.Dec.{ltb}
 use lib.ListN.{length}
-use Rattle.memory.specs.Words.{over}
+use Rattle.memory.specs.rules.Words.{over}
 use Rattle.params.specs.declared.LayoutParams.{LayoutParams}
-use Rattle.levelling.specs.Planes.{Levelling}
-use Rattle.grouping.specs.Layouts.{layout}
-use Rattle.grouping.specs.Readings.{summaryNumbers}
+use Rattle.levelling.specs.rules.Planes.{Levelling}
+use Rattle.segmenting.specs.rules.Layouts.{layout}
+use Rattle.grouping.specs.rules.Readings.{summaryNumbers}
 use Rattle.grouping.specs.declared.summary.Summary.{Summary}
-use Rattle.segmenting.specs.Figures.{figureWords}
+use Rattle.segmenting.specs.rules.Figures.{figureWords}
 use Rattle.judging.specs.rules.Views.{viewOfLayout}
 use Rattle.listing.proofs.SheetOfPage.{sheet-of-layout}
 use Rattle.store.specs.rules.Readings.{filled, ResultReading, shortResult, valueResult, fillResult}

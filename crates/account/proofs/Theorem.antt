@@ -7,10 +7,10 @@ use native.Mathlib.Nat.{le-refl}
 use native.Mathlib.Omega.{arith}
 use borrow.Author.Tests.{eq-eqb}
 use lib.ListN.{length}
-use Rattle.memory.specs.Limits.{storeWords, scratchWords}
-use Rattle.memory.specs.Words.{wordAt}
+use Rattle.memory.specs.rules.Limits.{storeWords, scratchWords}
+use Rattle.memory.specs.rules.Words.{wordAt}
 use Rattle.params.specs.declared.LayoutParams.{LayoutParams}
-use Rattle.levelling.specs.Frames.{Frame}
+use Rattle.levelling.specs.rules.Frames.{Frame}
 use Rattle.judging.specs.rules.Header.{emptyState, storeHeld, dotsHeld}
 use Rattle.judging.specs.rules.Leaves.{Leaf, levellingOf, leafHeld}
 use Rattle.store.specs.rules.Outcomes.{Told}

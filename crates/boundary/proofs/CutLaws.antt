@@ -9,15 +9,16 @@ use borrow.Author.Tests.{ltb-false, lt-ltb, le-ltb}
 use lib.Dec.{ltb}
 use lib.ListN.{length, take, drop}
 use lib.Seq.{length-take-le}
-use Rattle.memory.specs.Limits.{scratchWords}
-use Rattle.memory.specs.Lists.{greatest}
-use Rattle.memory.specs.Refusals.{refuseIf}
-use Rattle.memory.specs.Words.{over}
+use Rattle.memory.specs.rules.Limits.{scratchWords}
+use Rattle.memory.specs.rules.Lists.{greatest}
+use Rattle.memory.specs.rules.Refusals.{refuseIf}
+use Rattle.memory.specs.rules.Words.{over}
 use Rattle.memory.proofs.RefusalLaws.{refusal-passed, passes-none, passes-if}
-use Rattle.sorting.specs.Sortings.{FrameRoom, CutsHeld, mostCuts}
+use Rattle.sorting.specs.stages.Sortings.{FrameRoom, CutsHeld}
+use Rattle.sorting.specs.rules.Capacity.{mostCuts}
 use Rattle.sorting.specs.declared.sort.Cuts.{Cuts}
-use Rattle.boundary.specs.Frames.{frameRefusal, roomRefusal, told}
-use Rattle.boundary.specs.Sorting.{cutsMany, cutCounts, cutRulings}
+use Rattle.boundary.specs.rules.Frames.{frameRefusal, roomRefusal, told}
+use Rattle.boundary.specs.rules.Sorting.{cutsMany, cutCounts, cutRulings}
 use Rattle.boundary.proofs.FrameLaws.{frame-pass, room-pass, FrameGood, frame-good, RoomGood, room-good, told-refused, told-many, told-done}
 
 -- each count is at most the greatest number of components

@@ -3,12 +3,12 @@ use mathlib.Core.Path.{_≡_, refl, ap, _∙_}
 use mathlib.Core.Bool.{Bool}
 use mathlib.Core.List.{List}
 use Prim.Native.Nat.{ℕ}
-use Rattle.extents.specs.Answers.{ExtentsOutcome, extentsOutcome, runExtents}
+use Rattle.extents.specs.rules.Answers.{ExtentsOutcome, extentsOutcome, runExtents}
 use Rattle.extents.specs.declared.entry.Along.{Along}
 use Rattle.extents.specs.declared.entry.ExtentsAnswer.{ExtentsAnswer}
 use Rattle.extents.specs.declared.entry.ExtentsAnswer.the-variants.{Done, Refused}
-use Rattle.boundary.specs.Answers.{refusalWord}
-use Rattle.boundary.specs.ExtentAnswers.{alongOf, extentsWord, ExtentsTold}
+use Rattle.boundary.specs.rules.Answers.{refusalWord}
+use Rattle.boundary.specs.rules.ExtentAnswers.{alongOf, extentsWord, ExtentsTold}
 
 extents-word : (a : ExtentsAnswer) (s : List ℕ) → extentsWord a ≡ refusalWord (extentsOutcome a s .number)
 extents-word Done s = refl

@@ -9,10 +9,10 @@ use borrow.Author.Tests.{ltb-false, eqb-true, eqb-false, not-false, ne-eqb}
 use lib.Dec.{eqb, ltb}
 use lib.ListN.{length, take, drop, length-append, length-drop}
 use lib.Seq.{drop-at, length-take-le}
-use Rattle.memory.specs.Limits.{maxFrameWidth, maxFrameHeight, maxCapacity, scratchWords}
-use Rattle.memory.specs.Words.{over}
+use Rattle.memory.specs.rules.Limits.{maxFrameWidth, maxFrameHeight, maxCapacity, scratchWords}
+use Rattle.memory.specs.rules.Words.{over}
 use Rattle.memory.proofs.RefusalLaws.{refusal-passed, Passes, passes-if}
-use Rattle.boundary.specs.Frames.{frameRefusal, roomRefusal, told, toldBy}
+use Rattle.boundary.specs.rules.Frames.{frameRefusal, roomRefusal, told, toldBy}
 
 -- A chain of tests before others
 

@@ -4,10 +4,10 @@ use mathlib.Core.Bool.{Bool, true, false}
 use Prim.Native.Nat.{ℕ}
 use lib.Ieee.{Float}
 use Rattle.params.specs.declared.LayoutParams.{LayoutParams}
-use Rattle.sorting.specs.Units.{unitValue}
-use Rattle.sorting.specs.Kinds.{kindBySize}
+use Rattle.sorting.specs.rules.Units.{unitValue}
+use Rattle.sorting.specs.rules.Kinds.{kindBySize}
 use Rattle.sorting.specs.declared.Unit.{Unit}
-use Rattle.boundary.specs.Sorting.{unitFor}
+use Rattle.boundary.specs.rules.Sorting.{unitFor}
 
 value-is : (b : Bool) (v : Float) → unitValue (unitFor b v) ≡ v
 value-is true v = refl

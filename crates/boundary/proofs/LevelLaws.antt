@@ -7,13 +7,13 @@ use lib.Dec.{T, eqb, ltb, leb, ltb→lt, leb→le, eqb→eq}
 use lib.IntN.{pos}
 use lib.Ieee.{Float, fin, le}
 use lib.ListN.{length}
-use Rattle.memory.specs.Words.{over}
-use Rattle.memory.specs.Limits.{maxPageSide}
+use Rattle.memory.specs.rules.Words.{over}
+use Rattle.memory.specs.rules.Limits.{maxPageSide}
 use Rattle.rounding.proofs.Tests.{yes}
-use Rattle.rounding.specs.Drift.{WithinOne}
-use Rattle.levelling.specs.Frames.{PageSides, frame}
-use Rattle.levelling.specs.Planes.{levelled}
-use Rattle.boundary.specs.Levels.{inLimits, frameWord, lentFits, isLevelled, PlaneTold}
+use Rattle.rounding.specs.rules.Drift.{WithinOne}
+use Rattle.levelling.specs.rules.Frames.{PageSides, frame}
+use Rattle.levelling.specs.rules.Planes.{levelled}
+use Rattle.boundary.specs.rules.Levels.{inLimits, frameWord, lentFits, isLevelled, PlaneTold}
 
 pub split : (a b : Bool) → T (a && b) → T a × T b
 split true true t = (tt, tt)

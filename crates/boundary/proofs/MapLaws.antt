@@ -9,26 +9,26 @@ use lib.IntN.{pos}
 use lib.ListN.{length, take, drop}
 use Rattle.memory.proofs.PartLaws.{tail-part}
 use Rattle.rounding.proofs.Tests.{yes}
-use Rattle.labelling.specs.declared.rect.Rect.{Rect}
-use Rattle.levelling.specs.Frames.{Frame, frameOf}
-use Rattle.levelling.specs.Mapping.{toPage, rectToPage}
+use Rattle.memory.specs.declared.rect.Rect.{Rect}
+use Rattle.levelling.specs.rules.Frames.{Frame, frameOf}
+use Rattle.levelling.specs.rules.Mapping.{toPage, rectToPage}
 use Rattle.levelling.specs.declared.Point.{Point}
-use Rattle.boundary.specs.Levels.{holdsRow, frameIn, pointIn, rectIn}
+use Rattle.boundary.specs.rules.Levels.{holdsRow, frameIn, pointIn, rectIn}
 use Rattle.boundary.proofs.LevelLaws.{is-true, is-false, split}
 
 -- a page w wide, and room for the frame's rows up to y
-pub record Row (length w y : ℕ) : Type 0 where
+pub record Row (words w y : ℕ) : Type 0 where
   pub wide : 0 < w
-  pub low : w + y < length
+  pub low : w + y < words
 
-row-of : (length w y : ℕ) → T (holdsRow length w y) → Row length w y
+row-of : (words w y : ℕ) → T (holdsRow words w y) → Row words w y
 unfolding holdsRow
-row-of length w y t =
-    let s = split (ltb 0 w) (ltb (w + y) length) t in
-    record { wide = ltb→lt 0 w (s .0); low = ltb→lt (w + y) length (s .1) }
+row-of words w y t =
+    let s = split (ltb 0 w) (ltb (w + y) words) t in
+    record { wide = ltb→lt 0 w (s .0); low = ltb→lt (w + y) words (s .1) }
 
-pub row-held : (length w y : ℕ) (b : Bool) → b ≡ holdsRow length w y → not b ≡ false → Row length w y
-row-held length w y b e n = row-of length w y (yes (sym e ∙ is-true b n))
+pub row-held : (words w y : ℕ) (b : Bool) → b ≡ holdsRow words w y → not b ≡ false → Row words w y
+row-held words w y b e n = row-of words w y (yes (sym e ∙ is-true b n))
 
 -- the parts of the words that the code hands on
 parts : (s : List ℕ) (w h : ℕ) → frameOf w h (take (w - 0) s) (take (length s - w) (drop w s)) 0 0 ≡ frameIn s w h

@@ -9,22 +9,23 @@ use borrow.Author.Tests.{ltb-false, not-false, ne-eqb}
 use lib.Dec.{ltb}
 use lib.ListN.{length, getD, take, drop, length-append, length-drop}
 use lib.Seq.{drop-at, length-take-le}
-use Rattle.memory.specs.Limits.{maxFrameWidth, maxFrameHeight, maxCapacity, scratchWords}
-use Rattle.memory.specs.Masks.{isMask}
+use Rattle.memory.specs.rules.Limits.{maxFrameWidth, maxFrameHeight, maxCapacity, scratchWords}
+use Rattle.memory.specs.rules.Masks.{isMask}
 use Rattle.memory.proofs.MaskLaws.{mask-ones}
 use Rattle.memory.proofs.RefusalLaws.{refusal-passed, Passes, passes-none, passes-if}
 use Rattle.rounding.proofs.Tests.{yes}
-use Rattle.params.specs.Valid.{valid}
-use Rattle.params.specs.Facts.{ValidSheet}
+use Rattle.params.specs.rules.Valid.{valid}
+use Rattle.params.specs.rules.Facts.{ValidSheet}
 use Rattle.params.specs.declared.LayoutParams.{LayoutParams}
 use Rattle.params.proofs.SheetLaws.{valid-gives}
-use Rattle.grouping.specs.Layouts.{layout, layoutRefusal}
-use Rattle.segmenting.specs.Answers as Answers
-use Rattle.segmenting.specs.Figures.{figuresLength}
-use Rattle.segmenting.specs.Results.{resultWords}
+use Rattle.segmenting.specs.rules.Layouts.{layout, layoutRefusal}
+use Rattle.segmenting.specs.rules.Answers as Answers
+use Rattle.segmenting.specs.stages.Rooms.{SegmentRoom}
+use Rattle.segmenting.specs.rules.Figures.{figuresLength}
+use Rattle.segmenting.specs.rules.Results.{resultWords}
 use Rattle.segmenting.specs.declared.page.SegmentAnswer.{SegmentAnswer}
 use Rattle.boundary.proofs.FrameLaws.{frame-pass, room-pass, frame-good, room-good}
-use Rattle.boundary.specs.Pages.{planeRefusal, lentRefusal, figuresLeft, left, leftWith, paged}
+use Rattle.boundary.specs.rules.Pages.{planeRefusal, lentRefusal, figuresLeft, left, leftWith, paged}
 
 -- A chain of tests before others
 
@@ -100,7 +101,7 @@ module _ (p : LayoutParams) (w h : ℕ) (m : List ℕ) (P : ℕ) (words results 
 
   refused : (n : ℕ) → planeRefusal w h m (by-lent by-page) ≡ n → (n ≡ 0 → ⊥)
       → left n results kinds figures (length words) (drop (scratchWords (w * h) P) words) ≡ paged p w h m P words results kinds figures
-  unfolding Answers.leftBy
+  unfolding Answers.segmentOutcomeBy
   refused n e ne = rw (e, ne-eqb n 0 ne) refl
 
   pub refused-plane : (n : ℕ) → n ≡ planeRefusal w h m 0 → (n ≡ 0 → ⊥)
@@ -123,7 +124,7 @@ module _ (p : LayoutParams) (w h : ℕ) (m : List ℕ) (P : ℕ) (words results 
         pub page-lent : LentGood p w (w * h) P (length words) (length results) (length kinds) (length figures)
         page-lent = lent-good p w (w * h) P (length words) (length results) (length kinds) (length figures) (sym el ∙ gl)
 
-        pub page-room : Answers.SegmentRoom p w h m P (take (4 * (w * h) + 16 * P + 64) words) (length results) (length kinds)
+        pub page-room : SegmentRoom p w h m P (take (4 * (w * h) + 16 * P + 64) words) (length results) (length kinds)
         page-room =
             let G = page-plane in
             let L = page-lent in
@@ -144,12 +145,12 @@ module _ (p : LayoutParams) (w h : ℕ) (m : List ℕ) (P : ℕ) (words results 
             }
 
         pub page-done : (n : ℕ) (r : SegmentAnswer) (results' kinds' figures' part : List ℕ) → length part ≡ length (take (4 * (w * h) + 16 * P + 64) words)
-            → Answers.left r results' kinds' ≡ Answers.segmented p w h m P results kinds
-            → n ≡ Answers.numberOf r
+            → Answers.segmentOutcome r results' kinds' ≡ Answers.segmentPlane p w h m P results kinds
+            → n ≡ Answers.segmentNumber r
             → figures' ≡ figuresLeft r figures
             → left n results' kinds' figures' (length (part ++ drop (4 * (w * h) + 16 * P + 64) words)) (drop (scratchWords (w * h) P) (part ++ drop (4 * (w * h) + 16 * P + 64) words))
             ≡ paged p w h m P words results kinds figures
-        unfolding Answers.segmented
+        unfolding Answers.segmentPlane
         page-done n r results' kinds' figures' part e s en ef =
             let need = 4 * (w * h) + 16 * P + 64 in
             let l : length part ≡ need = e ∙ length-take-le need words (page-lent .words-room) in
@@ -159,5 +160,5 @@ module _ (p : LayoutParams) (w h : ℕ) (m : List ℕ) (P : ℕ) (words results 
             let f : length (part ++ drop need words) ≡ length words = length-append part (drop need words) ∙ (let q = length-drop need words in let g = page-lent .words-room in omega arith) in
             let d : drop need (part ++ drop need words) ≡ drop need words = drop-at part (drop need words) need l in
             (λ i. left (en i) results' kinds' (ef i) (f i) (d i))
-            ∙ (ap (λ (z : Answers.Left). leftWith z figures (length words) (drop need words)) s
-            ∙ ap (λ z. leftWith (Answers.leftBy z w P (layout p w h m) results kinds) figures (length words) (drop need words)) (sym j))
+            ∙ (ap (λ (z : Answers.SegmentOutcome). leftWith z figures (length words) (drop need words)) s
+            ∙ ap (λ z. leftWith (Answers.segmentOutcomeBy z w P (layout p w h m) results kinds) figures (length words) (drop need words)) (sym j))

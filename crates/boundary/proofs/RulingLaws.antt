@@ -7,19 +7,19 @@ use native.Mathlib.Nat.{mul-pos}
 use native.Mathlib.Omega.{arith}
 use lib.Dec.{T, eqb, ltb, leb, ltb→lt, leb→le, eqb→eq}
 use lib.ListN.{drop}
-use Rattle.memory.specs.Limits.{maxMaskSide, maxMaskDots}
-use Rattle.memory.specs.Lists.{table}
-use Rattle.memory.specs.Words.{over}
+use Rattle.memory.specs.rules.Limits.{maxMaskSide, maxMaskDots}
+use Rattle.memory.specs.rules.Lists.{table}
+use Rattle.memory.specs.rules.Words.{over}
 use Rattle.rounding.proofs.Tests.{yes}
-use Rattle.extents.specs.Answers.{isMaskSide}
-use Rattle.rulings.specs.Rulings.{cutMark}
-use Rattle.extents.specs.Scans.{PlaneFits}
-use Rattle.rulings.specs.Sweeps.{RulingsRoom}
-use Rattle.boundary.specs.Sorting.{rulingsFit, RulingsTold}
+use Rattle.extents.specs.rules.Answers.{isMaskSide}
+use Rattle.rulings.specs.stages.Marks.{cutMark}
+use Rattle.extents.specs.stages.Scans.{MaskFits}
+use Rattle.rulings.specs.stages.Sweeps.{RulingsRoom}
+use Rattle.boundary.specs.rules.Sorting.{rulingsFit, markOf, RulingsTold}
 use Rattle.boundary.proofs.LevelLaws.{is-true, is-false, split}
 
 pub record Fit (mask w h run-min marks counters : ℕ) : Type 0 where
-  pub plane : PlaneFits w h mask marks
+  pub plane : MaskFits w h mask marks
   pub run : 2 ≤ run-min
   pub across : w + w ≤ counters
   pub down : h + h ≤ counters
@@ -73,12 +73,12 @@ fit-is mask w h run-min marks counters d a b e f g =
 
 pub rulings-held :
     (mask w h run-min marks words : ℕ) (b : Bool) → marks ≤ 4294967295 → b ≡ rulingsFit mask w h run-min (words - marks) marks → not b ≡ false
-    → RulingsRoom w h run-min mask marks words
+    → RulingsRoom w h mask marks words × 2 ≤ run-min
 rulings-held mask w h run-min marks words b l e n =
     let f = fit-of mask w h run-min (words - marks) marks (yes (sym e ∙ is-true b n)) in
     let z : 0 < w * h = mul-pos (f .plane .wide) (f .plane .high) in
     let r = f .plane .room in
-    record { plane = f .plane; before = omega arith; run = f .run; across = f .across; down = f .down; short = l }
+    (record { plane = f .plane; before = omega arith; across = f .across; down = f .down; short = l }, f .run)
 
 module _ (fit : Bool) (run-min thick-max w h marks : ℕ) (m words : List ℕ) (b : Bool) (e : b ≡ fit) where
   pub rulings-refused : not b ≡ true → RulingsTold fit run-min thick-max w h marks m words false words
@@ -86,16 +86,17 @@ module _ (fit : Bool) (run-min thick-max w h marks : ℕ) (m words : List ℕ) (
       let f : fit ≡ false = sym e ∙ is-false b n in
       record {
         answer = sym f;
-        marked = sym (ap (λ (t : Bool). cond t (over (table (cutMark run-min thick-max w h m) (w * h)) (drop marks words)) (drop marks words)) f);
+        marked = sym (ap (λ (t : Bool). cond t (over (table (markOf run-min thick-max w h m) (w * h)) (drop marks words)) (drop marks words)) f);
         kept = λ _. refl;
       }
 
   pub rulings-marked : (words' : List ℕ) → not b ≡ false → drop marks words' ≡ over (table (cutMark run-min thick-max w h m) (w * h)) (drop marks words)
       → RulingsTold fit run-min thick-max w h marks m words true words'
+  unfolding cutMark markOf
   rulings-marked words' n a =
       let f : fit ≡ true = sym e ∙ is-true b n in
       record {
         answer = sym f;
-        marked = a ∙ sym (ap (λ (t : Bool). cond t (over (table (cutMark run-min thick-max w h m) (w * h)) (drop marks words)) (drop marks words)) f);
+        marked = a ∙ sym (ap (λ (t : Bool). cond t (over (table (markOf run-min thick-max w h m) (w * h)) (drop marks words)) (drop marks words)) f);
         kept = λ k. absurd (true≢false (sym f ∙ k));
       }

@@ -10,28 +10,29 @@ use lib.Dec.{ltb}
 use lib.Ieee.{Float}
 use lib.ListN.{length, set, take, drop, length-set}
 use lib.Seq.{length-take-le}
-use Rattle.memory.specs.Floats.{withFloat}
-use Rattle.memory.specs.Limits.{maxCapacity, scratchWords}
-use Rattle.memory.specs.Lists.{greatest}
-use Rattle.memory.specs.Refusals.{refuseIf}
-use Rattle.memory.specs.Words.{over}
+use Rattle.memory.specs.rules.Floats.{withFloat}
+use Rattle.memory.specs.rules.Limits.{maxCapacity, scratchWords}
+use Rattle.memory.specs.rules.Lists.{greatest}
+use Rattle.memory.specs.rules.Refusals.{refuseIf}
+use Rattle.memory.specs.rules.Words.{over}
 use Rattle.memory.proofs.CopyLaws.{stores, stores-over}
 use Rattle.memory.proofs.RefusalLaws.{refusal-passed, Passes, passes-none, passes-if}
 use Rattle.rounding.proofs.Tests.{yes}
-use Rattle.params.specs.Valid.{valid}
-use Rattle.params.specs.Facts.{ValidSheet}
+use Rattle.params.specs.rules.Valid.{valid}
+use Rattle.params.specs.rules.Facts.{ValidSheet}
 use Rattle.params.specs.declared.LayoutParams.{LayoutParams}
 use Rattle.params.proofs.SheetLaws.{valid-gives}
-use Rattle.sorting.specs.Scratch.{SortRoom, mostComponents}
-use Rattle.sorting.specs.Sorted.{sorted}
-use Rattle.sorting.specs.Sortings.{SortHeld}
-use Rattle.sorting.specs.Units.{unitValue}
+use Rattle.sorting.specs.stages.Scratch.{SortRoom}
+use Rattle.sorting.specs.rules.Capacity.{mostComponents}
+use Rattle.sorting.specs.rules.Sorted.{sorted}
+use Rattle.sorting.specs.stages.Sortings.{SortHeld}
+use Rattle.sorting.specs.rules.Units.{unitValue}
 use Rattle.sorting.specs.declared.Unit.{Unit}
 use Rattle.sorting.specs.declared.sort.Sorting.{Sorting}
-use Rattle.boundary.specs.Frames.{told}
-use Rattle.segmenting.specs.Figures.{measuredWord}
-use Rattle.boundary.specs.Pages.{planeRefusal}
-use Rattle.boundary.specs.SortedPages.{sortFigures, sortLent, sortMany, sortWords, sortedWords, sortedPage}
+use Rattle.boundary.specs.rules.Frames.{told}
+use Rattle.segmenting.specs.rules.Figures.{measuredWord}
+use Rattle.boundary.specs.rules.Pages.{planeRefusal}
+use Rattle.boundary.specs.rules.SortedPages.{sortFigures, sortLent, sortMany, sortWords, sortedWords, sortedPage}
 use Rattle.boundary.proofs.FrameLaws.{room-pass, room-good, told-refused, told-many, told-done}
 use Rattle.boundary.proofs.PageLaws.{PlaneGood, plane-pass, plane-good}
 

@@ -1,8 +1,8 @@
 // What the calls on a frame judge alike: its sides and the length of its ink, the capacity and scratch.
 ghost use mathlib.Core.Path.{_≡_};
 ghost use Prim.Native.Nat.{_*_, _≤_};
-ghost use Rattle.memory.specs.Limits.{maxFrameWidth, maxFrameHeight};
-ghost use Rattle.boundary.specs.Frames.{frameRefusal, roomRefusal};
+ghost use Rattle.memory.specs.rules.Limits.{maxFrameWidth, maxFrameHeight};
+ghost use Rattle.boundary.specs.rules.Frames.{frameRefusal, roomRefusal};
 use memory::refuse_if;
 
 // 01's limits, under the names that specs/Limits of the crate memory gives them.

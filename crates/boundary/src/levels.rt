@@ -4,21 +4,47 @@ ghost use mathlib.Core.Path.{_≡_};
 ghost use mathlib.Core.List.{_++_};
 ghost use Prim.Native.Nat.{_+_, _*_, _≤_};
 ghost use lib.ListN.{length};
-ghost use Rattle.memory.specs.Words.{over};
-ghost use Rattle.rounding.specs.Drift.{WithinOne};
-ghost use Rattle.levelling.specs.Shears as Shears;
-ghost use Rattle.levelling.specs.Frames.{PageSides, frame};
-ghost use Rattle.levelling.specs.Planes.{levelled};
-ghost use Rattle.boundary.specs.Levels.{inLimits, frameWord, lentFits, isLevelled, PlaneTold, holdsRow, pointIn, rectIn, cornerWord};
-use labelling::Rect;
+ghost use Rattle.memory.specs.rules.Words.{over};
+ghost use Rattle.rounding.specs.rules.Drift.{WithinOne};
+ghost use Rattle.levelling.specs.rules.Shears as Shears;
+ghost use Rattle.levelling.specs.rules.Frames.{PageSides, frame};
+ghost use Rattle.levelling.specs.rules.Planes.{levelled};
+ghost use Rattle.boundary.specs.rules.Levels.{skewSheet, inLimits, frameWord, lentFits, isLevelled, PlaneTold, holdsRow, pointIn, rectIn, cornerWord};
 use levelling::Point;
+use memory::Rect;
+use params::LayoutParams;
 
 // The value where the skew is applied, else 0.
 #[no_mangle]
 pub extern "C" fn novlizeb_applied(least: f64, skew: f64, value: f64) -> f64
-    ensures { λ r. ⌜ r ≡ Shears.applied least skew value ⌝ }
+    ensures { λ r. ⌜ r ≡ Shears.applied (skewSheet least) skew value ⌝ }
 {
-    levelling::applied(least, skew, value)
+    levelling::applied(skew_sheet(least), skew, value)
+}
+
+fn skew_sheet(shear_min_deg: f64) -> LayoutParams
+    ensures { λ r. ⌜ r ≡ skewSheet «shear_min_deg» ⌝ }
+{
+    LayoutParams {
+        glyph_min_area: 0,
+        glyph_max_extent_frac: 0.0,
+        xheight_min_area: 0,
+        xheight_fallback_px: 0.0,
+        rule_min_len_xh: 0.0,
+        rule_max_thick_xh: 0.0,
+        rule_run_xh: 0.0,
+        graphic_min_xh: 0.0,
+        smear_xh: 0.0,
+        line_min_glyphs: 0,
+        line_min_height_xh: 0.0,
+        line_max_height_xh: 0.0,
+        block_min_overlap: 0.0,
+        block_gap_margin_lines: 0.0,
+        block_max_gap_lines: 0.0,
+        column_gap_xh: 0.0,
+        column_cover_frac: 0.0,
+        shear_min_deg,
+    }
 }
 
 fn in_limits(page_w: u32, page_h: u32, slope: f64) -> bool
@@ -128,10 +154,10 @@ pub extern "C" fn novlizeb_level_plane(
 }
 
 // Whether the words hold the shears of a page's columns and of the frame's rows up to y.
-fn holds_row(length: usize, page_w: u32, y: u32) -> bool
-    ensures { λ r. ⌜ r ≡ holdsRow length «page_w» y ⌝ }
+fn holds_row(words: usize, page_w: u32, y: u32) -> bool
+    ensures { λ r. ⌜ r ≡ holdsRow words «page_w» y ⌝ }
 {
-    (0 < page_w) & (page_w as usize + (y as usize) < length)
+    (0 < page_w) & (page_w as usize + (y as usize) < words)
 }
 
 // Frame point (x, y) on the page.

@@ -4,10 +4,10 @@
 // the pointer valid for that many elements (and never null, not even for the length 0); a bool is
 // one byte, 0 or 1.
 ghost use mathlib.Core.Path.{_≡_};
-ghost use Rattle.rounding.specs.Rounding.{roundHalfAway, roundToUnsigned, roundToSigned, roundOutput};
-ghost use Rattle.rounding.specs.Sums.{pairwiseSum};
-ghost use Rattle.params.specs.Valid.{valid};
-ghost use Rattle.params.specs.Sheets.{sheetOf};
+ghost use Rattle.rounding.specs.rules.Rounding.{roundHalfAway, roundToUnsigned, roundToSigned, roundOutput};
+ghost use Rattle.rounding.specs.rules.Sums.{pairwiseSum};
+ghost use Rattle.params.specs.rules.Valid.{valid};
+ghost use Rattle.params.specs.rules.Sheets.{sheetOf};
 
 mod frames;
 mod levels;

@@ -3,11 +3,11 @@
 ghost use mathlib.Core.Path.{_≡_};
 ghost use Prim.Native.Nat.{_*_};
 ghost use lib.ListN.{length, drop};
-ghost use Rattle.memory.specs.Limits.{scratchWords};
-ghost use Rattle.labelling.specs.Answer.{labelled};
-ghost use Rattle.extents.specs.Answers.{runExtents};
-ghost use Rattle.boundary.specs.LabelAnswers.{labelWord, LabelTold};
-ghost use Rattle.boundary.specs.ExtentAnswers.{alongOf, extentsWord, ExtentsTold};
+ghost use Rattle.memory.specs.rules.Limits.{scratchWords};
+ghost use Rattle.labelling.specs.rules.Answer.{labelMask};
+ghost use Rattle.extents.specs.rules.Answers.{runExtents};
+ghost use Rattle.boundary.specs.rules.LabelAnswers.{labelWord, LabelTold};
+ghost use Rattle.boundary.specs.rules.ExtentAnswers.{alongOf, extentsWord, ExtentsTold};
 use extents::Along;
 use extents::ExtentsAnswer;
 use labelling::LabelAnswer;
@@ -33,7 +33,7 @@ pub extern "C" fn novlizeb_label(
     components: &mut [u32],
     scratch: &mut [u32],
 ) -> u64
-    ensures { λ r. ⌜ LabelTold (labelled width height (now (mask .entry)) capacity (now (labels .entry)) (now (components .entry)) (now (scratch .entry))) r (now (labels .exit)) (now (components .exit)) (length (now (scratch .exit))) (drop (scratchWords (width * height) capacity) (now (scratch .exit))) ⌝ }
+    ensures { λ r. ⌜ LabelTold (labelMask width height (now (mask .entry)) capacity (now (labels .entry)) (now (components .entry)) (now (scratch .entry))) r (now (labels .exit)) (now (components .exit)) (length (now (scratch .exit))) (drop (scratchWords (width * height) capacity) (now (scratch .exit))) ⌝ }
 {
     label_word(labelling::label(mask, width, height, capacity, labels, components, scratch))
 }

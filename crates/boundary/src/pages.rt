@@ -3,11 +3,11 @@
 ghost use mathlib.Core.Path.{_≡_};
 ghost use Prim.Native.Nat.{_*_, _≤_};
 ghost use lib.ListN.{length, drop};
-ghost use Rattle.memory.specs.Limits.{maxFrameWidth, maxFrameHeight, scratchWords};
-ghost use Rattle.segmenting.specs.Answers.{numberOf};
-ghost use Rattle.params.specs.Sheets.{sheetOf};
-ghost use Rattle.segmenting.specs.Figures.{figuresLength};
-ghost use Rattle.boundary.specs.Pages.{planeRefusal, lentRefusal, figuresLeft, left, paged};
+ghost use Rattle.memory.specs.rules.Limits.{maxFrameWidth, maxFrameHeight, scratchWords};
+ghost use Rattle.segmenting.specs.rules.Answers.{segmentNumber};
+ghost use Rattle.params.specs.rules.Sheets.{sheetOf};
+ghost use Rattle.segmenting.specs.rules.Figures.{figuresLength};
+ghost use Rattle.boundary.specs.rules.Pages.{planeRefusal, lentRefusal, figuresLeft, left, paged};
 use crate::frames::judge_frame;
 use crate::frames::judge_room;
 use memory::is_mask;
@@ -51,7 +51,7 @@ fn judge_lent(
 // The number of an answer; its figures are written.
 fn tell(answer: SegmentAnswer, figures: &mut [u32]) -> u32
     requires { ⌜ figuresLength ≤ length (now figures) ⌝ }
-    ensures { λ r. ⌜ (r ≡ numberOf answer) × (now (figures .exit) ≡ figuresLeft answer (now (figures .entry))) ⌝ }
+    ensures { λ r. ⌜ (r ≡ segmentNumber answer) × (now (figures .exit) ≡ figuresLeft answer (now (figures .entry))) ⌝ }
 {
     match answer {
         SegmentAnswer::Segmented(found) => {

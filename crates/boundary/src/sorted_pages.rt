@@ -4,11 +4,11 @@
 ghost use mathlib.Core.Path.{_≡_};
 ghost use Prim.Native.Nat.{_*_, _≤_};
 ghost use lib.ListN.{length, drop};
-ghost use Rattle.memory.specs.Limits.{maxFrameWidth, maxFrameHeight, scratchWords};
-ghost use Rattle.memory.specs.Words.{over};
-ghost use Rattle.params.specs.Sheets.{sheetOf};
-ghost use Rattle.boundary.specs.Frames.{told};
-ghost use Rattle.boundary.specs.SortedPages.{sortFigures, sortLent, sortWords, sortedPage};
+ghost use Rattle.memory.specs.rules.Limits.{maxFrameWidth, maxFrameHeight, scratchWords};
+ghost use Rattle.memory.specs.rules.Words.{over};
+ghost use Rattle.params.specs.rules.Sheets.{sheetOf};
+ghost use Rattle.boundary.specs.rules.Frames.{told};
+ghost use Rattle.boundary.specs.rules.SortedPages.{sortFigures, sortLent, sortWords, sortedPage};
 use crate::frames::judge_room;
 use crate::pages::judge_plane;
 use memory::put_float;

@@ -4,14 +4,14 @@ ghost use mathlib.Core.Bool.{true};
 ghost use mathlib.Core.List.{[], _∷_};
 ghost use Prim.Native.Nat.{_*_, _-_, _≤_, max};
 ghost use lib.ListN.{length, drop};
-ghost use Rattle.memory.specs.Limits.{scratchWords};
-ghost use Rattle.memory.specs.Words.{over};
-ghost use Rattle.params.specs.Valid.{zero};
-ghost use Rattle.extents.specs.Answers.{isMaskSide};
-ghost use Rattle.sorting.specs.Kinds.{kindBySize};
-ghost use Rattle.rulings.specs.Rulings.{runMin, thickMax};
-ghost use Rattle.boundary.specs.Frames.{told};
-ghost use Rattle.boundary.specs.Sorting.{rulingsFit, RulingsTold, cutRulings, unitFor, sizeSheet};
+ghost use Rattle.memory.specs.rules.Limits.{scratchWords};
+ghost use Rattle.memory.specs.rules.Words.{over};
+ghost use Rattle.params.specs.rules.Valid.{zero};
+ghost use Rattle.extents.specs.rules.Answers.{isMaskSide};
+ghost use Rattle.sorting.specs.rules.Kinds.{kindBySize};
+ghost use Rattle.rulings.specs.rules.Rulings.{runMin, thickMax};
+ghost use Rattle.boundary.specs.rules.Frames.{told};
+ghost use Rattle.boundary.specs.rules.Sorting.{rulingsFit, RulingsTold, cutRulings, unitFor, sizeSheet};
 use crate::frames::judge_frame;
 use crate::frames::judge_room;
 use memory::refuse_if;
@@ -19,7 +19,7 @@ use params::LayoutParams;
 use sorting::CutAnswer;
 use sorting::Cuts;
 use sorting::Unit;
-use sorting::cut_ink;
+use sorting::label_rulings;
 
 fn is_mask_side(n: u32) -> bool
     ensures { λ r. ⌜ r ≡ isMaskSide n ⌝ }
@@ -83,7 +83,7 @@ pub extern "C" fn novlizeb_thin_rulings(
     if !rulings_fit(ink.len(), width, height, run_min, behind, from) {
         return false;
     }
-    rulings::thin_rulings(ink, width, height, run_min, thick_max, words, from);
+    rulings::mark_rulings(ink, width, height, run_min, thick_max, words, from);
     true
 }
 
@@ -131,7 +131,7 @@ pub extern "C" fn novlizeb_cut_rulings(
     }
     let need = 4 * dots + 16 * p + 64;
     let run = at_least_two(run_min);
-    match cut_ink(ink, width, height, run, thick_max, p, &mut words[..need]) {
+    match label_rulings(ink, width, height, run, thick_max, p, &mut words[..need]) {
         CutAnswer::TooMany => 20,
         CutAnswer::Cut(cuts) => {
             write_counts(cuts, counts);
@@ -187,7 +187,7 @@ fn size_sheet(
 pub extern "C" fn novlizeb_run_min(rule_run_xh: f64, unit: f64) -> u32
     ensures { λ r. ⌜ r ≡ runMin (sizeSheet 0 zero zero zero «rule_run_xh» zero) unit ⌝ }
 {
-    sorting::run_min(size_sheet(0, 0.0, 0.0, 0.0, rule_run_xh, 0.0), unit)
+    rulings::run_min(size_sheet(0, 0.0, 0.0, 0.0, rule_run_xh, 0.0), unit)
 }
 
 // Its greatest thickness.
@@ -195,7 +195,7 @@ pub extern "C" fn novlizeb_run_min(rule_run_xh: f64, unit: f64) -> u32
 pub extern "C" fn novlizeb_thick_max(rule_max_thick_xh: f64, unit: f64) -> u32
     ensures { λ r. ⌜ r ≡ thickMax (sizeSheet 0 zero zero «rule_max_thick_xh» zero zero) unit ⌝ }
 {
-    sorting::thick_max(size_sheet(0, 0.0, 0.0, rule_max_thick_xh, 0.0, 0.0), unit)
+    rulings::thick_max(size_sheet(0, 0.0, 0.0, rule_max_thick_xh, 0.0, 0.0), unit)
 }
 
 // The kind of a component of this area, width and height, in a frame w wide and h high: 2 rule, 3

@@ -6,11 +6,11 @@ use Prim.Native.Nat.{ℕ, _*_}
 use borrow.Author.Tests.{ltb-true, ltb-false, leb-true, eqb-true, not-false, ne-eqb}
 use lib.ListN.{length}
 use lib.Dec.{eqb, ltb, leb}
-use Rattle.memory.specs.Words.{over}
-use Rattle.memory.specs.Limits.{maxMaskSide, maxMaskDots}
+use Rattle.memory.specs.rules.Words.{over}
+use Rattle.memory.specs.rules.Limits.{maxMaskSide, maxMaskDots}
 use Rattle.memory.proofs.RefusalLaws.{Passed, refusal-passed}
-use Rattle.extents.specs.Answers.{isMaskSide, extentsRefusal, extentsAlong, extentsOutcome, runExtents}
-use Rattle.extents.specs.Scans.{PlaneFits}
+use Rattle.extents.specs.rules.Answers.{isMaskSide, extentsRefusal, extentsAlong, extentsOutcome, runExtents}
+use Rattle.extents.specs.stages.Scans.{MaskFits}
 use Rattle.extents.specs.declared.entry.Along.{Along}
 use Rattle.extents.specs.declared.entry.ExtentsAnswer.the-variants.{Done, Refused}
 use Rattle.memory.proofs.BoolLaws.{and-left, and-right}
@@ -25,7 +25,7 @@ pub extents-done : (m s t : List ℕ) (w h n : ℕ) (along : Along) → n ≡ ex
 unfolding runExtents
 extents-done m s t w h n along e z q = rw (← e) (rw (z, q))
 
-pub extents-fit : (mask-length w h words n : ℕ) → n ≡ extentsRefusal mask-length w h words → n ≡ 0 → PlaneFits w h mask-length words
+pub extents-fit : (mask-length w h words n : ℕ) → n ≡ extentsRefusal mask-length w h words → n ≡ 0 → MaskFits w h mask-length words
 unfolding extentsRefusal
 extents-fit mask-length w h words n e z =
     let a : Passed (not (isMaskSide w && isMaskSide h)) _ = refusal-passed (not (isMaskSide w && isMaskSide h)) 0 _ (sym e ∙ z) in

@@ -10,12 +10,12 @@ use borrow.Author.Tests.{lt-ltb, le-ltb, eqb-true}
 use lib.ListN.{length, getD, take, drop}
 use lib.Dec.{ltb, eqb}
 use mir.Val.{boolByte}
-use Rattle.memory.specs.Words.{over}
-use Rattle.memory.specs.Limits.{maxExtent}
-use Rattle.memory.specs.Masks.{isInk}
-use Rattle.extents.specs.Extents.{inkAt, behind, runThrough, extent, columnExtents}
-use Rattle.extents.specs.Scans.{PlaneFits, TakesUp, countDown, cappedCount, columnExtent}
-use Rattle.extents.specs.Bands.{Put, Counts, BandsCounted, countFrom, bandCount}
+use Rattle.memory.specs.rules.Words.{over}
+use Rattle.memory.specs.rules.Limits.{maxExtent}
+use Rattle.memory.specs.rules.Masks.{isInk}
+use Rattle.extents.specs.rules.Extents.{inkAt, behind, runThrough, extent, columnExtents}
+use Rattle.extents.specs.stages.Scans.{MaskFits, TakesUp, countDown, cappedCount, columnExtent}
+use Rattle.extents.specs.stages.Bands.{Put, Counts, BandsCounted, countFrom, bandCount}
 use Rattle.extents.proofs.MaskLaws.{inkAt-dot, dot-column, dot-row}
 use Rattle.extents.proofs.OverLaws.{over-unique, getD-part, length-part}
 use Rattle.extents.proofs.RunLaws.{behind-le, behind-from, count-next, runThrough-off, runThrough-next, runThrough-counted}
@@ -350,7 +350,7 @@ bands-none w m s =
       past = λ k l. refl;
     }
 
-module _ {w h : ℕ} {m s e : List ℕ} (F : PlaneFits w h (length m) (length s)) where
+module _ {w h : ℕ} {m s e : List ℕ} (F : MaskFits w h (length m) (length s)) where
   module _ {y : ℕ} (B : BandsCounted w m y s e) (whole : y % 32 ≡ 0) (room : y + 32 ≤ h) where
     band-inside : (y + 32) * w ≤ length m
     band-inside = let a : (y + 32) * w ≤ h * w = mul-le-mul-right w room in let b = mul-comm h w in omega (arith, F .dots)
@@ -398,10 +398,10 @@ bands-begun {w} {h} B =
       final = λ k l u. absurd (let z = mul-comm w h in omega arith);
     }
 
-pub plane-kept : {w h n a b : ℕ} → PlaneFits w h n a → b ≡ a → PlaneFits w h n b
+pub plane-kept : {w h n a b : ℕ} → MaskFits w h n a → b ≡ a → MaskFits w h n b
 plane-kept F e = record { wide = F .wide; narrow = F .narrow; high = F .high; low = F .low; few = F .few; dots = F .dots; room = let z = F .room in omega arith }
 
-module _ {w h end : ℕ} {m s e : List ℕ} (F : PlaneFits w h (length m) (length s)) (D : BandsDone w h m end s e) (inside : end ≤ h) (start : ℕ) (order : start ≤ end) (whole : start % 32 ≡ 0) where
+module _ {w h end : ℕ} {m s e : List ℕ} (F : MaskFits w h (length m) (length s)) (D : BandsDone w h m end s e) (inside : end ≤ h) (start : ℕ) (order : start ≤ end) (whole : start % 32 ≡ 0) where
   upto : end * w ≤ w * h
   upto = let a : end * w ≤ h * w = mul-le-mul-right w inside in let b = mul-comm h w in omega arith
 
@@ -447,7 +447,7 @@ module _ {w h end : ℕ} {m s e : List ℕ} (F : PlaneFits w h (length m) (lengt
         go k l u (no d) = Q .upper k (omega arith) ∙ (P .upper k (omega arith) ∙ D .final k (omega arith) u)
 
 -- every band
-pub bands-done : {w h end : ℕ} {m s t e : List ℕ} → PlaneFits w h (length m) (length s) → BandsCounted w m h s t → BandsDone w h m end t e → end ≡ 0 → e ≡ over (columnExtents w h m) s
+pub bands-done : {w h end : ℕ} {m s t e : List ℕ} → MaskFits w h (length m) (length s) → BandsCounted w m h s t → BandsDone w h m end t e → end ≡ 0 → e ≡ over (columnExtents w h m) s
 unfolding columnExtents
 bands-done {w} {h} {end} {m} {s} {t} {e} F B D o =
     let z : end * w ≡ 0 * w = ap (λ k. k * w) o in

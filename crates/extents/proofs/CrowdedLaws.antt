@@ -10,13 +10,13 @@ use lib.ListN.{length, getD, set, length-set}
 use lib.Seq.{getD-set-same, getD-set-other, ext-getD}
 use lib.Dec.{ltb}
 use mir.Val.{boolByte}
-use Rattle.memory.specs.Lists.{table}
+use Rattle.memory.specs.rules.Lists.{table}
 use Rattle.memory.proofs.TableLaws.{length-table, getD-table}
-use Rattle.memory.specs.Limits.{maxExtent}
-use Rattle.memory.specs.Masks.{isInk}
-use Rattle.extents.specs.Extents.{behind, ahead, runThrough, extent}
-use Rattle.extents.specs.Scans.{Starts, clear, blank, until, RowTo, RowParts, RowCounted, PartOfRow, noFour, shortExtent, shortExtentAt, singleDot}
-use Rattle.extents.specs.Bands.{Put}
+use Rattle.memory.specs.rules.Limits.{maxExtent}
+use Rattle.memory.specs.rules.Masks.{isInk}
+use Rattle.extents.specs.rules.Extents.{behind, ahead, runThrough, extent}
+use Rattle.extents.specs.stages.Scans.{Starts, clear, blank, until, RowTo, RowParts, RowCounted, PartOfRow, noFour, shortExtent, shortExtentAt, singleDot}
+use Rattle.extents.specs.stages.Bands.{Put}
 use Rattle.extents.proofs.OverLaws.{until-below, until-from}
 use Rattle.extents.proofs.RunLaws.{behind-on, behind-off, ahead-on, ahead-off, runThrough-on, runThrough-off, runThrough-next, runThrough-counted, starts-run}
 use Rattle.extents.proofs.ExtentLaws.{ink-zero, bit-times, row-size}

@@ -11,16 +11,15 @@ use lib.ListN.{length, getD, take, drop, replicate, length-replicate, getD-repli
 use lib.Dec.{ltb, lit<}
 use borrow.Rule.Slice.PartMut.{putMid}
 use mir.Val.{boolByte}
-use Rattle.memory.specs.Lists.{table}
-use Rattle.memory.specs.Words.{over}
+use Rattle.memory.specs.rules.Lists.{table}
+use Rattle.memory.specs.rules.Words.{over}
 use Rattle.memory.proofs.TableLaws.{length-table, getD-table, table-ext}
-use Rattle.memory.specs.Limits.{maxExtent}
-use Rattle.memory.specs.Masks.{isInk}
-use Rattle.extents.specs.Extents.{inkAt, behind, runThrough, extent}
-use Rattle.extents.specs.Scans.{ScannedTo, Starts, clear, blank, RowTo, singleDot, rowExtent}
+use Rattle.memory.specs.rules.Limits.{maxExtent}
+use Rattle.memory.specs.rules.Masks.{isInk}
+use Rattle.extents.specs.rules.Extents.{inkAt, behind, runThrough, extent}
+use Rattle.extents.specs.stages.Scans.{ScannedTo, Starts, clear, blank, RowTo, singleDot, rowExtent, until}
 use Rattle.extents.proofs.MaskLaws.{dot-column, dot-row}
 use Rattle.extents.proofs.OverLaws.{until-below, until-from, getD-part, length-part, length-over, over-part, over-whole}
-use Rattle.extents.specs.Scans.{until}
 use Rattle.extents.proofs.RunLaws.{behind-off, ahead-off, runThrough-ends, runThrough-off, starts-run, starts-zero}
 
 pub product-fits : (a b : ℕ) → a < 2 ^ 32 → b < 2 ^ 32 → a * b < 2 ^ 64

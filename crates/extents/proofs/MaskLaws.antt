@@ -1,6 +1,6 @@
 -- Dots of a plane w wide, and the mask of a test on them.
 use mathlib.Core.Path.{_≡_, refl, sym, ap, _∙_}
-use mathlib.Core.Bool.{Bool, true, false, cond, _&&_, _||_, not}
+use mathlib.Core.Bool.{Bool, true, false, cond}
 use mathlib.Core.List.{List}
 use Prim.Native.Nat.{ℕ, zero, suc, _+_, _*_, _/_, _%_, _≤_, _<_}
 use native.Mathlib.Nat.{mod-lt, div-add-mod', mul-add-div-right, mul-add-mod-self-right, mod-eq-of-lt, div-eq-of-lt, mul-comm, mul-le-mul-right, suc-mul}
@@ -8,11 +8,11 @@ use native.Mathlib.Omega.{arith}
 use borrow.Author.Tests.{lt-ltb}
 use lib.ListN.{getD, length}
 use lib.Dec.{eqb, ltb}
-use Rattle.memory.specs.Lists.{countIf, occurs}
+use Rattle.memory.specs.rules.Lists.{countIf, occurs}
 use Rattle.memory.proofs.CountLaws.{count-ext, occurs-by-place}
 use Rattle.memory.proofs.TableLaws.{getD-table}
-use Rattle.memory.specs.Masks.{isInk}
-use Rattle.extents.specs.Extents.{Plane, inkAt, maskOf}
+use Rattle.memory.specs.rules.Masks.{isInk}
+use Rattle.extents.specs.rules.Extents.{Plane, inkAt, maskOf}
 
 pub dot-column : (w x y : ℕ) → x < w → (y * w + x) % w ≡ x
 dot-column w x y l = mul-add-mod-self-right y w x ∙ mod-eq-of-lt l
@@ -50,3 +50,10 @@ ink-count w h m e bits =
     one zero l = refl
     one (suc zero) l = refl
     one (suc (suc v)) l = absurd (omega arith)
+
+-- what a plane's mask holds at a place
+pub mask-at : (w h : ℕ) (p : Plane) (x y : ℕ) → x < w → y < h → getD (maskOf w h p) (y * w + x) 0 ≡ cond (p x y) 1 0
+unfolding maskOf
+mask-at w h p x y lx ly =
+    getD-table (λ i. cond (p (i % w) (i / w)) 1 0) (w * h) (y * w + x) 0 (dot-inside w h x y lx ly)
+    ∙ (λ i. cond (p (dot-column w x y lx i) (dot-row w x y lx i)) 1 0)

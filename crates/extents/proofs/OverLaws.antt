@@ -8,9 +8,9 @@ use borrow.Author.Tests.{lt-ltb, le-ltb}
 use borrow.Rule.Slice.PartMut.{putMid}
 use lib.ListN.{length, getD, take, drop, set, replicate, length-replicate, getD-replicate, length-append, length-drop, List·getD-append}
 use lib.Seq.{take-at, drop-at, take-set-le, drop-set-add, getD-append-add, getD-take, getD-drop, ext-getD, length-take-le, drop-length}
-use Rattle.memory.specs.Lists.{table}
-use Rattle.memory.specs.Words.{over}
-use Rattle.extents.specs.Scans.{until}
+use Rattle.memory.specs.rules.Lists.{table}
+use Rattle.memory.specs.rules.Words.{over}
+use Rattle.extents.specs.stages.Scans.{until}
 use Rattle.memory.proofs.TableLaws.{length-table, getD-table}
 
 pub until-below : (i : ℕ) (f g : ℕ → ℕ) (k : ℕ) → k < i → until i f g k ≡ f k

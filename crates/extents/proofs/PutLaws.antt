@@ -8,7 +8,7 @@ use native.Mathlib.Omega.{arith}
 use borrow.Rule.Slice.PartMut.{putMid}
 use lib.ListN.{length, getD, take, drop, set, replicate, length-replicate, getD-replicate, length-set}
 use lib.Seq.{getD-set-same, getD-set-other}
-use Rattle.extents.specs.Bands.{Put}
+use Rattle.extents.specs.stages.Bands.{Put}
 use Rattle.extents.proofs.OverLaws.{length-part, length-put, getD-put}
 
 -- what stands there already

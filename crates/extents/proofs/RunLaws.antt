@@ -6,8 +6,8 @@ use native.Mathlib.Nat.{le-refl}
 use native.Mathlib.Decide.{decLt, decLe}
 use native.Mathlib.Omega.{arith}
 use lib.Dec.{eqb, eqb·suc-suc, eqb·zero-suc}
-use Rattle.extents.specs.Extents.{behind, ahead, runThrough}
-use Rattle.extents.specs.Scans.{Starts, clear, blank}
+use Rattle.extents.specs.rules.Extents.{behind, ahead, runThrough}
+use Rattle.extents.specs.stages.Scans.{Starts, clear, blank}
 
 -- the counter: one more after a place that passes, 0 after another
 pub behind-on : (p : ℕ → Bool) (x : ℕ) → p x ≡ true → behind p (suc x) ≡ suc (behind p x)
@@ -69,13 +69,13 @@ behind-from p a (suc n) = ap (behind p) (let z : a + suc n ≡ suc (a + n) = ome
 
 -- Runs from their ends
 
-behind-run : (p : ℕ → Bool) (s j : ℕ) → behind p s ≡ 0 → ((k : ℕ) → s ≤ k → k < s + j → p k ≡ true) → behind p (s + j) ≡ j
+pub behind-run : (p : ℕ → Bool) (s j : ℕ) → behind p s ≡ 0 → ((k : ℕ) → s ≤ k → k < s + j → p k ≡ true) → behind p (s + j) ≡ j
 behind-run p s zero z h = ap (behind p) (let e : s + 0 ≡ s = omega arith in e) ∙ z
 behind-run p s (suc j) z h =
     ap (behind p) (let e : s + suc j ≡ suc (s + j) = omega arith in e)
     ∙ (behind-on p (s + j) (h (s + j) (omega arith) (omega arith)) ∙ ap suc (behind-run p s j z (λ k a b. h k a (omega arith))))
 
-ahead-run : (p : ℕ → Bool) (x j n : ℕ) → ahead p (x + j) n ≡ 0 → ((k : ℕ) → x ≤ k → k < x + j → p k ≡ true) → ahead p x (j + n) ≡ j
+pub ahead-run : (p : ℕ → Bool) (x j n : ℕ) → ahead p (x + j) n ≡ 0 → ((k : ℕ) → x ≤ k → k < x + j → p k ≡ true) → ahead p x (j + n) ≡ j
 unfolding ahead
 ahead-run p x zero n z h = (λ i. ahead p ((let e : x ≡ x + 0 = omega arith in e) i) ((let e : 0 + n ≡ n = omega arith in e) i)) ∙ z
 ahead-run p x (suc j) n z h =
@@ -272,3 +272,5 @@ module _ (p : ℕ → Bool) (y : ℕ) where
       go (no l) =
           let z : behind p (y + 1) ≡ 0 = omega arith in
           runThrough-off p (y + 1) y (ap p (let x : y ≡ y + 1 - behind p (y + 1) - 1 = omega arith in x) ∙ behind-stop p (y + 1) (omega arith)) ∙ sym z
+
+-- j places from s on pass, and none just before s

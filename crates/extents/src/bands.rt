@@ -5,12 +5,12 @@ ghost use mathlib.Core.Bool.{cond, true, false, _&&_};
 ghost use Prim.Native.Nat.{ℕ, _+_, _-_, _*_, _≤_, _<_, min};
 ghost use lib.ListN.{length, getD};
 ghost use lib.Dec.{ltb};
-ghost use Rattle.memory.specs.Words.{over};
-ghost use Rattle.memory.specs.Limits.{maxExtent};
-ghost use Rattle.memory.specs.Masks.{isInk};
-ghost use Rattle.extents.specs.Extents.{columnExtents};
-ghost use Rattle.extents.specs.Scans.{PlaneFits, TakesUp, cappedCount, columnExtent};
-ghost use Rattle.extents.specs.Bands.{Put, Counts, BandsCounted, countFrom, bandCount};
+ghost use Rattle.memory.specs.rules.Words.{over};
+ghost use Rattle.memory.specs.rules.Limits.{maxExtent};
+ghost use Rattle.memory.specs.rules.Masks.{isInk};
+ghost use Rattle.extents.specs.rules.Extents.{columnExtents};
+ghost use Rattle.extents.specs.stages.Scans.{MaskFits, TakesUp, cappedCount, columnExtent};
+ghost use Rattle.extents.specs.stages.Bands.{Put, Counts, BandsCounted, countFrom, bandCount};
 use crate::words::MAX_EXTENT;
 use crate::words::fill;
 
@@ -28,7 +28,7 @@ const ALL: u8 = 32;
 // Along the columns: down, each dot counts the ink that ends at it; up again, each dot that goes on below takes what the dot below
 // has. Row by row, so that a row's dots are independent.
 pub fn column_extents(mask: &[u8], width: u32, height: u32, extents: &mut [u32])
-    requires { ⌜ PlaneFits width height (length (now mask)) (length (now extents)) ⌝ }
+    requires { ⌜ MaskFits width height (length (now mask)) (length (now extents)) ⌝ }
     ensures { λ _. ⌜ now (extents .exit) ≡ over (columnExtents width height (now (mask .entry))) (now (extents .entry)) ⌝ }
 {
     let w = width as usize;
@@ -45,7 +45,7 @@ pub fn column_extents(mask: &[u8], width: u32, height: u32, extents: &mut [u32])
 
 // The counts of the last row of every whole band, from the mask alone: with them each band can be counted by itself.
 fn count_bands(mask: &[u8], w: usize, h: usize, extents: &mut [u32])
-    requires { ⌜ PlaneFits w h (length (now mask)) (length (now extents)) ⌝ }
+    requires { ⌜ MaskFits w h (length (now mask)) (length (now extents)) ⌝ }
     ensures { λ _. ⌜ BandsCounted w (now (mask .entry)) h (now (extents .entry)) (now (extents .exit)) ⌝ }
 {
     let mut y: usize = 0;

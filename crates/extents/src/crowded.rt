@@ -4,9 +4,9 @@ ghost use mathlib.Core.Bool.{cond, true, false, _&&_};
 ghost use Prim.Native.Nat.{ℕ, _+_, _-_, _≤_, _<_};
 ghost use lib.ListN.{length, getD};
 ghost use lib.Dec.{ltb};
-ghost use Rattle.memory.specs.Masks.{isInk};
-ghost use Rattle.extents.specs.Scans.{Starts, RowTo, RowCounted, noFour, shortExtent, shortExtentAt, PartOfRow};
-ghost use Rattle.extents.specs.Bands.{Put};
+ghost use Rattle.memory.specs.rules.Masks.{isInk};
+ghost use Rattle.extents.specs.stages.Scans.{Starts, RowTo, RowCounted, noFour, shortExtent, shortExtentAt, PartOfRow};
+ghost use Rattle.extents.specs.stages.Bands.{Put};
 
 // So many turns in a stretch of 64 dots are many: measured, no promise goes by it.
 const MANY: u8 = 8;

@@ -1,7 +1,7 @@
 // Run extents called by themselves: for each ink dot the length of the run through it, along its row or its column (layout.rs,
 // extent_through). The entry and what it refuses.
 ghost use mathlib.Core.Path.{_≡_};
-ghost use Rattle.extents.specs.Answers.{extentsRefusal, isMaskSide, extentsOutcome, runExtents};
+ghost use Rattle.extents.specs.rules.Answers.{extentsRefusal, isMaskSide, extentsOutcome, runExtents};
 use crate::bands::column_extents;
 use crate::rows::row_extents;
 use crate::words::area;

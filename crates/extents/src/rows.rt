@@ -3,11 +3,11 @@ ghost use mathlib.Core.Path.{_≡_};
 ghost use mathlib.Core.Bool.{true, false, _&&_};
 ghost use Prim.Native.Nat.{ℕ, _+_, _≤_, _<_};
 ghost use lib.ListN.{length};
-ghost use Rattle.memory.specs.Lists.{table};
-ghost use Rattle.memory.specs.Words.{over};
-ghost use Rattle.memory.specs.Masks.{isInk};
-ghost use Rattle.extents.specs.Extents.{extent, rowExtents};
-ghost use Rattle.extents.specs.Scans.{ScannedTo, PlaneFits, RowTo, noFour, singleDot};
+ghost use Rattle.memory.specs.rules.Lists.{table};
+ghost use Rattle.memory.specs.rules.Words.{over};
+ghost use Rattle.memory.specs.rules.Masks.{isInk};
+ghost use Rattle.extents.specs.rules.Extents.{extent, rowExtents};
+ghost use Rattle.extents.specs.stages.Scans.{ScannedTo, MaskFits, RowTo, noFour, singleDot};
 use crate::crowded::all_short;
 use crate::crowded::counted_extents;
 use crate::crowded::is_crowded;
@@ -19,7 +19,7 @@ use crate::words::stretch_end;
 
 // Along the rows: each row is a part of the mask and of the extents.
 pub fn row_extents(mask: &[u8], width: u32, height: u32, extents: &mut [u32])
-    requires { ⌜ PlaneFits width height (length (now mask)) (length (now extents)) ⌝ }
+    requires { ⌜ MaskFits width height (length (now mask)) (length (now extents)) ⌝ }
     ensures { λ _. ⌜ now (extents .exit) ≡ over (rowExtents width height (now (mask .entry))) (now (extents .entry)) ⌝ }
 {
     let w = width as usize;

@@ -2,7 +2,7 @@
 ghost use mathlib.Core.Path.{_≡_};
 ghost use Prim.Native.Nat.{_+_, _*_, _≤_, _<_, min};
 ghost use lib.ListN.{length, replicate};
-ghost use Rattle.memory.specs.Limits.{maxExtent};
+ghost use Rattle.memory.specs.rules.Limits.{maxExtent};
 
 // The greatest extent told.
 pub const MAX_EXTENT: u32 = 65534;
@@ -22,15 +22,11 @@ pub fn stretch_end(x: usize, end: usize) -> usize
     if 64 < end - x { x + 64 } else { end }
 }
 
-// A length as an extent.
-pub fn capped(length: usize) -> u32
-    ensures { λ r. ⌜ r ≡ min length maxExtent ⌝ }
+// The length of a run as an extent.
+pub fn capped(run: usize) -> u32
+    ensures { λ r. ⌜ r ≡ min run maxExtent ⌝ }
 {
-    if length <= 65534 {
-        length as u32
-    } else {
-        MAX_EXTENT
-    }
+    if run <= 65534 { run as u32 } else { MAX_EXTENT }
 }
 
 // v in every word.

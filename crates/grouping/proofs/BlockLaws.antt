@@ -1,25 +1,19 @@
 -- Blocks as classes of lines, each named by its first line: they part the lines, and their numbers rise with their first lines.
-use mathlib.Core.Path.{_≡_, refl, sym, ap, _∙_, subst}
-use mathlib.Core.Bool.{Bool, true, false, cond}
-use mathlib.Core.List.{List, [], _∷_, _++_, map}
-use Prim.Native.Nat.{ℕ, zero, suc, _+_, _≤_, _<_}
-use native.Mathlib.Nat.{not-suc-le-zero, le-refl, le-of-suc-le-suc}
+use mathlib.Core.Path.{_≡_, refl, sym, ap, _∙_}
+use mathlib.Core.Bool.{true, cond}
+use mathlib.Core.List.{List}
+use Prim.Native.Nat.{ℕ, _≤_, _<_}
 use native.Mathlib.Decide.{ℕ-discrete, decLt}
 use native.Mathlib.Omega.{arith}
 use borrow.Author.Tests.{eq-eqb, ne-eqb, eqb-true}
 use lib.ListN.{getD, length, length-map}
 use lib.Dec.{eqb}
-use Rattle.memory.specs.Lists.{upto, keep, countIf, occurs}
-use Rattle.labelling.specs.Classes.{firstOf}
-use Rattle.labelling.specs.declared.rect.Rect.{Rect}
-use Rattle.grouping.specs.Blocks.{Block, opensBlock, blockNumber, blockOf, blocksOf}
-use Rattle.grouping.proofs.ListLaws.{keep-same}
-use Rattle.grouping.proofs.CountLaws.{Placed, count-below, count-length, count-place, place-count, once}
-
-pub getD-map : {A B : Type 0} (f : A → B) (l : List A) (i : ℕ) (d : B) (e : A) → i < length l → getD (map f l) i d ≡ f (getD l i e)
-getD-map f [] i d e h = absurd (not-suc-le-zero h)
-getD-map f (a ∷ l) zero d e h = refl
-getD-map f (a ∷ l) (suc i) d e h = getD-map f l i d e (le-of-suc-le-suc h)
+use Rattle.memory.specs.rules.Lists.{upto, keep, countIf, occurs}
+use Rattle.union_find.specs.rules.Classes.{firstOf}
+use Rattle.memory.specs.declared.rect.Rect.{Rect}
+use Rattle.grouping.specs.rules.Blocks.{Block, opensBlock, blockNumber, blockOf, blocksOf}
+use Rattle.memory.proofs.ListLaws.{keep-same, getD-map}
+use Rattle.memory.proofs.PlaceLaws.{Placed, count-below, count-length, count-place, place-count, once}
 
 eqb-swap : (a b : ℕ) → eqb a b ≡ eqb b a
 eqb-swap a b = go (ℕ-discrete a b)

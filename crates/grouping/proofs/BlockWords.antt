@@ -12,21 +12,22 @@ use lib.ListN.{getD, length, set, take, drop, take-append-drop, length-append, l
 use lib.Seq.{sets, sets-eq, take-at, drop-at, drop-append-add, set-split, split-at, ext-getD, getD-set-same, getD-set-other, getD-take, length-take-le}
 use borrow.Rule.Slice.PartMut.{putMid}
 use lib.Dec.{eqb}
-use Rattle.memory.specs.Lists.{table, upto, keep, countIf}
-use Rattle.memory.specs.Words.{over}
-use Rattle.memory.specs.Records.{encoded}
+use Rattle.memory.specs.rules.Lists.{table, upto, keep, countIf}
+use Rattle.memory.specs.rules.Words.{over, putAt}
+use Rattle.memory.specs.rules.Records.{encoded}
 use Rattle.memory.proofs.TableLaws.{length-table, getD-table}
 use Rattle.memory.proofs.RecordLaws.{length-encoded, record-more, record-at}
 use Rattle.memory.proofs.PartLaws.{tail-part, tail-put}
-use Rattle.labelling.specs.Rects.{union}
-use Rattle.labelling.specs.Classes.{firstOf}
-use Rattle.labelling.specs.declared.rect.Rect.{Rect}
-use Rattle.grouping.specs.Blocks.{Block, noRect, opensBlock, blockNumber, unionAll, blockOf, blocksOf}
-use Rattle.grouping.specs.Numbering.{blockBox, blockFields, Grown}
-use Rattle.grouping.specs.Words.{blockRecord, putAt, lineBox, lineBoxes}
-use Rattle.grouping.proofs.ListLaws.{keep-snoc-yes, keep-snoc-no, upto-suc, map-append, keep-few}
-use Rattle.grouping.proofs.CountLaws.{Placed, count-below, count-length, count-place, place-count}
-use Rattle.grouping.proofs.BlockLaws.{getD-map}
+use Rattle.memory.specs.rules.Rects.{union}
+use Rattle.union_find.specs.rules.Classes.{firstOf}
+use Rattle.memory.specs.declared.rect.Rect.{Rect}
+use Rattle.grouping.specs.rules.Blocks.{Block, noRect, opensBlock, blockNumber, unionAll, blockOf, blocksOf}
+use Rattle.grouping.specs.stages.Numbering.{blockBox, blockFields, Grown}
+use Rattle.grouping.specs.rules.BlockRecords.{blockRecord}
+use Rattle.grouping.specs.rules.HeldLines.{lineBox}
+use Rattle.grouping.specs.stages.LineBoxes.{lineBoxes}
+use Rattle.memory.proofs.ListLaws.{keep-snoc-yes, keep-snoc-no, upto-suc, map-append, keep-few, getD-map}
+use Rattle.memory.proofs.PlaceLaws.{Placed, count-below, count-length, count-place, place-count}
 use Rattle.grouping.proofs.GapLaws.{keep-none}
 use Rattle.grouping.proofs.TableWords.{over-length}
 

@@ -1,16 +1,19 @@
--- Runs of frame columns: one frame column more; where the runs lie.
+-- Runs of frame columns: one frame column more; where the runs lie, and which frame columns they hold.
 use mathlib.Core.Path.{_≡_, refl, sym, ap, _∙_}
 use mathlib.Core.Bool.{Bool, true, false, cond}
 use mathlib.Core.List.{List, [], _∷_, _++_}
 use Prim.Native.Nat.{ℕ, zero, suc, _+_, _-_, _≤_, _<_, zero-le}
 use native.Mathlib.Nat.{not-suc-le-zero, le-of-suc-le-suc, le-refl, le-trans}
+use native.Mathlib.Decide.{decLt}
 use native.Mathlib.Omega.{arith}
+use borrow.Author.Tests.{ltb-true, ltb-false}
 use lib.ListN.{getD, length}
 use lib.Dec.{ltb}
-use Rattle.memory.specs.Lists.{table, upto, keep}
-use Rattle.grouping.specs.Columns.{column, columnsFrom, columnRuns, columnsOf, extended}
+use Rattle.memory.specs.rules.Lists.{table, upto, keep}
+use Rattle.grouping.specs.rules.Columns.{column, columnsFrom, columnRuns, columnsOf}
+use Rattle.grouping.specs.stages.Covers.{extended}
 use Rattle.grouping.specs.declared.column.Column.{Column}
-use Rattle.grouping.proofs.ListLaws.{keep-snoc-yes, keep-snoc-no, upto-suc}
+use Rattle.memory.proofs.ListLaws.{keep-snoc-yes, keep-snoc-no, upto-suc, Each}
 
 some-run : (gap a b : ℕ) (xs : List ℕ) → (c : Column) × (l : List Column) × (columnsFrom gap a b xs ≡ c ∷ l)
 unfolding columnsFrom
@@ -96,6 +99,113 @@ order-apart b w [] o i j d h k = absurd (not-suc-le-zero k)
 order-apart b w (c ∷ l) o i zero d h k = absurd (not-suc-le-zero h)
 order-apart b w (c ∷ l) (p, q, r, o) zero (suc j) d h k = order-at (suc (c .x1)) w l o j d (le-of-suc-le-suc k) .0
 order-apart b w (c ∷ l) (p, q, r, o) (suc i) (suc j) d h k = order-apart (suc (c .x1)) w l o i j d (le-of-suc-le-suc h) (le-of-suc-le-suc k)
+
+-- each run starts and ends at one of its frame columns
+from-ends : (P : ℕ → Type 0) (gap a b : ℕ) (xs : List ℕ) → P a → P b → Each P xs → Each (λ (c : Column). P (c .x0) × P (c .x1)) (columnsFrom gap a b xs)
+unfolding columnsFrom
+from-ends P gap a b [] h k e = ((h, k), tt)
+from-ends P gap a b (x ∷ xs) h k (e, es) = go (ltb (x - (b + 1)) gap) (from-ends P gap a x xs h e es) (from-ends P gap x x xs e e es)
+  where
+    go : (t : Bool) → Each (λ (c : Column). P (c .x0) × P (c .x1)) (columnsFrom gap a x xs) → Each (λ (c : Column). P (c .x0) × P (c .x1)) (columnsFrom gap x x xs)
+        → Each (λ (c : Column). P (c .x0) × P (c .x1)) (cond t (columnsFrom gap a x xs) (column a b ∷ columnsFrom gap x x xs))
+    go true on anew = on
+    go false on anew = ((h, k), anew)
+
+pub runs-ends : (P : ℕ → Type 0) (gap : ℕ) (xs : List ℕ) → Each P xs → Each (λ (c : Column). P (c .x0) × P (c .x1)) (columnRuns gap xs)
+unfolding columnRuns
+runs-ends P gap [] e = tt
+runs-ends P gap (x ∷ xs) (e, es) = from-ends P gap x x xs e e es
+
+-- frame column x lies in one of these columns
+abbrev pub Within : Column → List Column → ℕ → Type 0
+Within d cs x = (i : ℕ) × (i < length cs) × (getD cs i d .x0 ≤ x) × (x ≤ getD cs i d .x1)
+
+either-within : (d c : Column) (on anew : List Column) (x : ℕ) (t : Bool) → Within d on x → Within d anew x → Within d (cond t on (c ∷ anew)) x
+either-within d c on anew x true h k = h
+either-within d c on anew x false h (i, l, from, to) = (suc i, (let z : suc i < suc (length anew) = omega arith in z), from, to)
+
+-- the first run has all from its start to its end
+from-first : (d : Column) (gap w a b : ℕ) (xs : List ℕ) → Rising (suc b) w xs → (x : ℕ) → a ≤ x → x ≤ b → Within d (columnsFrom gap a b xs) x
+unfolding columnsFrom
+from-first d gap w a b [] r x h k = (0, (let z : 0 < suc zero = omega arith in z), h, k)
+from-first d gap w a b (y ∷ xs) (l, o, r) x h k = go (ltb (y - (b + 1)) gap) (from-first d gap w a y xs r x h (omega arith))
+  where
+    go : (t : Bool) → Within d (columnsFrom gap a y xs) x → Within d (cond t (columnsFrom gap a y xs) (column a b ∷ columnsFrom gap y y xs)) x
+    go true on = on
+    go false on = (0, (let z : 0 < suc (length (columnsFrom gap y y xs)) = omega arith in z), h, k)
+
+from-each : (d : Column) (gap w a b : ℕ) (xs : List ℕ) → a ≤ b → Rising (suc b) w xs → (j : ℕ) → j < length xs → Within d (columnsFrom gap a b xs) (getD xs j 0)
+unfolding columnsFrom
+from-each d gap w a b [] m r j h = absurd (not-suc-le-zero h)
+from-each d gap w a b (y ∷ xs) m (l, o, r) zero h =
+    either-within d (column a b) (columnsFrom gap a y xs) (columnsFrom gap y y xs) y (ltb (y - (b + 1)) gap) (from-first d gap w a y xs r y (omega arith) (le-refl y)) (from-first d gap w y y xs r y (le-refl y) (le-refl y))
+from-each d gap w a b (y ∷ xs) m (l, o, r) (suc j) h =
+    either-within d (column a b) (columnsFrom gap a y xs) (columnsFrom gap y y xs) (getD xs j 0) (ltb (y - (b + 1)) gap)
+    (from-each d gap w a y xs (omega arith) r j (le-of-suc-le-suc h)) (from-each d gap w y y xs (le-refl y) r j (le-of-suc-le-suc h))
+
+-- each of the frame columns lies in a run
+pub runs-each : (d : Column) (gap w : ℕ) (xs : List ℕ) → Rising 0 w xs → (j : ℕ) → j < length xs → Within d (columnRuns gap xs) (getD xs j 0)
+unfolding columnRuns
+runs-each d gap w [] r j h = absurd (not-suc-le-zero h)
+runs-each d gap w (x ∷ xs) (l, o, r) zero h = from-first d gap w x x xs r x (le-refl x) (le-refl x)
+runs-each d gap w (x ∷ xs) (l, o, r) (suc j) h = from-each d gap w x x xs (le-refl x) r j (le-of-suc-le-suc h)
+
+-- the first run keeps its start
+from-start : (d : Column) (gap a b : ℕ) (xs : List ℕ) → getD (columnsFrom gap a b xs) 0 d .x0 ≡ a
+unfolding columnsFrom
+from-start d gap a b [] = refl
+from-start d gap a b (x ∷ xs) = go (ltb (x - (b + 1)) gap) (from-start d gap a x xs)
+  where
+    go : (t : Bool) → getD (columnsFrom gap a x xs) 0 d .x0 ≡ a → getD (cond t (columnsFrom gap a x xs) (column a b ∷ columnsFrom gap x x xs)) 0 d .x0 ≡ a
+    go true e = e
+    go false e = refl
+
+from-spaced : (d : Column) (gap a b : ℕ) (xs : List ℕ) (i : ℕ) → suc i < length (columnsFrom gap a b xs) → gap ≤ getD (columnsFrom gap a b xs) (suc i) d .x0 - (getD (columnsFrom gap a b xs) i d .x1 + 1)
+unfolding columnsFrom
+from-spaced d gap a b [] i h = absurd (not-suc-le-zero (le-of-suc-le-suc h))
+from-spaced d gap a b (x ∷ xs) i h = go (ltb (x - (b + 1)) gap) refl i (from-spaced d gap a x xs) (from-spaced d gap x x xs) h
+  where
+    Spaced : List Column → ℕ → Type 0
+    Spaced cs i = suc i < length cs → gap ≤ getD cs (suc i) d .x0 - (getD cs i d .x1 + 1)
+
+    go : (t : Bool) → ltb (x - (b + 1)) gap ≡ t → (i : ℕ) → ((i : ℕ) → Spaced (columnsFrom gap a x xs) i) → ((i : ℕ) → Spaced (columnsFrom gap x x xs) i)
+        → Spaced (cond t (columnsFrom gap a x xs) (column a b ∷ columnsFrom gap x x xs)) i
+    go true e i on anew k = on i k
+    go false e zero on anew k = let z = from-start d gap x x xs in let l = ltb-false (x - (b + 1)) gap e in omega arith
+    go false e (suc i) on anew k = anew i (le-of-suc-le-suc k)
+
+-- between two runs that follow one another lie at least `gap` frame columns
+pub runs-spaced : (d : Column) (gap : ℕ) (xs : List ℕ) (i : ℕ) → suc i < length (columnRuns gap xs) → gap ≤ getD (columnRuns gap xs) (suc i) d .x0 - (getD (columnRuns gap xs) i d .x1 + 1)
+unfolding columnRuns
+runs-spaced d gap [] i h = absurd (not-suc-le-zero h)
+runs-spaced d gap (x ∷ xs) i h = from-spaced d gap x x xs i h
+
+-- fewer than `gap` frame columns after x, before the column's end, one has the property P
+abbrev pub Close : (ℕ → Type 0) → ℕ → Column → Type 0
+Close P gap c = (x : ℕ) → c .x0 ≤ x → x < c .x1 → (y : ℕ) × P y × (x < y) × (y ≤ c .x1) × (y - (x + 1) < gap)
+
+from-close : (P : ℕ → Type 0) (gap w a b : ℕ) (xs : List ℕ) → Each P xs → Rising (suc b) w xs → Close P gap (column a b) → Each (Close P gap) (columnsFrom gap a b xs)
+unfolding columnsFrom
+from-close P gap w a b [] e r c = (c, tt)
+from-close P gap w a b (y ∷ xs) (e, es) (l, o, r) c = go (ltb (y - (b + 1)) gap) refl (from-close P gap w a y xs es r) (from-close P gap w y y xs es r (λ x h k. absurd (omega arith)))
+  where
+    longer : y - (b + 1) < gap → Close P gap (column a y)
+    longer near x h k = by (decLt x b)
+      where
+        by : Dec (x < b) → (z : ℕ) × P z × (x < z) × (z ≤ y) × (z - (x + 1) < gap)
+        by (yes before) = let (z, q, past, most, fewer) = c x h before in (z, q, past, omega arith, fewer)
+        by (no after) = (y, e, k, le-refl y, omega arith)
+
+    go : (t : Bool) → ltb (y - (b + 1)) gap ≡ t → (Close P gap (column a y) → Each (Close P gap) (columnsFrom gap a y xs)) → Each (Close P gap) (columnsFrom gap y y xs)
+        → Each (Close P gap) (cond t (columnsFrom gap a y xs) (column a b ∷ columnsFrom gap y y xs))
+    go true q on anew = on (longer (ltb-true (y - (b + 1)) gap q))
+    go false q on anew = (c, anew)
+
+-- a run goes on over fewer than `gap` others
+pub runs-close : (P : ℕ → Type 0) (gap w : ℕ) (xs : List ℕ) → Each P xs → Rising 0 w xs → Each (Close P gap) (columnRuns gap xs)
+unfolding columnRuns
+runs-close P gap w [] e r = tt
+runs-close P gap w (x ∷ xs) (e, es) (l, o, r) = from-close P gap w x x xs es r (λ z h k. absurd (omega arith))
 
 -- no more runs than frame columns
 pub extended-length : (gap x : ℕ) (cs : List Column) → length (extended gap x cs) ≤ suc (length cs)

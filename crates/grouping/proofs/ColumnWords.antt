@@ -9,16 +9,17 @@ use borrow.Author.Tests.{lt-ltb, le-ltb}
 use lib.ListN.{getD, length, set, drop, length-append}
 use lib.Seq.{sets}
 use lib.Dec.{ltb}
-use Rattle.memory.specs.Words.{over}
-use Rattle.memory.specs.Records.{encoded}
+use Rattle.memory.specs.rules.Words.{over}
+use Rattle.memory.specs.rules.Records.{encoded}
 use Rattle.memory.proofs.RecordLaws.{length-encoded, record-more}
-use Rattle.memory.specs.Lists.{table, keep, upto}
+use Rattle.memory.specs.rules.Lists.{table, keep, upto}
 use native.Mathlib.Numerals.{add-one}
-use Rattle.grouping.specs.Columns.{column, columnRuns, extended}
-use Rattle.grouping.specs.Words.{columnRecord}
+use Rattle.grouping.specs.rules.Columns.{column, columnRuns}
+use Rattle.grouping.specs.stages.Covers.{extended}
+use Rattle.grouping.specs.rules.BlockRecords.{columnRecord}
 use Rattle.grouping.specs.declared.column.Column.{Column}
 use Rattle.grouping.proofs.ColumnLaws.{InOrder, rising-keep, runs-order, runs-snoc, extended-length}
-use Rattle.grouping.proofs.ListLaws.{keep-snoc-yes, keep-snoc-no, upto-suc}
+use Rattle.memory.proofs.ListLaws.{keep-snoc-yes, keep-snoc-no, upto-suc}
 
 pub two-words : (c : Column) → length (columnRecord c) ≡ 2
 two-words c = refl

@@ -9,10 +9,10 @@ use native.Mathlib.Omega.{arith}
 use borrow.Author.Tests.{eq-eqb, ne-eqb, le-leb, lt-leb}
 use lib.ListN.{getD, length}
 use lib.Dec.{eqb, leb}
-use Rattle.memory.specs.Lists.{keep, occurs}
-use Rattle.labelling.specs.declared.rect.Rect.{Rect}
-use Rattle.grouping.specs.Columns.{cover}
-use Rattle.grouping.proofs.ListLaws.{Each}
+use Rattle.memory.specs.rules.Lists.{keep, occurs}
+use Rattle.memory.specs.declared.rect.Rect.{Rect}
+use Rattle.grouping.specs.rules.Columns.{cover}
+use Rattle.memory.proofs.ListLaws.{Each}
 
 -- 1 where the test passes
 bit : Bool → ℕ

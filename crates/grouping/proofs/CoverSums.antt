@@ -7,11 +7,11 @@ use native.Mathlib.Omega.{arith}
 use native.Mathlib.Numerals.{add-one}
 use lib.ListN.{getD, length, set, drop, length-append, length-drop, length-set}
 use lib.Seq.{getD-append-add, getD-drop}
-use Rattle.memory.specs.Lists.{table, greatest}
-use Rattle.memory.specs.Words.{over}
+use Rattle.memory.specs.rules.Lists.{table, greatest}
+use Rattle.memory.specs.rules.Words.{over}
 use Rattle.memory.proofs.GreatestLaws.{greatest-more}
 use Rattle.memory.proofs.TableLaws.{length-table}
-use Rattle.grouping.specs.Columns.{CoverSteps}
+use Rattle.grouping.specs.stages.Covers.{CoverSteps}
 use Rattle.grouping.proofs.TableWords.{table-more, over-table}
 
 pub past : (f : ℕ → ℕ) (n : ℕ) (s : List ℕ) (i : ℕ) → n ≤ i → getD (table f n ++ drop n s) i 0 ≡ getD s i 0

@@ -9,19 +9,22 @@ use lib.Ieee.{Float}
 use lib.ListN.{getD, length, take, drop, length-append, length-drop, length-take, drop-of-length-le, List·getD-append}
 use lib.Seq.{take-all, take-at, getD-append-add}
 use borrow.Rule.Slice.PartMut.{putMid}
-use Rattle.memory.specs.Lists.{table, occurs, keep, upto, greatest}
-use Rattle.memory.specs.Words.{over}
-use Rattle.memory.specs.Records.{encoded}
+use Rattle.memory.specs.rules.Lists.{table, occurs, keep, upto, greatest}
+use Rattle.memory.specs.rules.Words.{over}
+use Rattle.memory.specs.rules.Records.{encoded, fields}
 use Rattle.memory.proofs.TableLaws.{length-table, getD-table, table-ext}
-use Rattle.labelling.specs.declared.rect.Rect.{Rect}
+use Rattle.memory.specs.declared.rect.Rect.{Rect}
 use Rattle.memory.proofs.PartLaws.{tail-part, tail-put}
 use Rattle.params.specs.declared.LayoutParams.{LayoutParams}
-use Rattle.rounding.specs.Lengths.{_·_, dots}
-use Rattle.grouping.specs.Columns.{cover, covered, enoughCover, columnRuns, columnsOf, CoverSteps}
-use Rattle.grouping.specs.Words.{Lines, Inside, lineBox, lineBoxes, fields, columnRecord}
-use Rattle.grouping.specs.Counts.{counts}
+use Rattle.rounding.specs.rules.Lengths.{_·_, dots}
+use Rattle.grouping.specs.rules.Columns.{cover, covered, enoughCover, columnRuns, columnsOf}
+use Rattle.grouping.specs.stages.Covers.{CoverSteps}
+use Rattle.grouping.specs.stages.LineBoxes.{Lines, Inside, lineBoxes}
+use Rattle.grouping.specs.rules.HeldLines.{lineBox}
+use Rattle.grouping.specs.rules.BlockRecords.{columnRecord}
+use Rattle.grouping.specs.stages.Counts.{counts}
 use Rattle.grouping.specs.declared.column.Column.{Column}
-use Rattle.grouping.proofs.ListLaws.{Each, each-table, map-table, keep-same}
+use Rattle.memory.proofs.ListLaws.{Each, each-table, map-table, keep-same}
 use Rattle.extents.proofs.OverLaws.{over-at}
 use Rattle.grouping.proofs.TableWords.{over-length}
 use Rattle.grouping.proofs.CoverLaws.{cover-first, cover-next, cover-ended, cover-length}

@@ -9,17 +9,17 @@ use native.Mathlib.Numerals.{add-one}
 use lib.ListN.{getD, length, drop, length-append, length-drop}
 use lib.Seq.{sets}
 use lib.Dec.{eqb}
-use Rattle.memory.specs.Lists.{table, countIf, keep, upto}
-use Rattle.memory.specs.Words.{over}
-use Rattle.memory.specs.Records.{encoded}
+use Rattle.memory.specs.rules.Lists.{table, countIf, keep, upto}
+use Rattle.memory.specs.rules.Words.{over}
+use Rattle.memory.specs.rules.Records.{encoded}
 use Rattle.memory.proofs.BoolLaws.{and-right}
 use Rattle.memory.proofs.RecordLaws.{length-encoded, record-more}
-use Rattle.labelling.specs.declared.rect.Rect.{Rect}
-use Rattle.levelling.specs.Frames.{Frame, rowOf, columnOf}
-use Rattle.grouping.specs.Readings.{inBox, listed, columnsAndRows, dotList}
-use Rattle.grouping.specs.Dots.{listedAt, FrameWords, RowSpan, ColumnSpan}
-use Rattle.grouping.proofs.ListLaws.{keep-snoc-yes, keep-snoc-no, upto-suc, keep-few}
-use Rattle.grouping.proofs.CountLaws.{count-length, count-below, count-yes, count-no, count-mono, Gap, keep-gap}
+use Rattle.memory.specs.declared.rect.Rect.{Rect}
+use Rattle.levelling.specs.rules.Frames.{Frame, rowOf, columnOf}
+use Rattle.grouping.specs.rules.Readings.{inBox, listed, columnsAndRows, dotList}
+use Rattle.grouping.specs.stages.Dots.{listedAt, FrameWords, RowSpan, ColumnSpan}
+use Rattle.memory.proofs.ListLaws.{keep-snoc-yes, keep-snoc-no, upto-suc, keep-few}
+use Rattle.memory.proofs.PlaceLaws.{count-length, count-below, count-yes, count-no, count-mono, Gap, keep-gap}
 use Rattle.extents.proofs.MaskLaws.{dot-column, dot-row, dot-inside}
 
 -- where the two shears send a dot, with what was proved of the place

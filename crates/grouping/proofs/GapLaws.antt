@@ -12,14 +12,16 @@ use lib.Ieee.{Float}
 use lib.ListN.{getD, length, drop, length-drop, drop-of-length-le}
 use lib.Seq.{drop-cons}
 use lib.Dec.{leb, ltb}
-use Rattle.memory.specs.Lists.{table, keep}
-use Rattle.memory.specs.Words.{over}
+use Rattle.memory.specs.rules.Lists.{table, keep}
+use Rattle.memory.specs.rules.Words.{over}
 use Rattle.memory.proofs.TableLaws.{length-table, getD-table}
-use Rattle.labelling.specs.declared.rect.Rect.{Rect}
-use Rattle.grouping.specs.Blocks.{lineGap, overlapping, candidates, candidateGaps, leastOf, leastWith, nearestGaps, noRect}
-use Rattle.grouping.specs.Words.{Inside, Lines, ByTop, lineBox, lineBoxes}
-use Rattle.grouping.specs.Counts.{counts, below}
-use Rattle.grouping.proofs.ListLaws.{Each, keep-yes, keep-no}
+use Rattle.memory.specs.declared.rect.Rect.{Rect}
+use Rattle.grouping.specs.rules.Blocks.{lineGap, overlapping, candidates, candidateGaps, leastOf, nearestGaps, noRect}
+use Rattle.grouping.specs.stages.Joining.{leastWith}
+use Rattle.grouping.specs.stages.LineBoxes.{Inside, Lines, ByTop, lineBoxes}
+use Rattle.grouping.specs.rules.HeldLines.{lineBox}
+use Rattle.grouping.specs.stages.Counts.{counts, below}
+use Rattle.memory.proofs.ListLaws.{Each, keep-yes, keep-no}
 
 -- The least of some numbers
 

@@ -6,31 +6,28 @@ use Prim.Native.Nat.{ℕ, zero, suc, _+_, _≤_, _<_}
 use native.Mathlib.Decide.{decLt}
 use native.Mathlib.Omega.{arith}
 use native.Mathlib.Numerals.{add-one}
-use borrow.Author.Tests.{ne-eqb}
 use lib.Ieee.{Float, binary64, add}
-use lib.Dec.{eqb, ltb}
+use lib.Dec.{ltb}
 use lib.ListN.{getD, length, set, take, drop, length-map, List·getD-eq-default}
 use lib.Seq.{take-at}
-use Rattle.memory.specs.Lists.{table, occurs}
-use Rattle.memory.specs.Words.{over}
+use Rattle.memory.specs.rules.Lists.{table, occurs}
+use Rattle.memory.specs.rules.Words.{over}
 use Rattle.memory.proofs.TableLaws.{length-table, getD-table}
-use Rattle.labelling.specs.Rects.{height}
-use Rattle.labelling.specs.declared.rect.Rect.{Rect}
+use Rattle.memory.specs.rules.Rects.{height}
+use Rattle.memory.specs.declared.rect.Rect.{Rect}
 use Rattle.params.specs.declared.LayoutParams.{LayoutParams}
-use Rattle.rounding.specs.Lengths.{float, _·_, dots}
-use Rattle.sorting.specs.Units.{median}
-use Rattle.sorting.specs.Counts.{CountsOf}
-use Rattle.grouping.specs.Blocks.{nearestGaps, leastWith, lineHeight, hardCap, maxGap}
-use Rattle.grouping.specs.Words.{Lines, lineBox, lineBoxes}
-use Rattle.grouping.specs.Counts.{counts, below}
-use Rattle.grouping.proofs.ListLaws.{Each, each-append, each-table, map-append, map-table}
+use Rattle.rounding.specs.rules.Lengths.{float, _·_, dots}
+use Rattle.sorting.specs.rules.Units.{median}
+use Rattle.sorting.specs.stages.Counts.{CountsOf}
+use Rattle.grouping.specs.rules.Blocks.{nearestGaps, lineHeight, hardCap, maxGap}
+use Rattle.grouping.specs.stages.Joining.{leastWith}
+use Rattle.grouping.specs.stages.LineBoxes.{Lines, lineBoxes}
+use Rattle.grouping.specs.rules.HeldLines.{lineBox}
+use Rattle.grouping.specs.stages.Counts.{counts, below}
+use Rattle.memory.proofs.ListLaws.{Each, each-append, each-table, map-append, map-table}
+use Rattle.memory.proofs.PlaceLaws.{absent}
 use Rattle.grouping.proofs.TableWords.{counts-more, counted-few}
 use Rattle.grouping.proofs.GapLaws.{gapsFrom, gapsBefore, before-all}
-
-pub absent : (m v : ℕ) (l : List ℕ) → Each (λ a. a < m) l → m ≤ v → occurs v l ≡ 0
-unfolding occurs
-absent m v [] h k = refl
-absent m v (a ∷ l) (h, hs) k = rw (ne-eqb a v (λ e. omega arith)) (let e = absent m v l hs k in omega arith)
 
 -- a table of counts is that of its list
 pub counts-of : (l s t : List ℕ) (m : ℕ) → Each (λ a. a < m) l → t ≡ over (counts l m) s → CountsOf (take m t) (length l) l

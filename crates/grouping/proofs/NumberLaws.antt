@@ -10,15 +10,15 @@ use native.Mathlib.Numerals.{add-one}
 use borrow.Author.Tests.{eq-eqb, ne-eqb}
 use lib.ListN.{getD, length, set, drop, length-set, List·getD-append}
 use lib.Seq.{drop-set-lt, drop-drop, getD-drop}
-use Rattle.memory.specs.Lists.{table, countIf}
-use Rattle.memory.specs.Words.{over}
+use Rattle.memory.specs.rules.Lists.{table, countIf}
+use Rattle.memory.specs.rules.Words.{over}
 use Rattle.memory.proofs.TableLaws.{length-table, getD-table}
-use Rattle.labelling.specs.Classes.{firstOf}
-use Rattle.labelling.specs.Forests.{Forest}
-use Rattle.grouping.specs.Blocks.{opensBlock, blockNumber}
-use Rattle.grouping.specs.Numbering.{NumberedOne, withBlocks}
-use Rattle.grouping.specs.Words.{lineWords}
-use Rattle.grouping.proofs.CountLaws.{count-yes, count-no}
+use Rattle.union_find.specs.rules.Classes.{firstOf}
+use Rattle.union_find.specs.stages.Forests.{Forest}
+use Rattle.grouping.specs.rules.Blocks.{opensBlock, blockNumber}
+use Rattle.grouping.specs.stages.Numbering.{NumberedOne, withBlocks}
+use Rattle.smoothing.specs.rules.LineRecords.{lineWords}
+use Rattle.memory.proofs.PlaceLaws.{count-yes, count-no}
 use Rattle.grouping.proofs.CoverSums.{past}
 use Rattle.grouping.proofs.TableWords.{table-more, over-table}
 

@@ -8,15 +8,15 @@ use native.Mathlib.Decide.{ℕ-discrete, decLt}
 use native.Mathlib.Omega.{arith}
 use native.Mathlib.Numerals.{add-one}
 use lib.ListN.{getD, length}
-use Rattle.memory.specs.Lists.{table, upto}
-use Rattle.memory.specs.Words.{over}
+use Rattle.memory.specs.rules.Lists.{table, upto}
+use Rattle.memory.specs.rules.Words.{over}
 use Rattle.memory.proofs.TableLaws.{length-table}
-use Rattle.labelling.specs.Classes.{renamed, firstOf, firsts, joinIf, joinOne, joinAll}
-use Rattle.labelling.specs.Chains.{Chain, here, rise, fall}
-use Rattle.labelling.specs.Forests.{joinF, Named, Forest, Found, United}
-use Rattle.labelling.proofs.FirstLaws.{chain-trans, chain-sym, renamed-case, joinF-a, joinF-b, min-case, max-case}
+use Rattle.union_find.specs.rules.Classes.{renamed, firstOf, firsts, joinIf, joinOne, joinAll}
+use Rattle.union_find.specs.rules.Chains.{Chain, here, rise, fall}
+use Rattle.union_find.specs.stages.Forests.{joinF, Named, Forest, Found, United}
+use Rattle.union_find.proofs.FirstLaws.{chain-trans, chain-sym, renamed-case, joinF-a, joinF-b, min-case, max-case}
 use Rattle.labelling.proofs.TransferLaws.{named-firsts}
-use Rattle.grouping.specs.Joining.{Pairs, Joined}
+use Rattle.grouping.specs.stages.Joining.{Pairs, Joined}
 use Rattle.extents.proofs.OverLaws.{over-at}
 use Rattle.grouping.proofs.TableWords.{over-length}
 

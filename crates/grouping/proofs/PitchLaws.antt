@@ -11,19 +11,19 @@ use borrow.Author.Tests.{eq-eqb, ne-eqb}
 use lib.ListN.{getD, length, set, take, length-take, length-append, length-set, List·getD-eq-default}
 use lib.Seq.{take-suc, take-length, getD-take, getD-set-same, getD-set-other}
 use lib.Dec.{eqb, leb}
-use Rattle.memory.specs.Lists.{table, upto, keep, occurs, sortBy}
-use Rattle.sorting.specs.Units.{median}
-use Rattle.sorting.specs.Counts.{CountsOf}
-use Rattle.grouping.specs.Readings.{differences, pitches}
-use Rattle.labelling.specs.Classes.{firstOf}
-use Rattle.labelling.specs.declared.rect.Rect.{Rect}
-use Rattle.grouping.specs.Blocks.{Block, noRect, blockNumber, blocksOf}
-use Rattle.grouping.specs.Pitches.{linesIn, pitchesBelow, lastCentre, pitchOf, walkedPitches, PitchAdded}
-use Rattle.grouping.proofs.ListLaws.{Each, each-at, each-sort, each-append, keep-snoc-yes, keep-snoc-no, upto-suc, map-append}
+use Rattle.memory.specs.rules.Lists.{table, upto, keep, occurs, sortBy}
+use Rattle.sorting.specs.rules.Units.{median}
+use Rattle.sorting.specs.stages.Counts.{CountsOf}
+use Rattle.grouping.specs.rules.Readings.{differences, pitches}
+use Rattle.union_find.specs.rules.Classes.{firstOf}
+use Rattle.memory.specs.declared.rect.Rect.{Rect}
+use Rattle.grouping.specs.rules.Blocks.{Block, noRect, blockNumber, blocksOf}
+use Rattle.grouping.specs.rules.HeldLines.{linesIn, pitchesBelow}
+use Rattle.grouping.specs.stages.Pitches.{lastCentre, pitchOf, walkedPitches, PitchAdded}
+use Rattle.memory.proofs.ListLaws.{Each, each-at, each-sort, each-append, keep-snoc-yes, keep-snoc-no, upto-suc, map-append}
 use Rattle.grouping.proofs.ColumnLaws.{Rising, rising-keep}
-use Rattle.grouping.proofs.MedianWords.{absent}
+use Rattle.memory.proofs.PlaceLaws.{absent, occurs-append, occurs-same, occurs-other}
 use Rattle.grouping.proofs.BlockLaws.{block-lines}
-use Rattle.grouping.proofs.CountLaws.{occurs-append, occurs-same, occurs-other}
 
 -- one more than the last entry, 0 of none
 lastPlus : List ℕ → ℕ

@@ -16,14 +16,14 @@ use lib.Dec.{ltb, leb}
 use lib.Ieee.{Float}
 use lib.ListN.{getD, length}
 use Rattle.memory.proofs.BoolLaws.{and-left, and-right}
-use Rattle.rounding.specs.Drift.{WithinOne}
+use Rattle.rounding.specs.rules.Drift.{WithinOne}
 use Rattle.rounding.proofs.Signs.{negative}
-use Rattle.labelling.specs.declared.rect.Rect.{Rect}
-use Rattle.levelling.specs.Frames.{Frame, PageSides, frame, rowOf, columnOf}
+use Rattle.memory.specs.declared.rect.Rect.{Rect}
+use Rattle.levelling.specs.rules.Frames.{Frame, PageSides, frame, rowOf, columnOf}
 use Rattle.levelling.proofs.ShearLaws.{Steps}
 use Rattle.levelling.proofs.FrameLaws.{shear-steps, shear-x-steps, length-shears}
-use Rattle.grouping.specs.Readings.{inBox}
-use Rattle.grouping.specs.Dots.{Step, FrameWords, OneWay, Sheared, RowSpan, ColumnSpan, isShort, Turn}
+use Rattle.grouping.specs.rules.Readings.{inBox}
+use Rattle.grouping.specs.stages.Dots.{Step, FrameWords, OneWay, Sheared, RowSpan, ColumnSpan, isShort, Turn}
 
 -- ---- the frame of a page
 steps-of : (s : Bool) (l : List ℕ) → Steps s l → (i : ℕ) → suc i < length l → Step s (getD l i 0) (getD l (suc i) 0)

@@ -2,8 +2,8 @@
 use mathlib.Core.Path.{_≡_, refl, ap}
 use Prim.Native.Nat.{ℕ, _*_}
 use lib.Ieee.{Float, binary64, div, ofBits, ofInt, round}
-use Rattle.rounding.specs.Lengths.{float}
-use Rattle.grouping.specs.Readings.{two, textShare, summarized}
+use Rattle.rounding.specs.rules.Lengths.{float}
+use Rattle.grouping.specs.rules.Readings.{two, textShare, summarized}
 use Rattle.grouping.specs.declared.summary.Summary.{Summary}
 use Rattle.grouping.specs.declared.summary.Totals.{Totals}
 

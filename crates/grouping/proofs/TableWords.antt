@@ -1,23 +1,20 @@
 -- Tables over the front of lent words: tables of counts with one more value counted, and a table with one more entry.
-use mathlib.Core.Path.{_≡_, refl, sym, ap, _∙_, subst}
-use mathlib.Core.Bool.{Bool, true, false, cond}
+use mathlib.Core.Path.{_≡_, refl, sym, ap, _∙_}
 use mathlib.Core.List.{List, [], _∷_, _++_, append-nil}
 use borrow.Author.Tests.{lt-ltb, le-ltb}
-use Prim.Native.Nat.{ℕ, zero, suc, _+_, _*_, _≤_, _<_, zero-le}
-use native.Mathlib.Nat.{le-refl}
+use Prim.Native.Nat.{ℕ, _+_, _*_, _≤_, _<_}
 use native.Mathlib.Decide.{ℕ-discrete}
 use native.Mathlib.Omega.{arith}
 use native.Mathlib.Numerals.{add-one}
-use lib.ListN.{getD, length, set, drop, length-append, length-drop, length-set, List·getD-append}
+use lib.ListN.{getD, length, set, drop, length-append, length-drop, length-set}
 use lib.Seq.{drop-append-seam, ext-getD, getD-set-same, getD-set-other, set-append-left}
-use lib.Dec.{eqb}
-use Rattle.memory.specs.Lists.{table, occurs}
-use Rattle.memory.specs.Words.{over}
+use Rattle.memory.specs.rules.Lists.{table, occurs}
+use Rattle.memory.specs.rules.Words.{over}
 use Rattle.memory.proofs.TableLaws.{length-table, getD-table, table-step}
 use Rattle.extents.proofs.OverLaws.{over-at}
-use Rattle.grouping.specs.Counts.{counts, below}
-use Rattle.grouping.specs.Words.{fields}
-use Rattle.grouping.proofs.CountLaws.{occurs-same, occurs-other}
+use Rattle.grouping.specs.stages.Counts.{counts, below}
+use Rattle.memory.specs.rules.Records.{fields}
+use Rattle.memory.proofs.PlaceLaws.{occurs-same, occurs-other, occurs-length}
 
 pub over-table : (f : ℕ → ℕ) (n : ℕ) (s : List ℕ) → table f n ++ drop n s ≡ over (table f n) s
 over-table f n s = ap (λ k. table f n ++ drop k s) (sym (length-table f n))
@@ -37,15 +34,6 @@ table-none f s = refl
 -- one more entry, as code has it
 pub table-more : (f : ℕ → ℕ) (s : List ℕ) (i : ℕ) → i < length s → set (table f i ++ drop i s) i (f i) ≡ table f (i + 1) ++ drop (i + 1) s
 table-more f s i h = rw add-one (table-step f s i h)
-
-pub occurs-length : (k : ℕ) (l : List ℕ) → occurs k l ≤ length l
-unfolding occurs
-occurs-length k [] = le-refl 0
-occurs-length k (a ∷ l) = go (eqb a k) (occurs-length k l)
-  where
-    go : (t : Bool) → occurs k l ≤ length l → cond t 1 0 + occurs k l ≤ suc (length l)
-    go true h = omega arith
-    go false h = omega arith
 
 counts-set : (l : List ℕ) (m v : ℕ) → v < m → set (counts l m) v (occurs v l + 1) ≡ counts (l ++ (v ∷ [])) m
 counts-set l m v h =

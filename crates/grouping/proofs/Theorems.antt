@@ -1,92 +1,28 @@
--- What holds of every page, over the definitions alone.
-use mathlib.Core.Path.{_≡_, refl, sym, ap, _∙_}
-use mathlib.Core.Bool.{Bool, true, false, cond, _&&_}
+-- What holds of every page, over the definitions alone: blocks and columns.
+use mathlib.Core.Path.{_≡_, ap, subst}
+use mathlib.Core.Bool.{Bool, true, cond}
+use mathlib.Core.Logic.{_↔_}
 use mathlib.Core.List.{List}
-use Prim.Native.Nat.{ℕ, suc, _+_, _*_, _≤_, _<_}
-use borrow.Author.Tests.{leb-true}
-use lib.Ieee.{Float, le}
+use Prim.Native.Nat.{ℕ, suc, _+_, _-_, _≤_, _<_}
+use native.Mathlib.Omega.{arith}
+use lib.Ieee.{Float}
 use lib.ListN.{getD, length}
-use lib.Dec.{eqb, leb}
-use Rattle.memory.specs.Lists.{table, keep, upto, occurs}
-use Rattle.memory.proofs.BoolLaws.{and-left, and-right}
-use Rattle.labelling.specs.Rects.{height}
-use Rattle.labelling.specs.Classes.{firstOf}
-use Rattle.labelling.specs.Components.{noDots}
-use Rattle.labelling.specs.declared.rect.Rect.{Rect}
-use Rattle.labelling.specs.declared.component.Component.{Component}
+use lib.Dec.{eqb}
+use Rattle.memory.specs.rules.Lists.{table, upto, keep, greatest, countIf, occurs}
+use Rattle.memory.proofs.ListLaws.{Each, each-at, each-keep}
+use Rattle.memory.proofs.PlaceLaws.{count-below, count-length, count-place}
+use Rattle.union_find.specs.rules.Classes.{firstOf}
+use Rattle.union_find.specs.rules.Chains.{Chain}
+use Rattle.union_find.proofs.FirstLaws.{firsts-right, firsts-chain, along}
+use Rattle.memory.specs.declared.rect.Rect.{Rect}
 use Rattle.params.specs.declared.LayoutParams.{LayoutParams}
-use Rattle.rounding.specs.Lengths.{float, _·_, dots}
-use Rattle.grouping.specs.Smoothing.{glyphAt, joined, smoothed}
-use Rattle.grouping.specs.Lines.{LabelledGlyph, SmoothedLine, smoothedLine, isLine, keysAtMost, lineKeys, keptLines}
-use Rattle.grouping.specs.Blocks.{Block, blockFirsts, blockNumber, blocksOf}
-use Rattle.grouping.specs.Columns.{columnsOf, columnRuns}
+use Rattle.rounding.specs.rules.Lengths.{_·_, dots}
+use Rattle.grouping.specs.rules.Blocks.{Block, hardCap, maxGap, together, blockFirsts, opensBlock, blockNumber, blocksOf}
+use Rattle.grouping.specs.rules.Columns.{cover, covered, columnsOf}
 use Rattle.grouping.specs.declared.column.Column.{Column}
-use Rattle.grouping.proofs.ListLaws.{Each, each-at, each-keep, each-sort}
-use Rattle.grouping.proofs.PlaneLaws.{mask-at}
-use Rattle.grouping.proofs.JoinLaws.{joined-on, joined-before, joined-after}
-use Rattle.grouping.proofs.OrderLaws.{lines-by-top}
-use Rattle.grouping.proofs.BlockLaws.{blocks-part, block-in-range, block-first, numbers-rise}
+use Rattle.grouping.proofs.BlockLaws.{blocks-part, block-in-range, block-first, numbers-rise, number-same}
 use Rattle.grouping.proofs.TogetherLaws.{block-low, block-idem}
-use Rattle.grouping.proofs.ColumnLaws.{rising-keep, runs-order, order-at, order-apart}
-
--- Smoothing
-
-module _ (gap w h : ℕ) (plane : List ℕ) (x y : ℕ) (in-row : x < w) (in-plane : y < h) where
-  -- every glyph dot is in the smoothed mask
-  pub glyph-dot-smoothed : glyphAt w plane x y ≡ true → getD (smoothed gap w h plane) (y * w + x) 0 ≡ 1
-  unfolding smoothed
-  glyph-dot-smoothed e =
-      mask-at w h (λ a b. joined (λ k. glyphAt w plane k b) w gap a) x y in-row in-plane ∙ ap (λ t. cond t 1 0) (joined-on (λ k. glyphAt w plane k y) w gap x e)
-
-  -- nothing before the first glyph dot of a row is filled
-  pub row-start-stays : ((k : ℕ) → k ≤ x → glyphAt w plane k y ≡ false) → getD (smoothed gap w h plane) (y * w + x) 0 ≡ 0
-  unfolding smoothed
-  row-start-stays e =
-      mask-at w h (λ a b. joined (λ k. glyphAt w plane k b) w gap a) x y in-row in-plane ∙ ap (λ t. cond t 1 0) (joined-before (λ k. glyphAt w plane k y) w gap x e)
-
-  -- nor after the last
-  pub row-end-stays : ((k : ℕ) → x ≤ k → k < w → glyphAt w plane k y ≡ false) → getD (smoothed gap w h plane) (y * w + x) 0 ≡ 0
-  unfolding smoothed
-  row-end-stays e =
-      mask-at w h (λ a b. joined (λ k. glyphAt w plane k b) w gap a) x y in-row in-plane ∙ ap (λ t. cond t 1 0) (joined-after (λ k. glyphAt w plane k y) w gap x in-row e)
-
--- Lines
-
--- what a line has: at least its glyphs, and a height within the two bounds
-pub record Line (p : LayoutParams) (unit : Float) (l : SmoothedLine) : Type 0 where
-  pub glyphs : p .«line_min_glyphs» ≤ l .glyphs
-  pub low : le (p .«line_min_height_xh» · unit) (float (height (l .bbox))) ≡ true
-  pub high : le (float (height (l .bbox))) (p .«line_max_height_xh» · unit) ≡ true
-
-line : (p : LayoutParams) (unit : Float) (l : SmoothedLine) → isLine p unit l ≡ true → Line p unit l
-unfolding isLine
-line p unit l e =
-    let few : Bool = leb (p .«line_min_glyphs») (l .glyphs) in
-    let low : Bool = le (p .«line_min_height_xh» · unit) (float (height (l .bbox))) in
-    let high : Bool = le (float (height (l .bbox))) (p .«line_max_height_xh» · unit) in
-    let both : (few && low) ≡ true = and-left (few && low) high e in
-    record {
-      glyphs = leb-true (p .«line_min_glyphs») (l .glyphs) (and-left few low both);
-      low = and-right few low both;
-      high = and-right (few && low) high e;
-    }
-
--- each line holds at least `line_min_glyphs` glyphs, and its height lies within the bounds
-pub each-line : (p : LayoutParams) (unit : Float) (gs : List LabelledGlyph) (rows : List Component) (i : ℕ) (d : SmoothedLine)
-    → i < length (keptLines p unit gs rows) → Line p unit (getD (keptLines p unit gs rows) i d)
-unfolding keptLines
-each-line p unit gs rows i d h =
-    each-at (Line p unit) (keptLines p unit gs rows)
-    (each-sort (Line p unit) (λ (a b : SmoothedLine). keysAtMost (lineKeys a) (lineKeys b))
-    (keep (isLine p unit) (table (λ t. smoothedLine gs (getD rows t noDots) (suc t)) (length rows)))
-    (each-keep (Line p unit) (isLine p unit) (line p unit) (table (λ t. smoothedLine gs (getD rows t noDots) (suc t)) (length rows))))
-    i d h
-
--- lines go by y0: none starts above the one before it
-pub lines-go-by-top : (p : LayoutParams) (unit : Float) (gs : List LabelledGlyph) (rows : List Component) (i j : ℕ) (d : SmoothedLine)
-    → i < j → j < length (keptLines p unit gs rows) → getD (keptLines p unit gs rows) i d .bbox .y0 ≤ getD (keptLines p unit gs rows) j d .bbox .y0
-unfolding keptLines
-lines-go-by-top p unit gs rows = lines-by-top (keep (isLine p unit) (table (λ t. smoothedLine gs (getD rows t noDots) (suc t)) (length rows)))
+use Rattle.grouping.proofs.ColumnLaws.{rising-keep, runs-order, order-at, order-apart, runs-ends, Within, runs-each, runs-spaced, runs-close}
 
 -- Blocks: fs is the first line of each line's block
 
@@ -109,7 +45,22 @@ module _ (p : LayoutParams) (ls : List Rect) where
   pub block-numbers-rise : (i j : ℕ) → firstOf (blockFirsts p ls) i < firstOf (blockFirsts p ls) j → blockNumber (blockFirsts p ls) i < blockNumber (blockFirsts p ls) j
   block-numbers-rise = numbers-rise ls (blockFirsts p ls) (block-low p ls) (block-idem p ls)
 
+  -- two lines share a block just where a chain of lines that belong together joins them
+  pub same-block-by-chain : (i j : ℕ)
+      → (blockNumber (blockFirsts p ls) i ≡ blockNumber (blockFirsts p ls) j) ↔ Chain (together (p .«block_min_overlap») (hardCap p ls) (maxGap p ls) ls) (length ls) i j
+  unfolding blockFirsts blockNumber
+  same-block-by-chain i j =
+      let right = firsts-right (together (p .«block_min_overlap») (hardCap p ls) (maxGap p ls) ls) (length ls) in
+      (λ e. firsts-chain right i j (number-same ls (blockFirsts p ls) (block-low p ls) (block-idem p ls) i j e), λ c. ap (countIf (opensBlock (blockFirsts p ls))) (along right c))
+
 -- Columns
+
+-- frame column x is covered, by the greatest count of the page
+abbrev pub coveredAt : LayoutParams → ℕ → List Rect → ℕ → Bool
+coveredAt p w ls = covered p (greatest (table (cover ls) w)) ls
+
+all-covered : (p : LayoutParams) (w : ℕ) (ls : List Rect) → Each (λ x. coveredAt p w ls x ≡ true) (keep (coveredAt p w ls) (upto w))
+all-covered p w ls = each-keep (λ x. coveredAt p w ls x ≡ true) (coveredAt p w ls) (λ x e. e) (upto w)
 
 module _ (p : LayoutParams) (unit : Float) (w : ℕ) (ls : List Rect) where
   -- each column lies inside the frame, its ends in order
@@ -125,3 +76,32 @@ module _ (p : LayoutParams) (unit : Float) (w : ℕ) (ls : List Rect) where
       → getD (columnsOf p unit w ls) i d .x1 < getD (columnsOf p unit w ls) j d .x0
   unfolding columnsOf
   columns-apart i j d h k = order-apart 0 w (columnsOf p unit w ls) (runs-order (dots (p .«column_gap_xh» · unit)) w _ (rising-keep _ w)) i j d h k
+
+  -- both ends of a column are covered
+  pub column-ends-covered : (i : ℕ) (d : Column) → i < length (columnsOf p unit w ls)
+      → (coveredAt p w ls (getD (columnsOf p unit w ls) i d .x0) ≡ true) × (coveredAt p w ls (getD (columnsOf p unit w ls) i d .x1) ≡ true)
+  unfolding columnsOf
+  column-ends-covered i d h =
+      each-at _ (columnsOf p unit w ls) (runs-ends (λ x. coveredAt p w ls x ≡ true) (dots (p .«column_gap_xh» · unit)) (keep (coveredAt p w ls) (upto w)) (all-covered p w ls)) i d h
+
+  -- every covered frame column lies in a column
+  pub covered-in-a-column : (x : ℕ) (d : Column) → x < w → coveredAt p w ls x ≡ true
+      → (i : ℕ) × (i < length (columnsOf p unit w ls)) × (getD (columnsOf p unit w ls) i d .x0 ≤ x) × (x ≤ getD (columnsOf p unit w ls) i d .x1)
+  unfolding columnsOf
+  covered-in-a-column x d inside e =
+      subst (Within d (columnsOf p unit w ls)) (count-place (coveredAt p w ls) w x 0 inside e)
+      (runs-each d (dots (p .«column_gap_xh» · unit)) w (keep (coveredAt p w ls) (upto w)) (rising-keep (coveredAt p w ls) w) (countIf (coveredAt p w ls) x) (let a = count-below (coveredAt p w ls) x w inside e in let b = count-length (coveredAt p w ls) w in omega arith))
+
+  -- a column goes on over fewer than the gap: from each of its places before its end the next covered frame column is that near
+  pub column-goes-on : (i : ℕ) (d : Column) → i < length (columnsOf p unit w ls) → (x : ℕ) → getD (columnsOf p unit w ls) i d .x0 ≤ x → x < getD (columnsOf p unit w ls) i d .x1
+      → (y : ℕ) × (coveredAt p w ls y ≡ true) × (x < y) × (y ≤ getD (columnsOf p unit w ls) i d .x1) × (y - (x + 1) < dots (p .«column_gap_xh» · unit))
+  unfolding columnsOf
+  column-goes-on i d h =
+      each-at _ (columnsOf p unit w ls)
+      (runs-close (λ x. coveredAt p w ls x ≡ true) (dots (p .«column_gap_xh» · unit)) w (keep (coveredAt p w ls) (upto w)) (all-covered p w ls) (rising-keep (coveredAt p w ls) w)) i d h
+
+  -- and between two columns that follow one another lie at least that many frame columns
+  pub columns-apart-by-gap : (i : ℕ) (d : Column) → suc i < length (columnsOf p unit w ls)
+      → dots (p .«column_gap_xh» · unit) ≤ getD (columnsOf p unit w ls) (suc i) d .x0 - (getD (columnsOf p unit w ls) i d .x1 + 1)
+  unfolding columnsOf
+  columns-apart-by-gap i d = runs-spaced d (dots (p .«column_gap_xh» · unit)) (keep (coveredAt p w ls) (upto w)) i

@@ -9,18 +9,19 @@ use borrow.Author.Tests.{le-leb, lt-leb}
 use lib.Ieee.{Float}
 use lib.ListN.{getD, length}
 use lib.Dec.{leb}
-use Rattle.memory.specs.Lists.{table}
-use Rattle.memory.specs.Words.{over}
+use Rattle.memory.specs.rules.Lists.{table}
+use Rattle.memory.specs.rules.Words.{over}
 use Rattle.memory.proofs.TableLaws.{length-table, getD-table}
-use Rattle.labelling.specs.Classes.{firstOf, firsts}
-use Rattle.labelling.specs.Chains.{Firsts}
-use Rattle.labelling.specs.Forests.{Forest}
-use Rattle.labelling.specs.declared.rect.Rect.{Rect}
-use Rattle.labelling.proofs.FirstLaws.{firsts-right, along}
+use Rattle.union_find.specs.rules.Classes.{firstOf, firsts}
+use Rattle.union_find.specs.rules.Chains.{Firsts}
+use Rattle.union_find.specs.stages.Forests.{Forest}
+use Rattle.memory.specs.declared.rect.Rect.{Rect}
+use Rattle.union_find.proofs.FirstLaws.{firsts-right, along}
 use Rattle.params.specs.declared.LayoutParams.{LayoutParams}
-use Rattle.grouping.specs.Blocks.{lineGap, overlapping, candidates, together, noRect, hardCap, maxGap, blockFirsts, blockNumber}
-use Rattle.grouping.specs.Joining.{joins}
-use Rattle.grouping.specs.Words.{lineBox, lineBoxes}
+use Rattle.grouping.specs.rules.Blocks.{lineGap, overlapping, candidates, together, noRect, hardCap, maxGap, blockFirsts, blockNumber}
+use Rattle.grouping.specs.stages.Joining.{joins}
+use Rattle.grouping.specs.rules.HeldLines.{lineBox}
+use Rattle.grouping.specs.stages.LineBoxes.{lineBoxes}
 use Rattle.grouping.proofs.PairLaws.{firsts-same}
 
 -- each line's first line stands no later, and is its own

@@ -3,12 +3,13 @@ ghost use mathlib.Core.Path.{_≡_};
 ghost use mathlib.Core.List.{List, _++_};
 ghost use Prim.Native.Nat.{ℕ, _+_, _*_, _≤_, _<_};
 ghost use lib.ListN.{length, getD};
-ghost use Rattle.memory.specs.Lists.{table};
-ghost use Rattle.memory.specs.Words.{over};
-ghost use Rattle.grouping.specs.Words.{lineWords, fields};
-ghost use Rattle.grouping.specs.Counts.{counts, below};
-use crate::numbers::LINE_WORDS;
+ghost use Rattle.memory.specs.rules.Lists.{table};
+ghost use Rattle.memory.specs.rules.Words.{over};
+ghost use Rattle.smoothing.specs.rules.LineRecords.{lineWords};
+ghost use Rattle.memory.specs.rules.Records.{fields};
+ghost use Rattle.grouping.specs.stages.Counts.{counts, below};
 use memory::wide;
+use smoothing::LINE_WORDS;
 
 // The first m words become 0.
 pub fn clear(words: &mut [u32], m: usize)

@@ -5,13 +5,13 @@ ghost use mathlib.Core.List.{List, [], _∷_};
 ghost use Prim.Native.Nat.{ℕ, _+_, _*_, _≤_, _<_};
 ghost use lib.ListN.{length};
 ghost use lib.Seq.{sets};
-ghost use Rattle.memory.specs.Lists.{countIf, keep, upto};
-ghost use Rattle.memory.specs.Words.{over};
-ghost use Rattle.grouping.specs.Readings.{inBox, listed, columnsAndRows, dotList};
-ghost use Rattle.grouping.specs.Dots.{frameOf, listedAt, FrameWords, OneWay};
+ghost use Rattle.memory.specs.rules.Lists.{countIf, keep, upto};
+ghost use Rattle.memory.specs.rules.Words.{over};
+ghost use Rattle.grouping.specs.rules.Readings.{inBox, listed, columnsAndRows, dotList};
+ghost use Rattle.grouping.specs.stages.Dots.{frameBy, listedAt, FrameWords, OneWay};
 use crate::spans::column_span;
 use crate::spans::row_span;
-use labelling::Rect;
+use memory::Rect;
 use memory::wide;
 
 // The sides of a page and of its frame.
@@ -31,8 +31,8 @@ pub fn count_dots(
     kind: u8,
     r: Rect,
 ) -> usize
-    requires { ⌜ FrameWords (frameOf (sides .«page_w») (sides .«page_h») (sides .w) (sides .h) (now shear) (now «shear_x»)) (now kinds) × OneWay (frameOf (sides .«page_w») (sides .«page_h») (sides .w) (sides .h) (now shear) (now «shear_x»)) ⌝ }
-    ensures { λ n. ⌜ n ≡ countIf (listed (frameOf (sides .«page_w») (sides .«page_h») (sides .w) (sides .h) (now (shear .entry)) (now («shear_x» .entry))) (now (kinds .entry)) kind r) (sides .«page_w» * sides .«page_h») ⌝ }
+    requires { ⌜ FrameWords (frameBy sides (now shear) (now «shear_x»)) (now kinds) × OneWay (frameBy sides (now shear) (now «shear_x»)) ⌝ }
+    ensures { λ n. ⌜ n ≡ countIf (listed (frameBy sides (now (shear .entry)) (now («shear_x» .entry))) (now (kinds .entry)) kind r) (sides .«page_w» * sides .«page_h») ⌝ }
 {
     let rows = row_span(shear, shear_x, sides, r);
     let end = rows.to + 1;
@@ -56,9 +56,9 @@ fn count_row(
     y: usize,
     n: usize,
 ) -> usize
-    requires { ⌜ FrameWords (frameOf (sides .«page_w») (sides .«page_h») (sides .w) (sides .h) (now shear) (now «shear_x»)) (now kinds) × OneWay (frameOf (sides .«page_w») (sides .«page_h») (sides .w) (sides .h) (now shear) (now «shear_x»)) × (y < sides .«page_h»)
-        × (n ≡ countIf (listed (frameOf (sides .«page_w») (sides .«page_h») (sides .w) (sides .h) (now shear) (now «shear_x»)) (now kinds) kind r) (y * sides .«page_w»)) ⌝ }
-    ensures { λ m. ⌜ m ≡ countIf (listed (frameOf (sides .«page_w») (sides .«page_h») (sides .w) (sides .h) (now (shear .entry)) (now («shear_x» .entry))) (now (kinds .entry)) kind r) ((y + 1) * sides .«page_w») ⌝ }
+    requires { ⌜ FrameWords (frameBy sides (now shear) (now «shear_x»)) (now kinds) × OneWay (frameBy sides (now shear) (now «shear_x»)) × (y < sides .«page_h»)
+        × (n ≡ countIf (listed (frameBy sides (now shear) (now «shear_x»)) (now kinds) kind r) (y * sides .«page_w»)) ⌝ }
+    ensures { λ m. ⌜ m ≡ countIf (listed (frameBy sides (now (shear .entry)) (now («shear_x» .entry))) (now (kinds .entry)) kind r) ((y + 1) * sides .«page_w») ⌝ }
 {
     let columns = column_span(shear, shear_x, sides, r, y);
     let end = columns.to;
@@ -81,9 +81,9 @@ pub fn write_dots(
     r: Rect,
     out: &mut [u32],
 ) -> usize
-    requires { ⌜ FrameWords (frameOf (sides .«page_w») (sides .«page_h») (sides .w) (sides .h) (now shear) (now «shear_x»)) (now kinds) × OneWay (frameOf (sides .«page_w») (sides .«page_h») (sides .w) (sides .h) (now shear) (now «shear_x»)) × (2 * countIf (listed (frameOf (sides .«page_w») (sides .«page_h») (sides .w) (sides .h) (now shear) (now «shear_x»)) (now kinds) kind r) (sides .«page_w» * sides .«page_h») ≤ length (now out)) ⌝ }
-    ensures { λ n. ⌜ (n ≡ countIf (listed (frameOf (sides .«page_w») (sides .«page_h») (sides .w) (sides .h) (now (shear .entry)) (now («shear_x» .entry))) (now (kinds .entry)) kind r) (sides .«page_w» * sides .«page_h»))
-        × (now (out .exit) ≡ over (dotList (frameOf (sides .«page_w») (sides .«page_h») (sides .w) (sides .h) (now (shear .entry)) (now («shear_x» .entry))) (now (kinds .entry)) kind r) (now (out .entry))) ⌝ }
+    requires { ⌜ FrameWords (frameBy sides (now shear) (now «shear_x»)) (now kinds) × OneWay (frameBy sides (now shear) (now «shear_x»)) × (2 * countIf (listed (frameBy sides (now shear) (now «shear_x»)) (now kinds) kind r) (sides .«page_w» * sides .«page_h») ≤ length (now out)) ⌝ }
+    ensures { λ n. ⌜ (n ≡ countIf (listed (frameBy sides (now (shear .entry)) (now («shear_x» .entry))) (now (kinds .entry)) kind r) (sides .«page_w» * sides .«page_h»))
+        × (now (out .exit) ≡ over (dotList (frameBy sides (now (shear .entry)) (now («shear_x» .entry))) (now (kinds .entry)) kind r) (now (out .entry))) ⌝ }
 {
     let rows = row_span(shear, shear_x, sides, r);
     let end = rows.to + 1;
@@ -108,11 +108,11 @@ fn write_row(
     n: usize,
     out: &mut [u32],
 ) -> usize
-    requires { ⌜ FrameWords (frameOf (sides .«page_w») (sides .«page_h») (sides .w) (sides .h) (now shear) (now «shear_x»)) (now kinds) × OneWay (frameOf (sides .«page_w») (sides .«page_h») (sides .w) (sides .h) (now shear) (now «shear_x»)) × (y < sides .«page_h») × (n ≡ countIf (listed (frameOf (sides .«page_w») (sides .«page_h») (sides .w) (sides .h) (now shear) (now «shear_x»)) (now kinds) kind r) (y * sides .«page_w»))
-        × (2 * countIf (listed (frameOf (sides .«page_w») (sides .«page_h») (sides .w) (sides .h) (now shear) (now «shear_x»)) (now kinds) kind r) (sides .«page_w» * sides .«page_h») ≤ length (now out)) ⌝ }
-    ensures { λ m. ⌜ (m ≡ countIf (listed (frameOf (sides .«page_w») (sides .«page_h») (sides .w) (sides .h) (now (shear .entry)) (now («shear_x» .entry))) (now (kinds .entry)) kind r) ((y + 1) * sides .«page_w»))
-        × ((s : List ℕ) → now (out .entry) ≡ over (columnsAndRows (sides .«page_w») (keep (listed (frameOf (sides .«page_w») (sides .«page_h») (sides .w) (sides .h) (now (shear .entry)) (now («shear_x» .entry))) (now (kinds .entry)) kind r) (upto (y * sides .«page_w»)))) s
-        → now (out .exit) ≡ over (columnsAndRows (sides .«page_w») (keep (listed (frameOf (sides .«page_w») (sides .«page_h») (sides .w) (sides .h) (now (shear .entry)) (now («shear_x» .entry))) (now (kinds .entry)) kind r) (upto ((y + 1) * sides .«page_w»)))) s) ⌝ }
+    requires { ⌜ FrameWords (frameBy sides (now shear) (now «shear_x»)) (now kinds) × OneWay (frameBy sides (now shear) (now «shear_x»)) × (y < sides .«page_h») × (n ≡ countIf (listed (frameBy sides (now shear) (now «shear_x»)) (now kinds) kind r) (y * sides .«page_w»))
+        × (2 * countIf (listed (frameBy sides (now shear) (now «shear_x»)) (now kinds) kind r) (sides .«page_w» * sides .«page_h») ≤ length (now out)) ⌝ }
+    ensures { λ m. ⌜ (m ≡ countIf (listed (frameBy sides (now (shear .entry)) (now («shear_x» .entry))) (now (kinds .entry)) kind r) ((y + 1) * sides .«page_w»))
+        × ((s : List ℕ) → now (out .entry) ≡ over (columnsAndRows (sides .«page_w») (keep (listed (frameBy sides (now (shear .entry)) (now («shear_x» .entry))) (now (kinds .entry)) kind r) (upto (y * sides .«page_w»)))) s
+        → now (out .exit) ≡ over (columnsAndRows (sides .«page_w») (keep (listed (frameBy sides (now (shear .entry)) (now («shear_x» .entry))) (now (kinds .entry)) kind r) (upto ((y + 1) * sides .«page_w»)))) s) ⌝ }
 {
     let columns = column_span(shear, shear_x, sides, r, y);
     let end = columns.to;
@@ -156,8 +156,8 @@ fn is_listed(
     c: usize,
     y: usize,
 ) -> bool
-    requires { ⌜ FrameWords (frameOf (sides .«page_w») (sides .«page_h») (sides .w) (sides .h) (now shear) (now «shear_x»)) (now kinds) × (c < sides .«page_w») × (y < sides .«page_h») ⌝ }
-    ensures { λ t. ⌜ t ≡ listedAt (frameOf (sides .«page_w») (sides .«page_h») (sides .w) (sides .h) (now (shear .entry)) (now («shear_x» .entry))) (now (kinds .entry)) kind r c y ⌝ }
+    requires { ⌜ FrameWords (frameBy sides (now shear) (now «shear_x»)) (now kinds) × (c < sides .«page_w») × (y < sides .«page_h») ⌝ }
+    ensures { λ t. ⌜ t ≡ listedAt (frameBy sides (now (shear .entry)) (now («shear_x» .entry))) (now (kinds .entry)) kind r c y ⌝ }
 {
     let w = sides.w;
     let row = y + wide(shear[c]);

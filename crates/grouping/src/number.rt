@@ -3,15 +3,15 @@ ghost use mathlib.Core.Path.{_≡_};
 ghost use mathlib.Core.List.{List, _++_};
 ghost use Prim.Native.Nat.{ℕ, _+_, _*_, _≤_, _<_};
 ghost use lib.ListN.{length, getD};
-ghost use Rattle.memory.specs.Lists.{table, countIf};
-ghost use Rattle.memory.specs.Words.{over};
-ghost use Rattle.labelling.specs.Classes.{firstOf};
-ghost use Rattle.labelling.specs.Forests.{Forest};
-ghost use Rattle.grouping.specs.Blocks.{opensBlock, blockNumber};
-ghost use Rattle.grouping.specs.Numbering.{NumberedOne, withBlocks};
-ghost use Rattle.grouping.specs.Words.{lineWords};
-use crate::numbers::LINE_WORDS;
+ghost use Rattle.memory.specs.rules.Lists.{table, countIf};
+ghost use Rattle.memory.specs.rules.Words.{over};
+ghost use Rattle.union_find.specs.rules.Classes.{firstOf};
+ghost use Rattle.union_find.specs.stages.Forests.{Forest};
+ghost use Rattle.grouping.specs.rules.Blocks.{opensBlock, blockNumber};
+ghost use Rattle.grouping.specs.stages.Numbering.{NumberedOne, withBlocks};
+ghost use Rattle.smoothing.specs.rules.LineRecords.{lineWords};
 use memory::wide;
+use smoothing::LINE_WORDS;
 
 // In place of the parent of each of the n lines, the number of its block; answers how many blocks there are.
 pub fn number_blocks(parents: &mut [u32], n: usize) -> u32

@@ -2,14 +2,15 @@
 ghost use mathlib.Core.Path.{_≡_};
 ghost use Prim.Native.Nat.{ℕ, _+_, _-_, _*_, _≤_, _<_};
 ghost use lib.ListN.{length, getD};
-ghost use Rattle.memory.specs.Lists.{occurs};
-ghost use Rattle.memory.specs.Limits.{maxFrameHeight};
-ghost use Rattle.sorting.specs.Units.{median};
-ghost use Rattle.grouping.specs.Readings.{twentyOf};
-ghost use Rattle.grouping.specs.Pitches.{centreAt, blockAt, pitchesBelow, walkedPitches, lastCentre, PitchAdded, BlockedLines};
+ghost use Rattle.memory.specs.rules.Lists.{occurs};
+ghost use Rattle.memory.specs.rules.Limits.{maxFrameHeight};
+ghost use Rattle.sorting.specs.rules.Units.{median};
+ghost use Rattle.grouping.specs.rules.Readings.{twentyOf};
+ghost use Rattle.grouping.specs.rules.HeldLines.{centreAt, blockAt, pitchesBelow};
+ghost use Rattle.grouping.specs.stages.Pitches.{walkedPitches, lastCentre, PitchAdded, BlockedLines};
 use crate::counts::clear;
-use crate::numbers::LINE_WORDS;
 use memory::wide;
+use smoothing::LINE_WORDS;
 use sorting::median_of_counts;
 
 // The twenty-line measure of n lines in `blocks` blocks: ten times the median pitch.

@@ -4,13 +4,16 @@ ghost use mathlib.Core.List.{List, _∷_, []};
 ghost use Prim.Native.Nat.{ℕ, _+_, _*_, _≤_, _<_};
 ghost use lib.ListN.{length, getD};
 ghost use lib.Seq.{sets};
-ghost use Rattle.memory.specs.Records.{encoded};
-ghost use Rattle.labelling.specs.Classes.{firstOf};
-ghost use Rattle.grouping.specs.Blocks.{blockNumber, blocksOf};
-ghost use Rattle.grouping.specs.Numbering.{blockBox, blockFields, Grown};
-ghost use Rattle.grouping.specs.Words.{Lines, lineWords, blockWords, lineBoxes, blockRecord, putAt};
+ghost use Rattle.memory.specs.rules.Records.{encoded};
+ghost use Rattle.union_find.specs.rules.Classes.{firstOf};
+ghost use Rattle.grouping.specs.rules.Blocks.{blockNumber, blocksOf};
+ghost use Rattle.grouping.specs.stages.Numbering.{blockBox, blockFields, Grown};
+ghost use Rattle.grouping.specs.stages.LineBoxes.{Lines, lineBoxes};
+ghost use Rattle.smoothing.specs.rules.LineRecords.{lineWords};
+ghost use Rattle.grouping.specs.rules.BlockRecords.{blockWords, blockRecord};
+ghost use Rattle.memory.specs.rules.Words.{putAt};
 use crate::block::line_box;
-use labelling::Rect;
+use memory::Rect;
 use memory::wide;
 
 // The words of a block.

@@ -3,10 +3,10 @@ ghost use mathlib.Core.Path.{_≡_};
 ghost use Prim.Native.Nat.{_-_, _<_, min, max};
 ghost use lib.ListN.{getD, length};
 ghost use lib.Dec.{ltb};
-ghost use Rattle.levelling.specs.Frames.{rowOf, columnOf};
-ghost use Rattle.grouping.specs.Dots.{frameOf, Sheared, RowSpan, ColumnSpan, isShort, Turn};
+ghost use Rattle.levelling.specs.rules.Frames.{rowOf, columnOf};
+ghost use Rattle.grouping.specs.stages.Dots.{frameBy, Sheared, RowSpan, ColumnSpan, isShort, Turn};
 use crate::dots::Sides;
-use labelling::Rect;
+use memory::Rect;
 use memory::larger;
 use memory::smaller;
 use memory::wide;
@@ -20,8 +20,8 @@ pub struct Span {
 // The page rows, from the first to the last, that can hold a dot of the box. Shears run one way, so over a range each is greatest and
 // least at the range's ends.
 pub fn row_span(shear: &[u32], shear_x: &[u32], sides: Sides, r: Rect) -> Span
-    requires { ⌜ Sheared (frameOf (sides .«page_w») (sides .«page_h») (sides .w) (sides .h) (now shear) (now «shear_x»)) ⌝ }
-    ensures { λ s. ⌜ RowSpan (frameOf (sides .«page_w») (sides .«page_h») (sides .w) (sides .h) (now (shear .entry)) (now («shear_x» .entry))) r (s .from) (s .to) ⌝ }
+    requires { ⌜ Sheared (frameBy sides (now shear) (now «shear_x»)) ⌝ }
+    ensures { λ s. ⌜ RowSpan (frameBy sides (now (shear .entry)) (now («shear_x» .entry))) r (s .from) (s .to) ⌝ }
 {
     let top = smaller(r.y0 as usize, sides.h - 1);
     let bottom = smaller(r.y1 as usize, sides.h - 1);
@@ -63,8 +63,8 @@ fn less(a: usize, b: usize) -> usize
 
 // The columns of page row y, from the first up to the second, that can hold a dot of the box.
 pub fn column_span(shear: &[u32], shear_x: &[u32], sides: Sides, r: Rect, y: usize) -> Span
-    requires { ⌜ Sheared (frameOf (sides .«page_w») (sides .«page_h») (sides .w) (sides .h) (now shear) (now «shear_x»)) × (y < sides .«page_h») ⌝ }
-    ensures { λ s. ⌜ ColumnSpan (frameOf (sides .«page_w») (sides .«page_h») (sides .w) (sides .h) (now (shear .entry)) (now («shear_x» .entry))) r y (s .from) (s .to) ⌝ }
+    requires { ⌜ Sheared (frameBy sides (now shear) (now «shear_x»)) × (y < sides .«page_h») ⌝ }
+    ensures { λ s. ⌜ ColumnSpan (frameBy sides (now (shear .entry)) (now («shear_x» .entry))) r y (s .from) (s .to) ⌝ }
 {
     let last = sides.page_w - 1;
     let falls = wide(shear[last]) < wide(shear[0]);
@@ -84,8 +84,8 @@ fn turn(
     start: bool,
     y: usize,
 ) -> usize
-    requires { ⌜ Sheared (frameOf (sides .«page_w») (sides .«page_h») (sides .w) (sides .h) (now shear) (now «shear_x»)) × (falls ≡ ltb (getD (now shear) (sides .«page_w» - 1) 0) (getD (now shear) 0 0)) × (y < sides .«page_h») ⌝ }
-    ensures { λ n. ⌜ Turn (frameOf (sides .«page_w») (sides .«page_h») (sides .w) (sides .h) (now (shear .entry)) (now («shear_x» .entry))) r falls start y n ⌝ }
+    requires { ⌜ Sheared (frameBy sides (now shear) (now «shear_x»)) × (falls ≡ ltb (getD (now shear) (sides .«page_w» - 1) 0) (getD (now shear) 0 0)) × (y < sides .«page_h») ⌝ }
+    ensures { λ n. ⌜ Turn (frameBy sides (now (shear .entry)) (now («shear_x» .entry))) r falls start y n ⌝ }
 {
     let mut low = 0;
     let mut high = sides.page_w;
@@ -111,8 +111,8 @@ fn is_short(
     c: usize,
     y: usize,
 ) -> bool
-    requires { ⌜ Sheared (frameOf (sides .«page_w») (sides .«page_h») (sides .w) (sides .h) (now shear) (now «shear_x»)) × (c < sides .«page_w») × (y < sides .«page_h») ⌝ }
-    ensures { λ t. ⌜ t ≡ isShort r falls start (columnOf (frameOf (sides .«page_w») (sides .«page_h») (sides .w) (sides .h) (now (shear .entry)) (now («shear_x» .entry))) c y) (rowOf (frameOf (sides .«page_w») (sides .«page_h») (sides .w) (sides .h) (now (shear .entry)) (now («shear_x» .entry))) c y) ⌝ }
+    requires { ⌜ Sheared (frameBy sides (now shear) (now «shear_x»)) × (c < sides .«page_w») × (y < sides .«page_h») ⌝ }
+    ensures { λ t. ⌜ t ≡ isShort r falls start (columnOf (frameBy sides (now (shear .entry)) (now («shear_x» .entry))) c y) (rowOf (frameBy sides (now (shear .entry)) (now («shear_x» .entry))) c y) ⌝ }
 {
     let row = y + wide(shear[c]);
     let column = c + wide(shear_x[row]);

@@ -2,9 +2,10 @@
 ghost use mathlib.Core.Path.{_≡_};
 ghost use Prim.Native.Nat.{ℕ, _+_, _*_, _≤_, _<_};
 ghost use lib.ListN.{length, getD};
-ghost use Rattle.sorting.specs.Units.{median};
-ghost use Rattle.grouping.specs.Readings.{textShare, summarized};
-ghost use Rattle.grouping.specs.Words.{lineWords, fields};
+ghost use Rattle.sorting.specs.rules.Units.{median};
+ghost use Rattle.grouping.specs.rules.Readings.{textShare, summarized};
+ghost use Rattle.smoothing.specs.rules.LineRecords.{lineWords};
+ghost use Rattle.memory.specs.rules.Records.{fields};
 use crate::counts::count_field;
 use sorting::median_of_counts;
 

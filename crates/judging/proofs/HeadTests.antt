@@ -4,7 +4,7 @@ use mathlib.Core.Bool.{Bool, false, not}
 use Prim.Native.Nat.{ℕ, _-_, _≤_, _<_}
 use borrow.Author.Tests.{lt-ltb, le-ltb}
 use lib.Dec.{ltb}
-use Rattle.memory.specs.Refusals.{refuseIf}
+use Rattle.memory.specs.rules.Refusals.{refuseIf}
 use Rattle.judging.specs.rules.Header.{Held}
 use Rattle.judging.specs.rules.Spoiled.{stateSpoiled, limitsOk}
 use Rattle.judging.specs.rules.Refusals.{headRefusal}

@@ -8,12 +8,12 @@ use borrow.Author.Tests.{lt-ltb, le-ltb, ltb-false, not-false}
 use lib.Dec.{eqb, ltb}
 use lib.Ieee.{Float}
 use lib.ListN.{length, getD}
-use Rattle.memory.specs.Floats.{floatAt}
-use Rattle.memory.specs.Limits.{storeWords}
-use Rattle.memory.specs.Refusals.{refuseIf}
-use Rattle.memory.specs.Words.{wordAt}
+use Rattle.memory.specs.rules.Floats.{floatAt}
+use Rattle.memory.specs.rules.Limits.{storeWords}
+use Rattle.memory.specs.rules.Refusals.{refuseIf}
+use Rattle.memory.specs.rules.Words.{wordAt}
 use Rattle.memory.proofs.RefusalLaws.{refusal-passed}
-use Rattle.levelling.specs.Frames.{frame}
+use Rattle.levelling.specs.rules.Frames.{frame}
 use Rattle.judging.specs.rules.Header.{held, frameHeld, storeHeld}
 use Rattle.judging.specs.rules.Spoiled.{limitsOk, stateSpoiled, frameSpoiled}
 use Rattle.judging.specs.rules.Refusals.{headRefusal, heldRefusal, levelReadingRefusal}

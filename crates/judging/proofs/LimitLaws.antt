@@ -9,12 +9,12 @@ use lib.Dec.{T, ltb, leb}
 use lib.IntN.{pos}
 use lib.Ieee.{Float, le, fin}
 use lib.ListN.{length, getD}
-use Rattle.memory.specs.Floats.{floatAt}
-use Rattle.memory.specs.Limits.{storeWords, maxCapacity}
-use Rattle.memory.specs.Refusals.{refuseIf}
+use Rattle.memory.specs.rules.Floats.{floatAt}
+use Rattle.memory.specs.rules.Limits.{storeWords, maxCapacity}
+use Rattle.memory.specs.rules.Refusals.{refuseIf}
 use Rattle.memory.proofs.BoolLaws.{and-left, and-right}
-use Rattle.rounding.specs.Drift.{WithinOne}
-use Rattle.levelling.specs.Frames.{Frame, PageSides, frame}
+use Rattle.rounding.specs.rules.Drift.{WithinOne}
+use Rattle.levelling.specs.rules.Frames.{Frame, PageSides, frame}
 use Rattle.judging.specs.rules.Header.{Held, held, frameHeld, storeHeld}
 use Rattle.judging.specs.rules.Spoiled.{sideOk, capacityOk, skewOk, slopeOk, limitsOk}
 

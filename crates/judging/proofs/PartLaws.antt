@@ -5,8 +5,7 @@ use Prim.Native.Nat.{ℕ, _+_, _-_, _≤_, _<_}
 use native.Mathlib.Omega.{arith}
 use lib.ListN.{length, getD, take, drop, length-append, length-drop, take-append-drop}
 use lib.Seq.{take-append-le, drop-append-le, take-at, drop-at, drop-drop, length-take-le, getD-take, getD-drop}
-use Rattle.memory.specs.Words.{over}
-use Rattle.grouping.specs.Words.{putAt}
+use Rattle.memory.specs.rules.Words.{over, putAt}
 use Rattle.judging.specs.rules.Header.{part}
 
 pub length-part : (a n : ℕ) (s : List ℕ) → a + n ≤ length s → length (part a n s) ≡ n

@@ -13,17 +13,17 @@ use lib.Ieee.{Float, nan, inf, fin, lt, le}
 use lib.Ieee.Scale.{finite}
 use lib.ListN.{length, getD, take}
 use lib.Seq.{getD-take, length-take-le}
-use Rattle.memory.specs.Lists.{table, greatest}
+use Rattle.memory.specs.rules.Lists.{table, greatest}
 use Rattle.memory.proofs.BoolLaws.{and-left, and-right}
-use Rattle.params.specs.Valid as Valid
-use Rattle.params.specs.Valid.{one, tenThousand, lengthOk}
+use Rattle.params.specs.rules.Valid as Valid
+use Rattle.params.specs.rules.Valid.{one, tenThousand, lengthOk}
 use Rattle.memory.proofs.GreatestLaws.{greatest-more}
-use Rattle.memory.specs.Masks.{isMask}
+use Rattle.memory.specs.rules.Masks.{isMask}
 use Rattle.memory.proofs.MaskLaws.{mask-by-greatest}
 use Rattle.judging.specs.rules.Header.{part}
-use Rattle.memory.specs.Floats.{floatAt}
-use Rattle.memory.specs.Limits.{maxLines, noLine}
-use Rattle.segmenting.specs.Results.{rulesAt, graphicsAt, glyphRecordsAt, linesAt, blocksAt}
+use Rattle.memory.specs.rules.Floats.{floatAt}
+use Rattle.memory.specs.rules.Limits.{maxLines, noLine}
+use Rattle.segmenting.specs.rules.Results.{rulesAt, graphicsAt, glyphRecordsAt, linesAt, blocksAt}
 use Rattle.judging.specs.rules.Views.{ruleCount, graphicCount, glyphCount, lineCount, blockCount}
 use Rattle.judging.specs.rules.Spoiled.{every, boxOk, boxesOk, fieldsOk, kindOk, kindsOk, unitOk, countsOk}
 use Rattle.judging.specs.stages.Judged.{listsOk, wordsOk}

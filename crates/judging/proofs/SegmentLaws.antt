@@ -9,18 +9,18 @@ use borrow.Author.Tests.{le-ltb, ltb-false, not-false}
 use lib.Dec.{eqb, ltb}
 use lib.Ieee.{Float}
 use lib.ListN.{length, getD}
-use Rattle.memory.specs.Floats.{floatAt}
-use Rattle.memory.specs.Limits.{storeWords, scratchWords, maxFrameWidth, maxFrameHeight}
-use Rattle.memory.specs.Refusals.{refuseIf}
-use Rattle.memory.specs.Words.{wordAt}
+use Rattle.memory.specs.rules.Floats.{floatAt}
+use Rattle.memory.specs.rules.Limits.{storeWords, scratchWords, maxFrameWidth, maxFrameHeight}
+use Rattle.memory.specs.rules.Refusals.{refuseIf}
+use Rattle.memory.specs.rules.Words.{wordAt}
 use Rattle.memory.proofs.RefusalLaws.{refusal-passed, Passes, passes-none, passes-if}
 use Rattle.rounding.proofs.Tests.{yes}
-use Rattle.params.specs.Facts.{ValidSheet}
-use Rattle.params.specs.Valid.{valid}
+use Rattle.params.specs.rules.Facts.{ValidSheet}
+use Rattle.params.specs.rules.Valid.{valid}
 use Rattle.params.specs.declared.LayoutParams.{LayoutParams}
 use Rattle.params.proofs.SheetLaws.{valid-gives}
-use Rattle.levelling.specs.Frames.{Frame, frame}
-use Rattle.segmenting.specs.Answers as Answers
+use Rattle.levelling.specs.rules.Frames.{Frame, frame}
+use Rattle.segmenting.specs.rules.Answers as Answers
 use Rattle.judging.specs.rules.Header.{Held, held, frameHeld, dotsHeld, storeHeld, scratchHeld}
 use Rattle.judging.specs.rules.Spoiled.{limitsOk, stateSpoiled, frameSpoiled, inkSpoiled}
 use Rattle.judging.specs.rules.Refusals.{headRefusal, heldRefusal, segmentRefusal}

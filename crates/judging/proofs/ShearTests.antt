@@ -5,19 +5,18 @@ use mathlib.Core.List.{List, _++_}
 use Prim.Native.Nat.{ℕ, _+_, _-_, _^_, _≤_, _<_}
 use native.Mathlib.Omega.{arith}
 use lib.Dec.{eqb}
-use lib.Ieee.{Float, neg}
+use lib.Ieee.{Float}
 use lib.ListN.{length, getD, take, drop, length-drop}
 use lib.Seq.{length-take-le, take-take, take-add, drop-drop}
-use Rattle.memory.specs.Lists.{table}
+use Rattle.memory.specs.rules.Lists.{table}
 use Rattle.memory.proofs.WordLaws.{same-append}
 use Rattle.memory.proofs.PartLaws.{tail-part}
-use Rattle.rounding.specs.Drift.{WithinOne, drift}
-use Rattle.levelling.specs.Shears.{shearOf}
-use Rattle.levelling.specs.Frames.{Frame, PageSides, frame}
+use Rattle.rounding.specs.rules.Drift.{WithinOne, drift, driftX}
+use Rattle.levelling.specs.rules.Shears.{shearOf}
+use Rattle.levelling.specs.rules.Frames.{Frame, PageSides, frame}
 use Rattle.levelling.proofs.FrameLaws.{frame-rows, length-shears, shear-is, shear-x-is}
-use Rattle.levelling.proofs.SlopeLaws.{within-negated}
 use Rattle.judging.specs.rules.Header.{held, frameHeld, part, headerWords}
-use Rattle.memory.specs.Words.{sameWords}
+use Rattle.memory.specs.rules.Words.{sameWords}
 use Rattle.judging.specs.rules.Spoiled.{frameDiffers, frameSpoiled}
 
 -- the first n words of the words from `at` on
@@ -38,9 +37,6 @@ module _ (s : List ℕ) (pw ph : ℕ) (slope : Float) (sides : PageSides pw ph) 
   pub columns-asked : (0 < h) × (h ≤ 2 ^ 15) × (h ≤ length (take (length s - (64 + pw)) (drop (64 + pw) s)))
   columns-asked = (few-rows .0, few-rows .1, let e = ap length (tail-part (64 + pw) s) ∙ length-drop (64 + pw) s in omega arith)
 
-  pub negated : WithinOne (neg slope)
-  negated = within-negated slope W
-
   frame-is-held : frameHeld (held s) ≡ frame pw ph slope
   frame-is-held = λ i. frame (sym epw i) (sym eph i) (sym es i)
 
@@ -54,14 +50,14 @@ module _ (s : List ℕ) (pw ph : ℕ) (slope : Float) (sides : PageSides pw ph) 
       ∙ same-append (take pw (drop 64 s)) (take h (drop (64 + pw) s)) (frame pw ph slope .shear) (frame pw ph slope .shear-x) (k ∙ sym (n .0))
 
   pub differs-is : (rows columns : Bool) → rows ≡ sameWords (take pw (take (length s - 64) (drop 64 s))) (shearOf (table (drift slope) pw))
-      → columns ≡ sameWords (take h (take (length s - (64 + pw)) (drop (64 + pw) s))) (shearOf (table (drift (neg slope)) h))
+      → columns ≡ sameWords (take h (take (length s - (64 + pw)) (drop (64 + pw) s))) (shearOf (table (driftX slope) h))
       → not (eqb (getD s 3 0) w && eqb (getD s 4 0) h && (rows && columns)) ≡ frameSpoiled s
   unfolding frameSpoiled frameDiffers held
   differs-is rows columns er ec =
       let a : rows ≡ sameWords (take pw (drop 64 s)) (frame pw ph slope .shear) =
       er ∙ (λ i. sameWords (behind-words s 64 pw (omega arith) i) (sym (shear-is pw ph slope sides W) i)) in
       let b : columns ≡ sameWords (take h (drop (64 + pw) s)) (frame pw ph slope .shear-x) =
-      ec ∙ ((λ i. sameWords (behind-words s (64 + pw) h (omega arith) i) (shearOf (table (drift (neg slope)) (eh i)))) ∙ ap (sameWords (take h (drop (64 + pw) s))) (sym (shear-x-is pw ph slope sides W))) in
+      ec ∙ ((λ i. sameWords (behind-words s (64 + pw) h (omega arith) i) (shearOf (table (driftX slope) (eh i)))) ∙ ap (sameWords (take h (drop (64 + pw) s))) (sym (shear-x-is pw ph slope sides W))) in
       (λ i. not (eqb (getD s 3 0) (ew i) && eqb (getD s 4 0) (eh i) && (a i && b i)))
       ∙ ((λ i. not (eqb (getD s 3 0) (frame pw ph slope .w) && eqb (getD s 4 0) (frame pw ph slope .h) && sym parts-same i))
       ∙ ((λ i. not (eqb (getD s 3 0) (frame pw ph slope .w) && eqb (getD s 4 0) (frame pw ph slope .h) && sameWords (part headerWords (epw i + eh i) s) (frame pw ph slope .shear ++ frame pw ph slope .shear-x)))

@@ -7,14 +7,14 @@ use borrow.Author.Tests.{ltb-false, not-false}
 use lib.Dec.{eqb, ltb}
 use lib.Ieee.{Float}
 use lib.ListN.{length, getD, take}
-use Rattle.memory.specs.Floats.{floatAt}
-use Rattle.memory.specs.Limits.{storeWords}
-use Rattle.memory.specs.Refusals.{refuseIf}
-use Rattle.memory.specs.Words.{wordAt}
+use Rattle.memory.specs.rules.Floats.{floatAt}
+use Rattle.memory.specs.rules.Limits.{storeWords}
+use Rattle.memory.specs.rules.Refusals.{refuseIf}
+use Rattle.memory.specs.rules.Words.{wordAt}
 use Rattle.memory.proofs.RefusalLaws.{refusal-passed, Passes, passes-none, passes-if}
-use Rattle.levelling.specs.Frames.{Frame, frame}
-use Rattle.memory.specs.Masks.{isMask}
-use Rattle.segmenting.specs.Figures.{figuresLength}
+use Rattle.levelling.specs.rules.Frames.{Frame, frame}
+use Rattle.memory.specs.rules.Masks.{isMask}
+use Rattle.segmenting.specs.rules.Figures.{figuresLength}
 use Rattle.judging.specs.rules.Header.{Held, held, frameHeld, storeHeld, dotsHeld, listsAt, part, figuresAt}
 use Rattle.judging.specs.rules.Views.{viewOf, viewWith}
 use Rattle.judging.specs.rules.Spoiled.{limitsOk, frameSpoiled, inkSpoiled, kindsOk, resultsOk, unitOk, countsOk, inkHeld, resultsSpoiled}

@@ -4,7 +4,7 @@ ghost use mathlib.Core.Path.{_≡_};
 ghost use Prim.Native.Nat.{_≤_, _<_};
 ghost use lib.Dec.{eqb};
 ghost use lib.ListN.{length};
-ghost use Rattle.memory.specs.Limits.{maxFrameWidth, maxFrameHeight};
+ghost use Rattle.memory.specs.rules.Limits.{maxFrameWidth, maxFrameHeight};
 ghost use Rattle.judging.specs.rules.Header.{held, frameHeld};
 ghost use Rattle.judging.specs.rules.Spoiled.{limitsOk};
 ghost use Rattle.judging.specs.rules.Refusals.{headRefusal};

@@ -4,9 +4,10 @@ use mathlib.Core.List.{[]}
 use Prim.Native.Nat.{ℕ, zero, suc, _+_, _-_, _*_, _/_, _%_, _≤_, _<_, min, max}
 use native.Mathlib.Nat.{le-trans, suc-mul, mul-suc, mul-add, mul-le-mul-left, mul-le-mul-right}
 use native.Mathlib.Omega.{arith}
-use Rattle.labelling.specs.Components.{absorbed, columnSum, absorbedRun}
+use Rattle.labelling.specs.rules.Components.{absorbed}
+use Rattle.labelling.specs.stages.Absorbing.{columnSum, absorbedRun}
 use Rattle.labelling.specs.declared.component.Component.{Component}
-use Rattle.labelling.specs.InkRuns.{absorbDots}
+use Rattle.labelling.specs.stages.InkRuns.{absorbDots}
 use Rattle.labelling.proofs.TouchLaws.{row-same}
 
 pub columnSum-closed : (x d : ℕ) → 2 * columnSum x d + d ≡ 2 * (d * x) + d * d

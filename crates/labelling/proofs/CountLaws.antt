@@ -5,7 +5,7 @@ use Prim.Native.Nat.{ℕ, zero, suc, _+_, _≤_, _<_}
 use native.Mathlib.Nat.{le-refl, not-suc-le-zero}
 use native.Mathlib.Decide.{ℕ-discrete, decLt}
 use native.Mathlib.Omega.{arith}
-use Rattle.memory.specs.Lists.{countIf}
+use Rattle.memory.specs.rules.Lists.{countIf}
 
 pub count-up : (p : ℕ → Bool) (a b : ℕ) → a ≤ b → countIf p a ≤ countIf p b
 unfolding countIf

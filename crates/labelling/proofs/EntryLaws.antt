@@ -9,11 +9,12 @@ use borrow.Author.Tests.{ltb-false, eqb-true, eqb-false, not-false, ne-eqb}
 use lib.ListN.{length, take, drop, length-append, length-drop}
 use lib.Seq.{drop-at, length-take-le}
 use lib.Dec.{eqb, ltb}
-use Rattle.memory.specs.Refusals.{refuseIf}
-use Rattle.memory.specs.Limits.{maxMaskSide, maxMaskDots, maxCapacity, componentWords, scratchWords}
+use Rattle.memory.specs.rules.Refusals.{refuseIf}
+use Rattle.memory.specs.rules.Limits.{maxMaskSide, maxMaskDots, maxCapacity, componentWords, scratchWords}
 use Rattle.memory.proofs.RefusalLaws.{refusal-passed, Passes, passes-none, passes-if}
-use Rattle.labelling.specs.Labels.{Labelling, labelling}
-use Rattle.labelling.specs.Answer.{answerOf, sideRefusal, lentRefusal, manyRefusal, refusal, left, labelsLeft, componentsLeft, labelled, Workable, worked}
+use Rattle.labelling.specs.rules.Labels.{Labelling, labelling}
+use Rattle.labelling.specs.rules.Answer.{answerOf, sideRefusal, lentRefusal, manyRefusal, refusal, labelOutcome, labelsLeft, componentsLeft, labelMask}
+use Rattle.labelling.specs.stages.Working.{Workable, worked}
 use Rattle.labelling.specs.declared.entry.LabelAnswer.{LabelAnswer}
 use Rattle.labelling.specs.declared.entry.LabelAnswer.the-variants.{Refused}
 
@@ -103,7 +104,7 @@ lent-judged dots mask P labels components scratch a b c d e f ea eb ec ed ee ef 
 -- What a call leaves
 
 refused : (n k : ℕ) (L : Labelling) (labels components : List ℕ) (len : ℕ) (beyond : List ℕ) → k ≡ n → (n ≡ 0 → ⊥)
-    → left (Refused n) labels components len beyond ≡ left (answerOf k (length (L .components))) (labelsLeft k L labels) (componentsLeft k L components) len beyond
+    → labelOutcome (Refused n) labels components len beyond ≡ labelOutcome (answerOf k (length (L .components))) (labelsLeft k L labels) (componentsLeft k L components) len beyond
 unfolding answerOf labelsLeft componentsLeft
 refused n k L labels components len beyond e ne = rw (e, ne-eqb n 0 ne) refl
 
@@ -111,14 +112,14 @@ module _ (w h : ℕ) (m : List ℕ) (P : ℕ) (labels components scratch : List 
   abbrev rest-by-lent : ℕ
   rest-by-lent = lentRefusal (w * h) (length m) P (length labels) (length components) (length scratch) (manyRefusal (length (labelling w h m .components)) P)
 
-  pub refused-sides : (n : ℕ) → n ≡ sideRefusal w h 0 → (n ≡ 0 → ⊥) → left (Refused n) labels components (length scratch) (drop (scratchWords (w * h) P) scratch) ≡ labelled w h m P labels components scratch
+  pub refused-sides : (n : ℕ) → n ≡ sideRefusal w h 0 → (n ≡ 0 → ⊥) → labelOutcome (Refused n) labels components (length scratch) (drop (scratchWords (w * h) P) scratch) ≡ labelMask w h m P labels components scratch
   refused-sides n e ne =
       refused n (refusal w h m P (length labels) (length components) (length scratch)) (labelling w h m) labels components (length scratch) (drop (scratchWords (w * h) P) scratch)
       (sides-pass w h .stop (λ z. ne (e ∙ z)) rest-by-lent ∙ sym e)
       ne
 
   pub refused-lent : (n : ℕ) → sideRefusal w h 0 ≡ 0 → n ≡ lentRefusal (w * h) (length m) P (length labels) (length components) (length scratch) 0 → (n ≡ 0 → ⊥)
-      → left (Refused n) labels components (length scratch) (drop (scratchWords (w * h) P) scratch) ≡ labelled w h m P labels components scratch
+      → labelOutcome (Refused n) labels components (length scratch) (drop (scratchWords (w * h) P) scratch) ≡ labelMask w h m P labels components scratch
   refused-lent n s e ne =
       refused n (refusal w h m P (length labels) (length components) (length scratch)) (labelling w h m) labels components (length scratch) (drop (scratchWords (w * h) P) scratch)
       (sides-pass w h .pass s rest-by-lent
@@ -147,7 +148,7 @@ module _ (w h : ℕ) (m : List ℕ) (P : ℕ) (labels components scratch : List 
         ∙ (ap (λ z. lentRefusal (w * z) (length m) Q (length labels) (length components) (length scratch) 0) eH
         ∙ ap (λ z. lentRefusal (w * h) (length m) z (length labels) (length components) (length scratch) 0) eQ))
 
-    pub entry-refused : (lent ≡ 0 → ⊥) → left (Refused lent) labels components (length scratch) (drop (scratchWords (w * h) P) scratch) ≡ labelled w h m P labels components scratch
+    pub entry-refused : (lent ≡ 0 → ⊥) → labelOutcome (Refused lent) labels components (length scratch) (drop (scratchWords (w * h) P) scratch) ≡ labelMask w h m P labels components scratch
     entry-refused ne = refused-lent w h m P labels components scratch lent (sym es ∙ gs) lent-is ne
 
     module _ (gl : lent ≡ 0) where
@@ -177,8 +178,8 @@ module _ (w h : ℕ) (m : List ℕ) (P : ℕ) (labels components scratch : List 
 
       pub entry-done : {r : LabelAnswer} {labels' components' : List ℕ} (part : List ℕ) → worked r labels' components' W H m Q labels components
           → length part ≡ length (take (4 * (W * H) + 16 * Q + 64) scratch)
-          → left r labels' components' (length (part ++ drop (4 * (W * H) + 16 * Q + 64) scratch)) (drop (scratchWords (w * h) P) (part ++ drop (4 * (W * H) + 16 * Q + 64) scratch))
-          ≡ labelled w h m P labels components scratch
+          → labelOutcome r labels' components' (length (part ++ drop (4 * (W * H) + 16 * Q + 64) scratch)) (drop (scratchWords (w * h) P) (part ++ drop (4 * (W * H) + 16 * Q + 64) scratch))
+          ≡ labelMask w h m P labels components scratch
       entry-done {r} {labels'} {components'} part D e =
           let n = 4 * (W * H) + 16 * Q + 64 in
           let l : length part ≡ n = e ∙ length-take-le n scratch entry-words in
@@ -197,4 +198,4 @@ module _ (w h : ℕ) (m : List ℕ) (P : ℕ) (labels components scratch : List 
           let f : length (part ++ drop n scratch) ≡ length scratch = length-append part (drop n scratch) ∙ (let q = length-drop n scratch in let g = entry-words in omega arith) in
           let d : drop (scratchWords (w * h) P) (part ++ drop n scratch) ≡ drop (scratchWords (w * h) P) scratch =
           ap (λ z. drop z (part ++ drop n scratch)) (sym n') ∙ (drop-at part (drop n scratch) n l ∙ ap (λ z. drop z scratch) n') in
-          λ i. left (a i) (b i) (c i) (f i) (d i)
+          λ i. labelOutcome (a i) (b i) (c i) (f i) (d i)

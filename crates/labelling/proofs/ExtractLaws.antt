@@ -11,10 +11,10 @@ use borrow.Author.Tests.{eq-eqb, ne-eqb, lt-ltb, le-ltb}
 use lib.ListN.{getD, length, set, take, drop, length-set, length-map, length-append, length-drop}
 use lib.Seq.{getD-take, getD-drop, length-take-le, drop-drop, drop-set-lt}
 use lib.Dec.{eqb, ltb}
-use Rattle.memory.specs.Lists.{countIf}
-use Rattle.memory.specs.Masks.{isInk}
-use Rattle.labelling.specs.InkRuns.{inkBefore, differ, appendIf, turns, runCount}
-use Rattle.labelling.specs.Extraction.{rowTurns, RowRoom, RowScan, ScanRoom, Scanned, RowExtracted, PlaneRoom, Extracted}
+use Rattle.memory.specs.rules.Lists.{countIf}
+use Rattle.memory.specs.rules.Masks.{isInk}
+use Rattle.labelling.specs.stages.InkRuns.{inkBefore, differ, appendIf, turns, runCount}
+use Rattle.labelling.specs.stages.Extraction.{rowTurns, RowRoom, RowScan, ScanRoom, Scanned, RowExtracted, PlaneRoom, Extracted}
 use Rattle.labelling.proofs.CountLaws.{count-zero, count-full}
 use Rattle.labelling.proofs.TurnLaws.{bit, scanned}
 use Rattle.labelling.proofs.ScanLaws.{turns-still, append-step, turns-inner, turns-last, inkBefore-inner, turns-room, turns-fit}

@@ -4,14 +4,6 @@ pub mod CountLaws
 pub mod ExtremeLaws
 -- a range of numbers, with one more
 pub mod RangeLaws
--- `firsts` names each class by its first, and nothing else does
-pub mod FirstLaws
--- union-find over any relation, number by number
-pub mod LinkLaws
--- the parents meanwhile
-pub mod ParentLaws
--- path halving keeps the roots
-pub mod HalvingLaws
 -- dots that touch, and runs that do
 pub mod TouchLaws
 -- from a naming of the runs to the labels of the dots
@@ -62,3 +54,5 @@ pub mod EntryLaws
 pub mod Theorems
 -- the components of a mask in scratch: what runs, numbers and sizes tell
 pub mod SizeLaws
+-- runs of small masks, by computation
+pub mod RunExamples

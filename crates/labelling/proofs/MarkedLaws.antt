@@ -11,15 +11,15 @@ use lib.Seq.{getD-take, getD-drop, length-take-le, take-take, drop-drop, take-se
 use lib.Dec.{eqb, ltb}
 use mir.Val.{boolByte, Fits}
 use mir.Syntax.{w64}
-use Rattle.memory.specs.Lists.{countIf}
-use Rattle.memory.specs.Limits.{maxMaskDots}
+use Rattle.memory.specs.rules.Lists.{countIf}
+use Rattle.memory.specs.rules.Limits.{maxMaskDots}
 use Rattle.memory.proofs.TableLaws.{length-table, getD-table, table-ext}
 use Rattle.memory.proofs.PartLaws.{part-is-table}
 use Rattle.memory.proofs.CountLaws.{count-none}
-use Rattle.memory.specs.Masks.{isInk}
-use Rattle.labelling.specs.InkRuns.{differ, turns}
-use Rattle.labelling.specs.Extraction.{RowScan, ScanRoom, Scanned, TurnsTold, ToldRoom, ToldWritten, RowRoom, RowExtracted, PlaneRoom}
-use Rattle.labelling.specs.Marked.{passes, passing, rowPassing, MarkedScanRoom, MarkedScanned, MarkedRowRoom, MarkedRowLeft, MarkedRoom, MarkedLeft}
+use Rattle.memory.specs.rules.Masks.{isInk}
+use Rattle.labelling.specs.stages.InkRuns.{differ, turns}
+use Rattle.labelling.specs.stages.Extraction.{RowScan, ScanRoom, Scanned, TurnsTold, ToldRoom, ToldWritten, RowRoom, RowExtracted, PlaneRoom}
+use Rattle.labelling.specs.stages.Marked.{passes, passing, rowPassing, MarkedScanRoom, MarkedScanned, MarkedRowRoom, MarkedRowLeft, MarkedRoom, MarkedLeft}
 use Rattle.labelling.specs.declared.marked.Test.{Test}
 use Rattle.labelling.specs.declared.marked.Test.the-variants.{First, Second, Neither}
 use Rattle.labelling.proofs.CountLaws.{count-zero}

@@ -4,7 +4,7 @@ use mathlib.Core.List.{List, [], _∷_}
 use Prim.Native.Nat.{ℕ, _+_, _/_, _%_, min, max}
 use native.Mathlib.Omega.{arith}
 use lib.ListN.{getD, length, set, length-set}
-use Rattle.labelling.specs.RecordWords.{lowered, raised, longAt, longAdded}
+use Rattle.labelling.specs.stages.RecordParts.{lowered, raised, longAt, longAdded}
 
 -- nine stores fill it
 pub nine-stores : (s : List ℕ) → length s ≡ 9 → (a b c d e f g h i : ℕ)

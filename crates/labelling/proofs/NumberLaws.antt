@@ -8,12 +8,12 @@ use native.Mathlib.Decide.{ℕ-discrete}
 use native.Mathlib.Omega.{arith}
 use lib.ListN.{getD, length}
 use lib.Seq.{getD-set-same, getD-set-other}
-use Rattle.memory.specs.Lists.{countIf}
-use Rattle.labelling.specs.Forests.{Forest}
-use Rattle.labelling.specs.InkRuns.{isRoot, componentNumber}
-use Rattle.labelling.specs.Numbering.{NumberedOne, Numbered}
+use Rattle.memory.specs.rules.Lists.{countIf}
+use Rattle.union_find.specs.stages.Forests.{Forest}
+use Rattle.labelling.specs.stages.InkRuns.{isRoot, componentNumber}
+use Rattle.labelling.specs.stages.Numbering.{NumberedOne, Numbered}
 use Rattle.labelling.proofs.CountLaws.{count-up}
-use Rattle.labelling.proofs.ParentLaws.{forest-root}
+use Rattle.union_find.proofs.ParentLaws.{forest-root}
 use Rattle.labelling.proofs.RunLabelLaws.{number-new, number-old, names-new, names-old}
 
 pub record NumberSweep (c capacity : ℕ) (p₀ p : List ℕ) (k count : ℕ) : Type 0 where

@@ -8,10 +8,10 @@ use native.Mathlib.Decide.{ℕ-discrete, decLt}
 use native.Mathlib.Omega.{arith}
 use lib.ListN.{getD, length, set, take, drop, length-set, length-append, length-drop, List·getD-append}
 use lib.Seq.{length-take-le, take-at, getD-take, getD-drop, getD-set-same, getD-set-other, getD-append-add, ext-getD}
-use Rattle.memory.specs.Lists.{table}
+use Rattle.memory.specs.rules.Lists.{table}
 use Rattle.memory.proofs.TableLaws.{length-table, getD-table}
-use Rattle.labelling.specs.InkRuns.{startOf, endOf}
-use Rattle.labelling.specs.Painting.{Front, numbered, Filled, Cleared, Paintable, OnRuns, OffRuns, Painted, PaintSweep}
+use Rattle.labelling.specs.stages.InkRuns.{startOf, endOf}
+use Rattle.labelling.specs.stages.Painting.{Front, numbered, Filled, Cleared, Paintable, OnRuns, OffRuns, Painted, PaintSweep}
 
 -- Turns and numbers that stand apart
 

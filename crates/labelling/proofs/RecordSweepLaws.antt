@@ -9,20 +9,22 @@ use native.Mathlib.Omega.{arith}
 use borrow.Author.Tests.{eq-eqb, ne-eqb, lt-ltb, le-ltb}
 use lib.ListN.{length, take, drop, length-append, length-drop}
 use lib.Dec.{eqb, ltb}
-use Rattle.memory.specs.Lists.{table, countIf}
-use Rattle.memory.specs.Words.{over}
-use Rattle.memory.specs.Records.{encoded}
-use Rattle.memory.specs.Limits.{maxMaskDots}
+use Rattle.memory.specs.rules.Lists.{table, countIf}
+use Rattle.memory.specs.rules.Words.{over}
+use Rattle.memory.specs.rules.Records.{encoded}
+use Rattle.memory.specs.rules.Limits.{maxMaskDots}
 use Rattle.memory.proofs.TableLaws.{length-table, getD-table, table-ext}
 use Rattle.memory.proofs.RecordLaws.{length-encoded}
-use Rattle.labelling.specs.Components.{noDots, columnSum, absorbedRun, absorbedSpan}
-use Rattle.labelling.specs.RecordWords.{recordWords, recordOf}
-use Rattle.labelling.specs.InkRuns.{startOf, endOf, isRoot, componentNumber, absorbDots, componentRuns}
-use Rattle.labelling.specs.Linking.{touching, firstRun}
-use Rattle.labelling.specs.Spans.{SpanOf}
-use Rattle.labelling.specs.Tallying.{heldRecord, tallied, Small, SpanTallyable, records, Tallyable, TallySweep}
+use Rattle.labelling.specs.rules.Components.{noDots}
+use Rattle.labelling.specs.stages.Absorbing.{columnSum, absorbedRun, absorbedSpan}
+use Rattle.labelling.specs.rules.RecordWords.{recordWords}
+use Rattle.labelling.specs.stages.RecordParts.{recordOf}
+use Rattle.labelling.specs.stages.InkRuns.{startOf, endOf, isRoot, componentNumber, absorbDots, componentRuns}
+use Rattle.labelling.specs.stages.Linking.{touching, firstRun}
+use Rattle.labelling.specs.stages.Spans.{SpanOf}
+use Rattle.labelling.specs.stages.Tallying.{heldRecord, tallied, Small, SpanTallyable, records, Tallyable, TallySweep}
 use Rattle.labelling.specs.declared.component.Component.{Component}
-use Rattle.labelling.proofs.FirstLaws.{firsts-right, along}
+use Rattle.union_find.proofs.FirstLaws.{firsts-right, along}
 use Rattle.labelling.proofs.RunLabelLaws.{number-new, names-new, names-old}
 use Rattle.labelling.proofs.CountLaws.{count-up, count-step}
 use Rattle.labelling.proofs.AbsorbLaws.{column-on, absorb-run}

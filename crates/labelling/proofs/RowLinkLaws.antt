@@ -7,12 +7,12 @@ use native.Mathlib.Decide.{decLt}
 use native.Mathlib.Omega.{arith}
 use lib.ListN.{getD, length, take, drop, length-map, List·getD-append}
 use lib.Seq.{getD-take, getD-append-add, length-take-le}
-use Rattle.labelling.specs.InkRuns.{turns, runCount, runOf, startOf, endOf, Runs, touchRuns}
-use Rattle.labelling.specs.Extraction.{rowTurns, RowExtracted, Extracted}
-use Rattle.labelling.specs.Linking.{touching, Linked, RowAhead, RowLinked, LinkRoom, LinkedRuns}
-use Rattle.labelling.proofs.FirstLaws.{getD-map}
-use Rattle.labelling.proofs.LinkLaws.{seen-wider}
-use Rattle.labelling.proofs.ParentLaws.{forest-same}
+use Rattle.labelling.specs.stages.InkRuns.{turns, runCount, runOf, startOf, endOf, Runs, touchRuns}
+use Rattle.labelling.specs.stages.Extraction.{rowTurns, RowExtracted, Extracted}
+use Rattle.labelling.specs.stages.Linking.{touching, Linked, RowAhead, RowLinked, LinkRoom, LinkedRuns}
+use Rattle.union_find.proofs.FirstLaws.{getD-map}
+use Rattle.union_find.proofs.LinkLaws.{seen-wider}
+use Rattle.union_find.proofs.ParentLaws.{forest-same}
 use Rattle.labelling.proofs.RunLabelLaws.{runs-low, turns-whole, runs-whole}
 use Rattle.labelling.proofs.ScanLaws.{turns-fit}
 use Rattle.labelling.proofs.ExtractLaws as scans

@@ -7,14 +7,14 @@ use native.Mathlib.Decide.{decLt}
 use native.Mathlib.Omega.{arith}
 use lib.ListN.{getD, length, take}
 use lib.Seq.{getD-take}
-use Rattle.memory.specs.Limits.{maxMaskSide, maxMaskDots}
-use Rattle.memory.specs.Words.{over}
-use Rattle.labelling.specs.Components.{columnSum}
-use Rattle.labelling.specs.InkRuns.{startOf, componentNumber}
-use Rattle.labelling.specs.Linking.{firstRun}
-use Rattle.labelling.specs.Spans.{SpanOf}
-use Rattle.labelling.specs.Tallying.{tallied, SpanTallyable, records, Tallyable, TallySweep}
-use Rattle.labelling.specs.Painting.{numbered, Filled, RunPainted, Paintable, Painted, PaintSweep, PaintsOn, SpanPaintable, SpanPainted, RowPaintable, RowPainted}
+use Rattle.memory.specs.rules.Limits.{maxMaskSide, maxMaskDots}
+use Rattle.memory.specs.rules.Words.{over}
+use Rattle.labelling.specs.stages.Absorbing.{columnSum}
+use Rattle.labelling.specs.stages.InkRuns.{startOf, componentNumber}
+use Rattle.labelling.specs.stages.Linking.{firstRun}
+use Rattle.labelling.specs.stages.Spans.{SpanOf}
+use Rattle.labelling.specs.stages.Tallying.{tallied, SpanTallyable, records, Tallyable, TallySweep}
+use Rattle.labelling.specs.stages.Painting.{numbered, Filled, RunPainted, Paintable, Painted, PaintSweep, PaintsOn, SpanPaintable, SpanPainted, RowPaintable, RowPainted}
 use Rattle.labelling.proofs.PaintLaws.{numbered-turn, numbered-number, numbered-length, paint-none, paint-clear, paint-more, paint-done}
 use Rattle.labelling.proofs.RecordSweepLaws.{tally-none, tally-long, tally-asks, tally-more, tally-done}
 use Rattle.labelling.proofs.SpanLaws.{row-found, Place, place-ends, span-room, first-place, first-span, next-place, next-span}

@@ -9,12 +9,12 @@ use native.Mathlib.Omega.{arith}
 use borrow.Rule.Slice.PartMut.{putMid}
 use lib.ListN.{getD, length, take, drop}
 use lib.Seq.{getD-take}
-use Rattle.memory.specs.Words.{over}
-use Rattle.memory.specs.Limits.{maxMaskDots}
-use Rattle.labelling.specs.InkRuns.{startOf, componentNumber}
-use Rattle.labelling.specs.Linking.{firstRun}
-use Rattle.labelling.specs.Spans.{SpanAhead, SpanOf}
-use Rattle.labelling.specs.Sizing.{resized, SpanSizable, sizes, Sizable, SizeSweep, RowSizable, RowSized}
+use Rattle.memory.specs.rules.Words.{over}
+use Rattle.memory.specs.rules.Limits.{maxMaskDots}
+use Rattle.labelling.specs.stages.InkRuns.{startOf, componentNumber}
+use Rattle.labelling.specs.stages.Linking.{firstRun}
+use Rattle.labelling.specs.stages.Spans.{SpanAhead, SpanOf}
+use Rattle.labelling.specs.stages.Sizing.{resized, SpanSizable, sizes, Sizable, SizeSweep, RowSizable, RowSized}
 use Rattle.labelling.proofs.SpanLaws.{row-found}
 use Rattle.labelling.proofs.SizeSweepLaws.{size-none, size-long, size-room, runs-same, size-list, size-asks, size-more, size-done}
 

@@ -9,11 +9,11 @@ use native.Mathlib.Omega.{arith}
 use borrow.Author.Tests.{eq-eqb, ne-eqb}
 use lib.ListN.{getD}
 use lib.Dec.{eqb}
-use Rattle.memory.specs.Lists.{table, countIf}
-use Rattle.labelling.specs.Forests.{Named}
-use Rattle.labelling.specs.Components.{absorbed}
-use Rattle.labelling.specs.Labels.{componentTo, labelling}
-use Rattle.labelling.specs.InkRuns.{turns, runCount, runOf, startOf, endOf, Runs, touchRuns, isRoot, componentNumber, runLabel, absorbDots, componentRuns}
+use Rattle.memory.specs.rules.Lists.{table, countIf}
+use Rattle.union_find.specs.stages.Forests.{Named}
+use Rattle.labelling.specs.rules.Components.{absorbed}
+use Rattle.labelling.specs.rules.Labels.{componentTo, labelling}
+use Rattle.labelling.specs.stages.InkRuns.{turns, runCount, runOf, startOf, endOf, Runs, touchRuns, isRoot, componentNumber, runLabel, absorbDots, componentRuns}
 use Rattle.memory.proofs.TableLaws.{getD-table, table-ext}
 use Rattle.labelling.proofs.RunLabelLaws.{paint-run, paint-gap, turns-runs, labelling-runs}
 use Rattle.labelling.proofs.TouchLaws.{starts-rise}

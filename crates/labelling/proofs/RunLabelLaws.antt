@@ -9,12 +9,12 @@ use native.Mathlib.Omega.{arith}
 use borrow.Author.Tests.{eq-eqb, ne-eqb}
 use lib.ListN.{length}
 use lib.Dec.{eqb}
-use Rattle.memory.specs.Lists.{countIf, table}
-use Rattle.labelling.specs.Classes.{firsts}
-use Rattle.labelling.specs.Forests.{Named}
-use Rattle.memory.specs.Masks.{isInk}
-use Rattle.labelling.specs.Labels.{touches, isFirst, labelAt, componentTo, labelling}
-use Rattle.labelling.specs.InkRuns.{inkBefore, turns, opensRun, runCount, runOf, startOf, endOf, Runs, touchRuns, isRoot, componentNumber, runLabel}
+use Rattle.memory.specs.rules.Lists.{countIf, table}
+use Rattle.union_find.specs.rules.Classes.{firsts}
+use Rattle.union_find.specs.stages.Forests.{Named}
+use Rattle.memory.specs.rules.Masks.{isInk}
+use Rattle.labelling.specs.rules.Labels.{touches, isFirst, labelAt, componentTo, labelling}
+use Rattle.labelling.specs.stages.InkRuns.{inkBefore, turns, opensRun, runCount, runOf, startOf, endOf, Runs, touchRuns, isRoot, componentNumber, runLabel}
 use Rattle.memory.proofs.TableLaws.{table-ext}
 use Rattle.labelling.proofs.CountLaws.{count-low}
 use Rattle.labelling.proofs.TouchLaws.{run-of, starts-rise}

@@ -11,16 +11,16 @@ use borrow.Author.Tests.{le-leb, lt-leb, eq-eqb, ne-eqb}
 use lib.ListN.{getD, length, set, take, drop, length-append, length-drop, length-set}
 use lib.Seq.{getD-take, getD-drop, take-take, take-at, drop-at, length-take-le, take-set-le, drop-set-add}
 use lib.Dec.{eqb, leb}
-use Rattle.memory.specs.Limits.{maxMaskSide, maxMaskDots}
-use Rattle.labelling.specs.Classes.{renamed}
-use Rattle.labelling.specs.InkRuns.{startOf, endOf, touchRuns}
-use Rattle.labelling.specs.Forests.{Forest, Seen, Joined, Kin, joinF}
-use Rattle.labelling.specs.Linking.{touching, Order, RunList, KnownRuns, Kept, Linked, Joining, Linkable, Joinable, Skipped, Parented, LinkedOne, RowLinkable, LinkedTo, RowEnd, RowAhead, RowLinked, AllLinked, firstRun}
-use Rattle.labelling.proofs.LinkLaws.{seen-none, seen-skip, seen-join, seen-next, seen-all}
+use Rattle.memory.specs.rules.Limits.{maxMaskSide, maxMaskDots}
+use Rattle.union_find.specs.rules.Classes.{renamed}
+use Rattle.labelling.specs.stages.InkRuns.{startOf, endOf, touchRuns}
+use Rattle.union_find.specs.stages.Forests.{Forest, Seen, Joined, Kin, joinF}
+use Rattle.labelling.specs.stages.Linking.{touching, Order, RunList, KnownRuns, Kept, Linked, Joining, Linkable, Joinable, Skipped, Parented, LinkedOne, RowLinkable, LinkedTo, RowEnd, RowAhead, RowLinked, AllLinked, firstRun}
+use Rattle.union_find.proofs.LinkLaws.{seen-none, seen-skip, seen-join, seen-next, seen-all}
 use Rattle.labelling.proofs.TouchLaws.{row-same, row-rise}
 use Rattle.labelling.proofs.TransferLaws.{named-firsts}
-use Rattle.labelling.proofs.ParentLaws.{forest-new, forest-under, forest-fresh}
-use Rattle.labelling.proofs.FirstLaws.{joinF-a, joinF-b}
+use Rattle.union_find.proofs.ParentLaws.{forest-new, forest-under, forest-fresh}
+use Rattle.union_find.proofs.FirstLaws.{joinF-a, joinF-b}
 
 and-off : (x : Bool) → (x && false) ≡ false
 and-off true = refl

@@ -8,8 +8,8 @@ use native.Mathlib.Omega.{arith}
 use borrow.Author.Tests.{eq-eqb, ne-eqb}
 use lib.ListN.{length, set, take}
 use lib.Seq.{take-set-le, take-suc-set}
-use Rattle.memory.specs.Masks.{isInk}
-use Rattle.labelling.specs.InkRuns.{inkBefore, differ, appendIf, turns}
+use Rattle.memory.specs.rules.Masks.{isInk}
+use Rattle.labelling.specs.stages.InkRuns.{inkBefore, differ, appendIf, turns}
 use Rattle.labelling.proofs.TurnLaws.{bit, scanned, snoc-len}
 use Rattle.labelling.proofs.RunLabelLaws.{inkBefore-row}
 

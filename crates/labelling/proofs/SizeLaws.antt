@@ -9,20 +9,20 @@ use borrow.Author.Tests.{eq-eqb}
 use borrow.Rule.Slice.PartMut.{putMid}
 use lib.ListN.{getD, length, take, drop, length-append, length-drop, List·getD-append}
 use lib.Seq.{length-take-le, getD-take, getD-drop, take-take, take-at, drop-at, drop-drop, take-append-le, drop-append-add, getD-append-add}
-use Rattle.memory.specs.Lists.{table, countIf}
-use Rattle.memory.specs.Words.{over}
-use Rattle.memory.specs.Records.{encoded}
-use Rattle.memory.specs.Limits.{maxMaskDots}
+use Rattle.memory.specs.rules.Lists.{table, countIf}
+use Rattle.memory.specs.rules.Words.{over}
+use Rattle.memory.specs.rules.Records.{encoded}
+use Rattle.memory.specs.rules.Limits.{maxMaskDots}
 use Rattle.memory.proofs.PartLaws.{tail-part, tail-put}
 use Rattle.memory.proofs.TableLaws.{length-table, getD-table}
 use Rattle.memory.proofs.RecordLaws.{length-encoded, record-at}
-use Rattle.labelling.specs.Components.{noDots}
-use Rattle.labelling.specs.Labels.{labelling}
-use Rattle.labelling.specs.InkRuns.{turns, runCount, runOf, startOf, endOf, Runs, isRoot, componentNumber, runLabel, componentRuns}
-use Rattle.labelling.specs.Linking.{Order, firstRun, AllLinked}
-use Rattle.labelling.specs.Numbering.{Numbered}
-use Rattle.labelling.specs.Sizes.{sizeWords, HoldsRuns, HoldsNumbers, HoldsSizes, SizesRoom, SizesLeft}
-use Rattle.labelling.specs.Sizing.{sizes, Sizable, RunsNumberable, RunsNumbered}
+use Rattle.labelling.specs.rules.Components.{noDots}
+use Rattle.labelling.specs.rules.Labels.{labelling}
+use Rattle.labelling.specs.stages.InkRuns.{turns, runCount, runOf, startOf, endOf, Runs, isRoot, componentNumber, runLabel, componentRuns}
+use Rattle.labelling.specs.stages.Linking.{Order, firstRun, AllLinked}
+use Rattle.labelling.specs.stages.Numbering.{Numbered}
+use Rattle.labelling.specs.stages.Sizes.{sizeWords, HoldsRuns, HoldsNumbers, HoldsSizes, SizesRoom, SizesLeft}
+use Rattle.labelling.specs.stages.Sizing.{sizes, Sizable, RunsNumberable, RunsNumbered}
 use Rattle.labelling.specs.declared.component.Component.{Component}
 use Rattle.labelling.proofs.CountLaws.{count-up, count-one, count-low}
 use Rattle.labelling.proofs.Theorems.{label-occurs, labelled, records-right}

@@ -11,21 +11,22 @@ use borrow.Rule.Slice.PartMut.{putMid}
 use lib.ListN.{getD, length, set, take, drop, take-append-drop, length-append, length-drop, List·getD-append}
 use lib.Seq.{length-take-le, getD-take, take-take, take-at, drop-at, drop-drop, drop-append-add}
 use lib.Dec.{ltb}
-use Rattle.memory.specs.Lists.{table, countIf}
-use Rattle.memory.specs.Words.{over}
-use Rattle.memory.specs.Records.{encoded}
-use Rattle.memory.specs.Limits.{maxMaskDots}
+use Rattle.memory.specs.rules.Lists.{table, countIf}
+use Rattle.memory.specs.rules.Words.{over}
+use Rattle.memory.specs.rules.Records.{encoded}
+use Rattle.memory.specs.rules.Limits.{maxMaskDots}
 use Rattle.memory.proofs.PartLaws.{tail-part, tail-put}
 use Rattle.memory.proofs.TableLaws.{length-table, getD-table, table-ext}
 use Rattle.memory.proofs.RecordLaws.{length-encoded}
-use Rattle.labelling.specs.Components.{noDots, absorbedSpan}
-use Rattle.labelling.specs.RecordWords.{lowered, raised}
-use Rattle.labelling.specs.InkRuns.{startOf, endOf, isRoot, componentNumber, componentRuns}
-use Rattle.labelling.specs.Linking.{firstRun}
-use Rattle.labelling.specs.Tallying.{Tallyable}
-use Rattle.labelling.specs.Sizes.{sizeWords}
-use Rattle.labelling.specs.Sizing.{sizeOf, heldSize, resized, SpanSizable, sizes, Sizable, SizeSweep}
-use Rattle.labelling.specs.Spans.{SpanOf}
+use Rattle.labelling.specs.rules.Components.{noDots}
+use Rattle.labelling.specs.stages.Absorbing.{absorbedSpan}
+use Rattle.labelling.specs.stages.RecordParts.{lowered, raised}
+use Rattle.labelling.specs.stages.InkRuns.{startOf, endOf, isRoot, componentNumber, componentRuns}
+use Rattle.labelling.specs.stages.Linking.{firstRun}
+use Rattle.labelling.specs.stages.Tallying.{Tallyable}
+use Rattle.labelling.specs.stages.Sizes.{sizeWords}
+use Rattle.labelling.specs.stages.Sizing.{sizeOf, heldSize, resized, SpanSizable, sizes, Sizable, SizeSweep}
+use Rattle.labelling.specs.stages.Spans.{SpanOf}
 use Rattle.labelling.specs.declared.component.Component.{Component}
 use Rattle.labelling.proofs.CountLaws.{count-up, count-step}
 use Rattle.labelling.proofs.TallyLaws.{record-put, record-append, table-put}

@@ -9,11 +9,11 @@ use borrow.Author.Tests.{eq-eqb, ne-eqb}
 use lib.ListN.{getD, length, take, drop, length-drop}
 use lib.Seq.{getD-take, getD-drop}
 use Rattle.memory.proofs.PartLaws.{tail-part}
-use Rattle.memory.specs.Limits.{maxMaskSide, maxMaskDots}
-use Rattle.labelling.specs.Components.{columnSum, absorbedRun, absorbedSpan}
-use Rattle.labelling.specs.InkRuns.{startOf, endOf, componentRuns}
-use Rattle.labelling.specs.Spans.{numberOf, countTo, recordTo, SpanAhead, SpanOf}
-use Rattle.labelling.specs.Tallying.{Tallyable}
+use Rattle.memory.specs.rules.Limits.{maxMaskSide, maxMaskDots}
+use Rattle.labelling.specs.stages.Absorbing.{columnSum, absorbedRun, absorbedSpan}
+use Rattle.labelling.specs.stages.InkRuns.{startOf, endOf, componentRuns}
+use Rattle.labelling.specs.stages.Spans.{numberByRuns, countTo, recordTo, SpanAhead, SpanOf}
+use Rattle.labelling.specs.stages.Tallying.{Tallyable}
 use Rattle.labelling.specs.declared.component.Component.{Component}
 use Rattle.labelling.proofs.RecordSweepLaws.{first-low, first-same, count-max, column-small, run-width, run-absorbed}
 
@@ -81,19 +81,19 @@ module _ {w c : ℕ} {s comps : List ℕ} (A : Tallyable w c s comps) where
           → endOf (take (2 * c) s) 0 k ≡ startOf (take (2 * c) s) k + suc d → startOf (take (2 * c) s) k % w + d < w → Place w c s k base start end
       at d a b x y r = record { d = d; first-dot = x; last-dot = y; inside = r; start-is = a; end-is = b; column = omega arith; last-is = omega arith; dots-is = omega arith }
 
-  own-step : (k : ℕ) {base start end : ℕ} (P : Place w c s k base start end) → k < c → recordTo w c (take (2 * c) s) (numberOf w c (take (2 * c) s) k) (suc k)
-      ≡ absorbedRun (recordTo w c (take (2 * c) s) (numberOf w c (take (2 * c) s) k) k) (startOf (take (2 * c) s) k % w) (P .d) (startOf (take (2 * c) s) k / w)
+  own-step : (k : ℕ) {base start end : ℕ} (P : Place w c s k base start end) → k < c → recordTo w c (take (2 * c) s) (numberByRuns w c (take (2 * c) s) k) (suc k)
+      ≡ absorbedRun (recordTo w c (take (2 * c) s) (numberByRuns w c (take (2 * c) s) k) k) (startOf (take (2 * c) s) k % w) (P .d) (startOf (take (2 * c) s) k / w)
   unfolding componentRuns
   own-step k P l =
       let e = P .last-dot in
-      rw (eq-eqb (numberOf w c (take (2 * c) s) k) (numberOf w c (take (2 * c) s) k) refl) (run-absorbed w c s comps A k (recordTo w c (take (2 * c) s) (numberOf w c (take (2 * c) s) k) k) l)
-      ∙ ap (λ z. absorbedRun (recordTo w c (take (2 * c) s) (numberOf w c (take (2 * c) s) k) k) (startOf (take (2 * c) s) k % w) z (startOf (take (2 * c) s) k / w)) (let h : endOf (take (2 * c) s) 0 k - startOf (take (2 * c) s) k - 1 ≡ P .d = omega arith in h)
+      rw (eq-eqb (numberByRuns w c (take (2 * c) s) k) (numberByRuns w c (take (2 * c) s) k) refl) (run-absorbed w c s comps A k (recordTo w c (take (2 * c) s) (numberByRuns w c (take (2 * c) s) k) k) l)
+      ∙ ap (λ z. absorbedRun (recordTo w c (take (2 * c) s) (numberByRuns w c (take (2 * c) s) k) k) (startOf (take (2 * c) s) k % w) z (startOf (take (2 * c) s) k / w)) (let h : endOf (take (2 * c) s) 0 k - startOf (take (2 * c) s) k - 1 ≡ P .d = omega arith in h)
 
-  other-step : (k q : ℕ) → (numberOf w c (take (2 * c) s) k ≡ q → ⊥) → recordTo w c (take (2 * c) s) q (suc k) ≡ recordTo w c (take (2 * c) s) q k
+  other-step : (k q : ℕ) → (numberByRuns w c (take (2 * c) s) k ≡ q → ⊥) → recordTo w c (take (2 * c) s) q (suc k) ≡ recordTo w c (take (2 * c) s) q k
   unfolding componentRuns
-  other-step k q ne = rw (ne-eqb (numberOf w c (take (2 * c) s) k) q ne) refl
+  other-step k q ne = rw (ne-eqb (numberByRuns w c (take (2 * c) s) k) q ne) refl
 
-  count-next : (k : ℕ) → max (countTo w c (take (2 * c) s) k) (numberOf w c (take (2 * c) s) k) ≡ countTo w c (take (2 * c) s) (suc k)
+  count-next : (k : ℕ) → max (countTo w c (take (2 * c) s) k) (numberByRuns w c (take (2 * c) s) k) ≡ countTo w c (take (2 * c) s) (suc k)
   count-next k = count-max _ (first-low w c (take (2 * c) s)) (first-same w c (take (2 * c) s)) k
 
   -- a first run
@@ -116,7 +116,7 @@ module _ {w c : ℕ} {s comps : List ℕ} (A : Tallyable w c s comps) where
         light = omega arith;
         ends = λ j z. ap (endOf (take (2 * c) s) 0) (let y : j ≡ first = omega arith in y) ∙ (let y : endOf (take (2 * c) s) 0 first ≡ startOf (take (2 * c) s) first / w * w + suc (startOf (take (2 * c) s) first % w + P .d) = omega arith in y);
         counted = count-next first;
-        own = own-step first P l ∙ ap (λ z. absorbedSpan (recordTo w c (take (2 * c) s) (numberOf w c (take (2 * c) s) first) first) (startOf (take (2 * c) s) first % w) (startOf (take (2 * c) s) first % w + P .d) (suc (P .d)) z (startOf (take (2 * c) s) first / w)) (sym es₂);
+        own = own-step first P l ∙ ap (λ z. absorbedSpan (recordTo w c (take (2 * c) s) (numberByRuns w c (take (2 * c) s) first) first) (startOf (take (2 * c) s) first % w) (startOf (take (2 * c) s) first % w + P .d) (suc (P .d)) z (startOf (take (2 * c) s) first / w)) (sym es₂);
         other = other-step first;
       })
 
@@ -136,11 +136,11 @@ module _ {w c : ℕ} {s comps : List ℕ} (A : Tallyable w c s comps) where
         let g = getD-take (2 * c) s (2 * k) 0 (omega arith) in
         row-found (startOf (take (2 * c) s) k) w (startOf (take (2 * c) s) first / w) (omega arith) (omega arith)
 
-    span-number : (label : ℕ) → label ≡ getD s (2 * c + first) 0 → getD s (2 * c + k) 0 ≡ label → numberOf w c (take (2 * c) s) first ≡ numberOf w c (take (2 * c) s) k
+    span-number : (label : ℕ) → label ≡ getD s (2 * c + first) 0 → getD s (2 * c + k) 0 ≡ label → numberByRuns w c (take (2 * c) s) first ≡ numberByRuns w c (take (2 * c) s) k
     span-number label e₁ e₂ = let h = S .some in sym (A .numbers first (omega arith)) ∙ (sym e₁ ∙ (sym e₂ ∙ A .numbers k lk))
 
     span-more : (base start end sum' : ℕ) → Place w c s k base start end → base ≡ startOf (take (2 * c) s) first / w * w
-        → numberOf w c (take (2 * c) s) first ≡ numberOf w c (take (2 * c) s) k → startOf (take (2 * c) s) first / w ≡ startOf (take (2 * c) s) k / w
+        → numberByRuns w c (take (2 * c) s) first ≡ numberByRuns w c (take (2 * c) s) k → startOf (take (2 * c) s) first / w ≡ startOf (take (2 * c) s) k / w
         → sum' ≡ columnSum (start - base) (suc (end - base - 1 - (start - base)))
         → SpanOf w c (take (2 * c) s) first (k + 1) (end - base - 1) (dots + (end - start)) (sum + sum')
     span-more base start end sum' P eb en er es =
@@ -173,8 +173,8 @@ module _ {w c : ℕ} {s comps : List ℕ} (A : Tallyable w c s comps) where
               ∙ (own-step k P lk
               ∙ ((λ i. absorbedRun (recordTo w c (take (2 * c) s) (sym en i) k) (startOf (take (2 * c) s) k % w) (P .d) (sym er i))
               ∙ (ap (λ z. absorbedRun z (startOf (take (2 * c) s) k % w) (P .d) (startOf (take (2 * c) s) first / w)) (S .own)
-              ∙ (span-absorb (recordTo w c (take (2 * c) s) (numberOf w c (take (2 * c) s) first) first) (startOf (take (2 * c) s) first % w) last dots sum (startOf (take (2 * c) s) first / w) (startOf (take (2 * c) s) k % w) (P .d) (omega arith) (omega arith)
-              ∙ ap (λ z. absorbedSpan (recordTo w c (take (2 * c) s) (numberOf w c (take (2 * c) s) first) first) (startOf (take (2 * c) s) first % w) (startOf (take (2 * c) s) k % w + P .d) (dots + suc (P .d)) (sum + z) (startOf (take (2 * c) s) first / w)) (sym es₂)))));
+              ∙ (span-absorb (recordTo w c (take (2 * c) s) (numberByRuns w c (take (2 * c) s) first) first) (startOf (take (2 * c) s) first % w) last dots sum (startOf (take (2 * c) s) first / w) (startOf (take (2 * c) s) k % w) (P .d) (omega arith) (omega arith)
+              ∙ ap (λ z. absorbedSpan (recordTo w c (take (2 * c) s) (numberByRuns w c (take (2 * c) s) first) first) (startOf (take (2 * c) s) first % w) (startOf (take (2 * c) s) k % w + P .d) (dots + suc (P .d)) (sum + z) (startOf (take (2 * c) s) first / w)) (sym es₂)))));
           other = λ q ne. other-step k q (λ e. ne (en ∙ e)) ∙ S .other q ne;
         })
 

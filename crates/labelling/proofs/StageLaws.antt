@@ -8,21 +8,22 @@ use borrow.Author.Tests.{lt-ltb, le-ltb}
 use borrow.Rule.Slice.PartMut.{putMid}
 use lib.ListN.{getD, length, take, drop, length-append, length-drop}
 use lib.Seq.{length-take-le, drop-at, take-take, take-append-le}
-use Rattle.memory.specs.Lists.{table, countIf}
-use Rattle.memory.specs.Words.{over}
-use Rattle.memory.specs.Records.{encoded}
-use Rattle.memory.specs.Refusals.{refuseIf}
-use Rattle.memory.specs.Limits.{maxMaskDots}
+use Rattle.memory.specs.rules.Lists.{table, countIf}
+use Rattle.memory.specs.rules.Words.{over}
+use Rattle.memory.specs.rules.Records.{encoded}
+use Rattle.memory.specs.rules.Refusals.{refuseIf}
+use Rattle.memory.specs.rules.Limits.{maxMaskDots}
 use Rattle.memory.proofs.TableLaws.{length-table}
-use Rattle.labelling.specs.Labels.{labelling}
-use Rattle.labelling.specs.InkRuns.{turns, runCount, runOf, startOf, endOf, Runs, isRoot, componentNumber, runLabel, componentRuns}
-use Rattle.labelling.specs.Extraction.{Extracted}
-use Rattle.labelling.specs.Linking.{touching, firstRun, Order, LinkRoom, LinkedRuns}
-use Rattle.labelling.specs.Numbering.{Numbered}
-use Rattle.labelling.specs.Painting.{numbered, Paintable, Painted}
-use Rattle.labelling.specs.RecordWords.{recordWords}
-use Rattle.labelling.specs.Tallying.{records, Tallyable}
-use Rattle.labelling.specs.Answer.{answerOf, labelsLeft, componentsLeft, Workable, worked}
+use Rattle.labelling.specs.rules.Labels.{labelling}
+use Rattle.labelling.specs.stages.InkRuns.{turns, runCount, runOf, startOf, endOf, Runs, isRoot, componentNumber, runLabel, componentRuns}
+use Rattle.labelling.specs.stages.Extraction.{Extracted}
+use Rattle.labelling.specs.stages.Linking.{touching, firstRun, Order, LinkRoom, LinkedRuns}
+use Rattle.labelling.specs.stages.Numbering.{Numbered}
+use Rattle.labelling.specs.stages.Painting.{numbered, Paintable, Painted}
+use Rattle.labelling.specs.rules.RecordWords.{recordWords}
+use Rattle.labelling.specs.stages.Tallying.{records, Tallyable}
+use Rattle.labelling.specs.rules.Answer.{answerOf, labelsLeft, componentsLeft}
+use Rattle.labelling.specs.stages.Working.{Workable, worked}
 use Rattle.labelling.specs.declared.entry.LabelAnswer.the-variants.{Labelled, Refused}
 use Rattle.labelling.proofs.TransferLaws.{firsts-named}
 use Rattle.labelling.proofs.RunLabelLaws.{runs-low, turns-runs, paint-run, paint-gap}

@@ -9,14 +9,16 @@ use borrow.Author.Tests.{lt-ltb, le-ltb}
 use borrow.Rule.Slice.PartMut.{putMid}
 use lib.ListN.{getD, length, set, take, drop, length-append, length-drop, length-set}
 use lib.Seq.{length-take-le, drop-drop, getD-take, getD-drop, sets-eq, take-append-add, drop-append-add, drop-append-seam, ext-getD, getD-set-same, getD-set-other}
-use Rattle.memory.specs.Lists.{table}
-use Rattle.memory.specs.Words.{over}
-use Rattle.memory.specs.Records.{encoded}
+use Rattle.memory.specs.rules.Lists.{table}
+use Rattle.memory.specs.rules.Words.{over}
+use Rattle.memory.specs.rules.Records.{encoded}
 use Rattle.memory.proofs.TableLaws.{length-table, getD-table}
 use Rattle.memory.proofs.RecordLaws.{length-encoded, record-more, record-at}
-use Rattle.labelling.specs.Components.{noDots, absorbedSpan}
-use Rattle.labelling.specs.RecordWords.{recordWords, recordOf}
-use Rattle.labelling.specs.Tallying.{heldRecord, tallied}
+use Rattle.labelling.specs.rules.Components.{noDots}
+use Rattle.labelling.specs.stages.Absorbing.{absorbedSpan}
+use Rattle.labelling.specs.rules.RecordWords.{recordWords}
+use Rattle.labelling.specs.stages.RecordParts.{recordOf}
+use Rattle.labelling.specs.stages.Tallying.{heldRecord, tallied}
 use Rattle.labelling.specs.declared.component.Component.{Component}
 
 pub nine-long : (at : ℕ) (s : List ℕ) → at + 9 ≤ length s → length (take (at + 9 - at) (drop at s)) ≡ 9

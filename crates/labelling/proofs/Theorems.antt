@@ -1,6 +1,7 @@
 -- What the definition `labelling` of specs/Labels says: the theorems that a reader wants (01, part 2).
 use mathlib.Core.Path.{_≡_, refl, sym, ap, _∙_}
 use mathlib.Core.List.{List}
+use mathlib.Core.Logic.{_↔_}
 use mathlib.Core.Bool.{Bool, true, false, cond}
 use Prim.Native.Nat.{ℕ, zero, suc, _+_, _-_, _*_, _/_, _%_, _≤_, _<_, min, max}
 use native.Mathlib.Nat.{le-refl, le-trans, not-suc-le-zero, mod-le, div-le-self}
@@ -9,17 +10,17 @@ use native.Mathlib.Omega.{arith}
 use borrow.Author.Tests.{eq-eqb, eqb-true}
 use lib.ListN.{getD, length}
 use lib.Dec.{eqb}
-use Rattle.memory.specs.Lists.{table, countIf}
+use Rattle.memory.specs.rules.Lists.{table, countIf}
 use Rattle.memory.proofs.TableLaws.{length-table, getD-table}
-use Rattle.labelling.specs.Chains.{Chain, here, rise, fall, Firsts}
-use Rattle.labelling.specs.Classes.{firstOf, firsts}
-use Rattle.labelling.specs.Components.{noDots, absorbed}
-use Rattle.memory.specs.Masks.{isInk}
-use Rattle.labelling.specs.Labels.{touches, isFirst, labelAt, componentTo, labelling}
+use Rattle.union_find.specs.rules.Chains.{Chain, here, rise, fall, Firsts}
+use Rattle.union_find.specs.rules.Classes.{firstOf, firsts}
+use Rattle.labelling.specs.rules.Components.{noDots, absorbed}
+use Rattle.memory.specs.rules.Masks.{isInk}
+use Rattle.labelling.specs.rules.Labels.{touches, isFirst, labelAt, componentTo, labelling}
 use Rattle.labelling.specs.declared.component.Component.{Component}
 use Rattle.labelling.proofs.CountLaws.{count-up, count-one, count-reach}
 use Rattle.labelling.proofs.ExtremeLaws.{Least, Greatest, extreme, min-either, max-either}
-use Rattle.labelling.proofs.FirstLaws.{firsts-right, firsts-unique, firsts-chain, along}
+use Rattle.union_find.proofs.FirstLaws.{firsts-right, firsts-unique, firsts-chain, along}
 use Rattle.labelling.proofs.TouchLaws.{and-both, and-intro, near-of}
 
 -- the sum of f over the numbers below n that pass the test p
@@ -92,14 +93,18 @@ module _ (w h : ℕ) (m : List ℕ) where
   pub same-label : (a b : ℕ) → a < w * h → b < w * h → isInk m a ≡ true → isInk m b ≡ true → Chain (touches w m) (w * h) a b → label a ≡ label b
   same-label a b la lb ia ib c = label-ink a la ia ∙ (ap (λ z. countIf (isFirst m (firsts (touches w m) (w * h))) (suc z)) (along right c) ∙ sym (label-ink b lb ib))
 
-  -- and only there
-  pub same-component : (a b : ℕ) → a < w * h → b < w * h → isInk m a ≡ true → isInk m b ≡ true → label a ≡ label b → Chain (touches w m) (w * h) a b
-  same-component a b la lb ia ib e = firsts-chain right a b (go (decLt (firstDot a) (firstDot b)) (decLt (firstDot b) (firstDot a)))
+  -- one label means one first dot
+  same-first : (a b : ℕ) → a < w * h → b < w * h → isInk m a ≡ true → isInk m b ≡ true → label a ≡ label b → firstDot a ≡ firstDot b
+  same-first a b la lb ia ib e = go (decLt (firstDot a) (firstDot b)) (decLt (firstDot b) (firstDot a))
     where
       go : Dec (firstDot a < firstDot b) → Dec (firstDot b < firstDot a) → firstDot a ≡ firstDot b
       go (yes h) d = absurd (let z = label-order a b la lb ia ib h in omega arith)
       go (no h) (yes d) = absurd (let z = label-order b a lb la ib ia d in omega arith)
       go (no h) (no d) = omega arith
+
+  -- and only there
+  pub same-component : (a b : ℕ) → a < w * h → b < w * h → isInk m a ≡ true → isInk m b ≡ true → label a ≡ label b → Chain (touches w m) (w * h) a b
+  same-component a b la lb ia ib e = firsts-chain right a b (same-first a b la lb ia ib e)
 
   -- an ink dot's label is a number from 1 to the count
   pub label-within : (i : ℕ) → i < w * h → isInk m i ≡ true → (0 < label i) × (label i ≤ count)
@@ -120,6 +125,26 @@ module _ (w h : ℕ) (m : List ℕ) where
       let b = and-both _ _ (r .2) in
       let f : firstDot (r .0) ≡ r .0 = eqb-true _ _ (b .1) in
       (r .0, r .1, b .0, f, label-ink (r .0) (r .1) (b .0) ∙ (ap (λ z. countIf (isFirst m (firsts (touches w m) (w * h))) (suc z)) f ∙ r .3))
+
+-- labels say what components are
+pub record LabelsOfChains (w h : ℕ) (m : List ℕ) : Type 0 where
+  -- two ink dots have one label just where an 8-connected chain of ink joins them
+  pub joined : (a b : ℕ) → a < w * h → b < w * h → isInk m a ≡ true → isInk m b ≡ true → (label w h m a ≡ label w h m b) ↔ Chain (touches w m) (w * h) a b
+  -- the first dot of a component is one of its dots
+  pub own : (a : ℕ) → a < w * h → isInk m a ≡ true → (isInk m (firstDot w h m a) ≡ true) × (label w h m (firstDot w h m a) ≡ label w h m a)
+  -- the least of them in raster order
+  pub least : (a b : ℕ) → a < w * h → b < w * h → isInk m a ≡ true → isInk m b ≡ true → label w h m a ≡ label w h m b → firstDot w h m a ≤ b
+
+pub labels-are-of-chains : (w h : ℕ) (m : List ℕ) → LabelsOfChains w h m
+labels-are-of-chains w h m =
+    record {
+      joined = λ a b la lb ia ib. (same-component w h m a b la lb ia ib, same-label w h m a b la lb ia ib);
+      own = λ a la ia.
+          let chain = first-dots w h m .sound a in
+          let ink = chain-ink w m (w * h) chain ia in
+          (ink, sym (same-label w h m a (firstDot w h m a) la (let low = first-dots w h m .low a in omega arith) ia ink chain));
+      least = λ a b la lb ia ib e. (let same = same-first w h m a b la lb ia ib e in let low = first-dots w h m .low b in omega arith);
+    }
 
 -- numbers that are given so are the labels, and no others are
 pub record Numbers (w h : ℕ) (m : List ℕ) (g : ℕ → ℕ) : Type 0 where

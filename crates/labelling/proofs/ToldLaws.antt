@@ -11,9 +11,9 @@ use lib.ListN.{getD, length, set, take, drop, length-set, length-map, length-app
 use lib.Seq.{length-take-le, getD-set-same, getD-set-other, take-all, take-take, drop-drop, drop-set-lt}
 use lib.Dec.{ltb}
 use mir.Val.{boolByte}
-use Rattle.memory.specs.Masks.{isInk}
-use Rattle.labelling.specs.InkRuns.{inkBefore, differ, appendIf, turns}
-use Rattle.labelling.specs.Extraction.{RowScan, ScanRoom, Scanned, TurnsTold, toldTurns, ToldRoom, ToldWritten}
+use Rattle.memory.specs.rules.Masks.{isInk}
+use Rattle.labelling.specs.stages.InkRuns.{inkBefore, differ, appendIf, turns}
+use Rattle.labelling.specs.stages.Extraction.{RowScan, ScanRoom, Scanned, TurnsTold, toldTurns, ToldRoom, ToldWritten}
 use Rattle.labelling.proofs.TurnLaws.{bit}
 use Rattle.labelling.proofs.ScanLaws.{append-step, turns-inner, inkBefore-inner}
 use Rattle.labelling.proofs.ExtractLaws.{rest-on, rest-further, inner-wider, append-map, length-appendIf, ink-of-part, bit-small, scan-parity}

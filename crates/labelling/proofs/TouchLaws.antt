@@ -8,9 +8,9 @@ use native.Mathlib.Nat.{div-add-mod', mod-lt, suc-mul, mul-le-mul-right, le-refl
 use native.Mathlib.Decide.{ℕ-discrete, decLt, decLe}
 use native.Mathlib.Omega.{arith}
 use borrow.Author.Tests.{leb-true, le-leb, eqb-true, eq-eqb}
-use Rattle.memory.specs.Masks.{isInk}
-use Rattle.labelling.specs.Labels.{touches}
-use Rattle.labelling.specs.InkRuns.{Runs, touchRuns}
+use Rattle.memory.specs.rules.Masks.{isInk}
+use Rattle.labelling.specs.rules.Labels.{touches}
+use Rattle.labelling.specs.stages.InkRuns.{Runs, touchRuns}
 
 pub and-both : (x y : Bool) → (x && y) ≡ true → (x ≡ true) × (y ≡ true)
 and-both true y e = (refl, e)

@@ -9,14 +9,14 @@ use native.Mathlib.Decide.{ℕ-discrete, decLt, decLe}
 use native.Mathlib.Omega.{arith}
 use borrow.Author.Tests.{lt-ltb, le-ltb, eq-eqb, ne-eqb}
 use lib.Dec.{eqb, ltb}
-use Rattle.memory.specs.Lists.{countIf}
-use Rattle.labelling.specs.Classes.{firstOf, firsts}
-use Rattle.labelling.specs.Chains.{Chain, here, rise, fall, Firsts}
-use Rattle.labelling.specs.Forests.{Named}
-use Rattle.memory.specs.Masks.{isInk}
-use Rattle.labelling.specs.Labels.{touches, isFirst, labelAt}
-use Rattle.labelling.specs.InkRuns.{Runs, touchRuns, isRoot}
-use Rattle.labelling.proofs.FirstLaws.{chain-trans, chain-sym, firsts-right, firsts-unique}
+use Rattle.memory.specs.rules.Lists.{countIf}
+use Rattle.union_find.specs.rules.Classes.{firstOf, firsts}
+use Rattle.union_find.specs.rules.Chains.{Chain, here, rise, fall, Firsts}
+use Rattle.union_find.specs.stages.Forests.{Named}
+use Rattle.memory.specs.rules.Masks.{isInk}
+use Rattle.labelling.specs.rules.Labels.{touches, isFirst, labelAt}
+use Rattle.labelling.specs.stages.InkRuns.{Runs, touchRuns, isRoot}
+use Rattle.union_find.proofs.FirstLaws.{chain-trans, chain-sym, firsts-right, firsts-unique}
 use Rattle.labelling.proofs.TouchLaws.{Near, near-of, near-to, near-cases, near-beside, run-of, starts-rise, beside-same, touch-up, touch-dots}
 
 -- from a naming of the runs to a naming of the first n dots: the first dot of the run that names; a blank dot itself

@@ -10,9 +10,9 @@ use borrow.Author.Tests.{eqb-true, eqb-false}
 use lib.ListN.{getD, length, length-append, List·getD-append, List·getD-eq-default}
 use lib.Seq.{getD-at}
 use lib.Dec.{eqb}
-use Rattle.memory.specs.Lists.{countIf}
-use Rattle.memory.specs.Masks.{isInk}
-use Rattle.labelling.specs.InkRuns.{inkBefore, differ, appendIf, turns, opensRun, runCount, runOf, startOf, endOf, Runs}
+use Rattle.memory.specs.rules.Lists.{countIf}
+use Rattle.memory.specs.rules.Masks.{isInk}
+use Rattle.labelling.specs.stages.InkRuns.{inkBefore, differ, appendIf, turns, opensRun, runCount, runOf, startOf, endOf, Runs}
 use Rattle.labelling.proofs.TouchLaws.{row-same}
 
 -- Rows

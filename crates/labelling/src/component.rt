@@ -1,9 +1,10 @@
 // One component: its area, its box and the sums of its dots' coordinates (01's piece).
 ghost use mathlib.Core.Path.{_≡_};
 ghost use Prim.Native.Nat.{_+_, _≤_, _<_, _^_};
-ghost use Rattle.memory.specs.Limits.{maxMaskSide, maxMaskDots};
-ghost use Rattle.labelling.specs.Components.{noDots, absorbed, absorbedSpan, boxOf};
-use crate::rect::Rect;
+ghost use Rattle.memory.specs.rules.Limits.{maxMaskSide, maxMaskDots};
+ghost use Rattle.labelling.specs.rules.Components.{noDots, absorbed, boxOf};
+ghost use Rattle.labelling.specs.stages.Absorbing.{absorbedSpan};
+use memory::Rect;
 use memory::greater;
 use memory::lesser;
 

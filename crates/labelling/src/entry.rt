@@ -2,8 +2,9 @@
 ghost use mathlib.Core.Path.{_≡_};
 ghost use Prim.Native.Nat.{_*_, _≤_};
 ghost use lib.ListN.{length, drop};
-ghost use Rattle.memory.specs.Limits.{maxMaskDots, scratchWords};
-ghost use Rattle.labelling.specs.Answer.{sideRefusal, lentRefusal, Workable, worked, left, labelled};
+ghost use Rattle.memory.specs.rules.Limits.{maxMaskDots, scratchWords};
+ghost use Rattle.labelling.specs.rules.Answer.{sideRefusal, lentRefusal, labelOutcome, labelMask};
+ghost use Rattle.labelling.specs.stages.Working.{Workable, worked};
 use crate::linked::extract_linked;
 use crate::number::number_runs;
 use crate::paint::paint_runs;
@@ -35,7 +36,7 @@ pub fn label(
     components: &mut [u32],
     scratch: &mut [u32],
 ) -> LabelAnswer
-    ensures { λ r. ⌜ left r (now (labels .exit)) (now (components .exit)) (length (now (scratch .exit))) (drop (scratchWords (width * height) capacity) (now (scratch .exit))) ≡ labelled width height (now (mask .entry)) capacity (now (labels .entry)) (now (components .entry)) (now (scratch .entry)) ⌝ }
+    ensures { λ r. ⌜ labelOutcome r (now (labels .exit)) (now (components .exit)) (length (now (scratch .exit))) (drop (scratchWords (width * height) capacity) (now (scratch .exit))) ≡ labelMask width height (now (mask .entry)) capacity (now (labels .entry)) (now (components .entry)) (now (scratch .entry)) ⌝ }
 {
     let sides = judge_sides(width, height);
     if sides != 0 {

@@ -1,4 +1,4 @@
-// Labelling: the 8-connected components of a mask, numbered by first dot (components.rs). Rect and Component are the records
+// Labelling: the 8-connected components of a mask, numbered by first dot (components.rs). Component is the record
 // that every crate above reads and makes, by value.
 mod component;
 mod entry;
@@ -8,7 +8,6 @@ mod marked;
 mod number;
 mod paint;
 mod record;
-mod rect;
 mod runs;
 mod sizes;
 mod span;
@@ -17,12 +16,9 @@ mod tally;
 pub use component::Component;
 pub use entry::LabelAnswer;
 pub use entry::label;
-pub use link::find;
 pub use link::link_runs;
-pub use link::unite;
 pub use marked::Test;
 pub use marked::extract_marked;
 pub use number::number_runs;
-pub use rect::Rect;
 pub use runs::extract_runs;
 pub use sizes::label_sizes;

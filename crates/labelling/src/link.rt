@@ -4,44 +4,16 @@
 ghost use mathlib.Core.Path.{_≡_};
 ghost use Prim.Native.Nat.{ℕ, _+_, _*_, _≤_, _<_, max};
 ghost use lib.ListN.{length, getD, take, drop};
-ghost use Rattle.memory.specs.Limits.{maxMaskSide};
-ghost use Rattle.labelling.specs.Forests.{Found, United, Joined, Kin};
-ghost use Rattle.labelling.specs.InkRuns.{startOf, endOf};
-ghost use Rattle.labelling.specs.Linking.{RunList, Linkable, Joinable, Skipped, Parented, LinkedOne, RowAhead, RowLinked, AllLinked};
+ghost use Rattle.memory.specs.rules.Limits.{maxMaskSide};
+ghost use Rattle.union_find.specs.stages.Forests.{Found, United, Joined, Kin};
+ghost use Rattle.labelling.specs.stages.InkRuns.{startOf, endOf};
+ghost use Rattle.labelling.specs.stages.Linking.{RunList, Linkable, Joinable, Skipped, Parented, LinkedOne, RowAhead, RowLinked, AllLinked};
 use memory::wide;
+use union_find::find;
+use union_find::unite;
 
 // How many runs back a parent is near. One farther off lies in slower memory when the numbering reads it.
 const NEAR: usize = 65536;
-
-// The root of run x; each second parent on the way is passed over from now on.
-pub fn find(parents: &mut [u32], x: usize) -> usize
-    requires { ⌜ (x < length (now parents)) × ((j : ℕ) → j ≤ x → getD (now parents) j 0 ≤ j) ⌝ }
-    ensures { λ r. ⌜ Found (now (parents .entry)) (now (parents .exit)) x r ⌝ }
-{
-    let mut i = x;
-    let mut parent = wide(parents[i]);
-    while parent != i {
-        let grand = parents[parent];
-        parents[i] = grand;
-        i = wide(grand);
-        parent = wide(parents[i]);
-    }
-    i
-}
-
-// The classes of a root and of run k become one: the larger root gets the smaller for its parent, which is the answer.
-pub fn unite(parents: &mut [u32], root: usize, k: usize) -> usize
-    requires { ⌜ (k < length (now parents)) × (root < length (now parents)) × (k < 4294967296) × (root < 4294967296) × ((j : ℕ) → j ≤ k → getD (now parents) j 0 ≤ j) ⌝ }
-    ensures { λ r. ⌜ United (now (parents .entry)) (now (parents .exit)) root k r ⌝ }
-{
-    let other = find(parents, k);
-    if other < root {
-        parents[root] = other as u32;
-        return other;
-    }
-    parents[other] = root as u32;
-    root
-}
 
 // The first run, from i on, that does not end left of the dot `start`, which is a run's first dot, moved up one row. It is run `to` at the
 // latest, the first of that run's own row, so that no bound is looked at.

@@ -1,5 +1,5 @@
 // Runs and their parents together, row by row: a row's runs are linked while they, and those of the row above, are still near at hand.
-ghost use Rattle.labelling.specs.Linking.{LinkRoom, LinkedRuns};
+ghost use Rattle.labelling.specs.stages.Linking.{LinkRoom, LinkedRuns};
 use crate::link::link_row;
 use crate::runs::extract_row;
 

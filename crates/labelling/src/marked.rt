@@ -5,10 +5,10 @@ ghost use mathlib.Core.Bool.{cond};
 ghost use Prim.Native.Nat.{_+_};
 ghost use lib.ListN.{length};
 ghost use lib.Dec.{eqb};
-ghost use Rattle.memory.specs.Lists.{countIf};
-ghost use Rattle.memory.specs.Masks.{isInk};
-ghost use Rattle.labelling.specs.Extraction.{TurnsTold};
-ghost use Rattle.labelling.specs.Marked.{passes, passing, MarkedScanRoom, MarkedScanned, MarkedRowRoom, MarkedRowLeft, MarkedRoom, MarkedLeft};
+ghost use Rattle.memory.specs.rules.Lists.{countIf};
+ghost use Rattle.memory.specs.rules.Masks.{isInk};
+ghost use Rattle.labelling.specs.stages.Extraction.{TurnsTold};
+ghost use Rattle.labelling.specs.stages.Marked.{passes, passing, MarkedScanRoom, MarkedScanned, MarkedRowRoom, MarkedRowLeft, MarkedRoom, MarkedLeft};
 use crate::runs::write_turns;
 use memory::smaller;
 

@@ -2,8 +2,8 @@
 ghost use mathlib.Core.Path.{_≡_};
 ghost use Prim.Native.Nat.{ℕ, _+_, _≤_, _<_};
 ghost use lib.ListN.{length, getD};
-ghost use Rattle.memory.specs.Limits.{maxCapacity};
-ghost use Rattle.labelling.specs.Numbering.{NumberedOne, Numbered};
+ghost use Rattle.memory.specs.rules.Limits.{maxCapacity};
+ghost use Rattle.labelling.specs.stages.Numbering.{NumberedOne, Numbered};
 use memory::wide;
 
 // Run k gets its number, the runs before it having theirs: a root the next after `count`, else its parent's. Answers the count then.

@@ -3,10 +3,10 @@
 ghost use mathlib.Core.Path.{_≡_};
 ghost use Prim.Native.Nat.{_+_, _*_, _≤_, _<_};
 ghost use lib.ListN.{length, drop};
-ghost use Rattle.memory.specs.Limits.{maxMaskDots};
-ghost use Rattle.memory.specs.Words.{over};
-ghost use Rattle.labelling.specs.Painting.{numbered, Filled, Cleared, RunPainted, Paintable, Painted, SpanPaintable, SpanPainted, RowPaintable, RowPainted};
-ghost use Rattle.labelling.specs.Tallying.{Tallyable, records};
+ghost use Rattle.memory.specs.rules.Limits.{maxMaskDots};
+ghost use Rattle.memory.specs.rules.Words.{over};
+ghost use Rattle.labelling.specs.stages.Painting.{numbered, Filled, Cleared, RunPainted, Paintable, Painted, SpanPaintable, SpanPainted, RowPaintable, RowPainted};
+ghost use Rattle.labelling.specs.stages.Tallying.{Tallyable, records};
 use crate::span::Span;
 use crate::span::column_sum;
 use crate::span::goes_on;

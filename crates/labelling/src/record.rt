@@ -2,10 +2,11 @@
 ghost use mathlib.Core.Path.{_≡_};
 ghost use Prim.Native.Nat.{_+_, _≤_, _<_, _^_};
 ghost use lib.ListN.{length};
-ghost use Rattle.memory.specs.Limits.{maxMaskSide, maxMaskDots};
-ghost use Rattle.labelling.specs.Components.{absorbedSpan};
-ghost use Rattle.labelling.specs.RecordWords.{recordWords, recordOf, lowered, raised, longAt, longAdded};
-ghost use Rattle.labelling.specs.Tallying.{Small};
+ghost use Rattle.memory.specs.rules.Limits.{maxMaskSide, maxMaskDots};
+ghost use Rattle.labelling.specs.stages.Absorbing.{absorbedSpan};
+ghost use Rattle.labelling.specs.rules.RecordWords.{recordWords};
+ghost use Rattle.labelling.specs.stages.RecordParts.{recordOf, lowered, raised, longAt, longAdded};
+ghost use Rattle.labelling.specs.stages.Tallying.{Small};
 use crate::component::Component;
 
 // The same number, wider.

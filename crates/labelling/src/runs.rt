@@ -4,9 +4,9 @@ ghost use mathlib.Core.Bool.{cond};
 ghost use Prim.Native.Nat.{_+_, _≤_};
 ghost use lib.ListN.{length};
 ghost use lib.Dec.{eqb};
-ghost use Rattle.memory.specs.Lists.{countIf};
-ghost use Rattle.memory.specs.Masks.{isInk};
-ghost use Rattle.labelling.specs.Extraction.{ScanRoom, Scanned, TurnsTold, ToldRoom, ToldWritten, RowRoom, RowExtracted, PlaneRoom, Extracted};
+ghost use Rattle.memory.specs.rules.Lists.{countIf};
+ghost use Rattle.memory.specs.rules.Masks.{isInk};
+ghost use Rattle.labelling.specs.stages.Extraction.{ScanRoom, Scanned, TurnsTold, ToldRoom, ToldWritten, RowRoom, RowExtracted, PlaneRoom, Extracted};
 use memory::smaller;
 
 // The dots of a block, which are counted at once.

@@ -4,9 +4,9 @@ ghost use mathlib.Core.Path.{_≡_};
 ghost use mathlib.Core.Bool.{true};
 ghost use Prim.Native.Nat.{ℕ, suc, _+_, _-_, _*_, _≤_, _<_};
 ghost use lib.ListN.{getD, length, take};
-ghost use Rattle.memory.specs.Limits.{maxMaskSide};
-ghost use Rattle.labelling.specs.Components.{columnSum};
-ghost use Rattle.labelling.specs.Spans.{SpanAhead, SpanOf};
+ghost use Rattle.memory.specs.rules.Limits.{maxMaskSide};
+ghost use Rattle.labelling.specs.stages.Absorbing.{columnSum};
+ghost use Rattle.labelling.specs.stages.Spans.{SpanAhead, SpanOf};
 use memory::wide;
 
 // The run after it, the column of its last dot, its dots and the sum of their columns; and up to where the labels are cleared now that

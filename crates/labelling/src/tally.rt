@@ -1,7 +1,7 @@
 // The record of a component, and a span absorbed by it.
 ghost use mathlib.Core.Path.{_≡_};
 ghost use Prim.Native.Nat.{max};
-ghost use Rattle.labelling.specs.Tallying.{SpanTallyable, tallied};
+ghost use Rattle.labelling.specs.stages.Tallying.{SpanTallyable, tallied};
 use crate::component::Component;
 use crate::record::absorb_words;
 use crate::record::encode;

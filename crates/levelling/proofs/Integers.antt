@@ -1,17 +1,17 @@
--- Differences of natural numbers as integers, and the lesser of two integers.
+-- Differences of natural numbers as integers, the lesser of two integers, and how the machine keeps them.
 use mathlib.Core.Path.{_≡_, refl, sym, ap, _∙_, subst}
-use mathlib.Core.Bool.{Bool, true, false, cond}
+use mathlib.Core.Bool.{Bool, true, false, cond, true≢false}
 use Prim.Native.Nat.{ℕ, zero, suc, _+_, _-_, _≤_, _<_, min, max}
 use native.Mathlib.Decide.{decLe}
 use native.Mathlib.Omega.{arith}
-use borrow.Author.Tests.{lt-ltb, le-ltb}
-use lib.Dec.{ltb}
-use lib.Signed.{mag}
-use mir.Syntax.{w64}
-use mir.Val.{SFits, toZ, ofZ}
+use borrow.Author.Tests.{lt-ltb, le-ltb, ltb-true, ltb-false}
+use lib.Dec.{T, ltb}
+use lib.Signed.{mag, nonNeg, ltZ}
+use mir.Syntax.{w32, w64}
+use mir.Val.{Fits, SFits, toZ, ofZ}
 use mir.ValLaws.{toZ-pos, toZ-ofZ}
 use lib.IntN.{ℤ, pos, negsuc, subℕ, negℤ, natAbs, _-ℤ_, pos-ne-negsuc}
-use Rattle.levelling.specs.Shears.{lesserℤ, natural}
+use Rattle.levelling.specs.rules.Shears.{lesserℤ, natural}
 
 -- ---- differences
 pub sub-at-least : (a b : ℕ) → b ≤ a → subℕ a b ≡ pos (a - b)
@@ -27,14 +27,14 @@ sub-is-pos a b n e = go (decLe b a)
     go (yes l) = (l, ap natural (sym (sub-at-least a b l) ∙ e))
     go (no l) = absurd (let z : negsuc (b - suc a) ≡ pos n = sym (rw (lt-ltb a b (omega arith))) ∙ e in pos-ne-negsuc n (b - suc a) (sym z))
 
-pub minus-zero : (a : ℕ) → natural (pos a -ℤ pos 0) ≡ a
-minus-zero a = let e : a + 0 ≡ a = omega arith in e
+pub minus-zero : (a : ℕ) → pos a -ℤ pos 0 ≡ pos a
+minus-zero a = ap pos (let e : a + 0 ≡ a = omega arith in e)
 
-pub minus-negated : (a b : ℕ) → a ≤ b → natural (negℤ (pos a) -ℤ negℤ (pos b)) ≡ b - a
+pub minus-negated : (a b : ℕ) → a ≤ b → negℤ (pos a) -ℤ negℤ (pos b) ≡ pos (b - a)
 minus-negated zero zero l = refl
 minus-negated (suc a) zero l = absurd (omega arith)
-minus-negated zero (suc b) l = let e : 0 + suc b ≡ suc b - 0 = omega arith in e
-minus-negated (suc a) (suc b) l = ap natural (sub-at-least (suc b) (suc a) l)
+minus-negated zero (suc b) l = ap pos (let e : 0 + suc b ≡ suc b - 0 = omega arith in e)
+minus-negated (suc a) (suc b) l = sub-at-least (suc b) (suc a) l
 
 pub natAbs-negated : (z : ℤ) → natAbs (negℤ z) ≡ natAbs z
 natAbs-negated (pos zero) = refl
@@ -71,6 +71,16 @@ negated-lesser (suc a) zero l = absurd (omega arith)
 negated-lesser zero (suc b) l = refl
 negated-lesser (suc a) (suc b) l = ap negsuc (let e : max a b ≡ b = omega arith in e)
 
+pub lesser-by-test : (a b : ℤ) (t : Bool) → ltZ a b ≡ t → cond t a b ≡ lesserℤ a b
+lesser-by-test (pos a) (pos b) true e = ap pos (let l = ltb-true a b e in let q : a ≡ min a b = omega arith in q)
+lesser-by-test (pos a) (pos b) false e = ap pos (let l = ltb-false a b e in let q : b ≡ min a b = omega arith in q)
+lesser-by-test (pos a) (negsuc b) true e = absurd (true≢false (sym e))
+lesser-by-test (pos a) (negsuc b) false e = refl
+lesser-by-test (negsuc a) (pos b) true e = refl
+lesser-by-test (negsuc a) (pos b) false e = absurd (true≢false e)
+lesser-by-test (negsuc a) (negsuc b) true e = ap negsuc (let l = ltb-true b a e in let q : a ≡ max a b = omega arith in q)
+lesser-by-test (negsuc a) (negsuc b) false e = ap negsuc (let l = ltb-false b a e in let q : b ≡ max a b = omega arith in q)
+
 -- ---- a difference of two words, as the machine has it
 pub natural-sub : (a b : ℕ) → natural (subℕ a b) ≡ a - b
 natural-sub a b = go (decLe b a)
@@ -100,3 +110,14 @@ module _ (a b : ℕ) (A : a < 4294967296) (B : b < 4294967296) where
   -- kept in a field, it is the same
   pub words-difference-kept : (z : ℤ) → z ≡ subℕ a b → toZ w64 (ofZ w64 z) ≡ subℕ a b
   words-difference-kept z e = ap (λ v. toZ w64 (ofZ w64 v)) e ∙ toZ-ofZ w64 (subℕ a b) (record { sfits = small })
+
+-- a signed number that is not below 0, and small: it may be cast to an unsigned one
+module _ {z : ℤ} {n : ℕ} (e : z ≡ pos n) (small : n < 2147483648) where
+  pub natural-fits : SFits w64 z
+  natural-fits = subst (SFits w64) (sym e) (record { sfits = omega arith })
+
+  pub natural-kept : toZ w64 (ofZ w64 z) ≡ pos n
+  natural-kept = ap (λ v. toZ w64 (ofZ w64 v)) e ∙ toZ-ofZ w64 (pos n) (record { sfits = omega arith })
+
+  pub natural-casts : T (nonNeg (toZ w64 (ofZ w64 z))) × Fits w32 (natAbs (toZ w64 (ofZ w64 z)))
+  natural-casts = subst (λ v. T (nonNeg v) × Fits w32 (natAbs v)) (sym natural-kept) (tt, record { fits = omega arith })

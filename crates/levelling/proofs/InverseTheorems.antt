@@ -3,6 +3,7 @@
 --   mapped-point-is-place  a frame point that maps to a dot on the page is that dot's place
 --   places-apart           two page dots never share a place
 --   levelAt-place          at a page dot's place lies the page's own dot
+--   dots-at-their-places-is-levelled   a plane with each page dot at its place, and the fill elsewhere, is the levelled one
 -- and for a frame that has room for every page dot, as `frame` has (frame-holds):
 --   levelled-ink-count     the frame's ink dots and the mask's pair one to one, so their counts are equal
 --   levelled-bits          a levelled mask holds only 0 and 1
@@ -10,24 +11,25 @@ use mathlib.Core.Path.{_≡_, refl, sym, ap, _∙_, subst}
 use mathlib.Core.List.{List}
 use mathlib.Core.Bool.{Bool, true, false, cond, _&&_}
 use mathlib.Core.Logic.{_⊎_, inl, inr}
-use Prim.Native.Nat.{ℕ, _+_, _-_, _*_, _/_, _%_, _≤_, _<_, min}
-use native.Mathlib.Nat.{mod-lt, div-add-mod', div-lt-iff-lt-mul, mul-comm}
+use Prim.Native.Nat.{ℕ, zero, suc, _+_, _-_, _*_, _/_, _%_, _≤_, _<_, min}
+use native.Mathlib.Nat.{le-refl, mod-lt, div-add-mod', div-lt-iff-lt-mul, mul-comm, zero-mul}
 use native.Mathlib.Decide.{decLt}
 use native.Mathlib.Omega.{arith}
 use borrow.Author.Tests.{lt-ltb, le-ltb}
 use lib.IntN.{ℤ, pos, negsuc, subℕ}
 use lib.Ieee.{Float}
 use lib.ListN.{getD, length, List·getD-eq-default}
+use lib.Seq.{ext-getD}
 use lib.Dec.{eqb, ltb, T, eqb→eq}
-use Rattle.memory.specs.Lists.{countIf, occurs}
-use Rattle.memory.proofs.TableLaws.{length-table, getD-table}
+use Rattle.memory.specs.rules.Lists.{table, countIf, occurs}
+use Rattle.memory.proofs.TableLaws.{length-table, getD-table, getD-default}
 use Rattle.memory.proofs.CountLaws.{Paired, paired-counts, occurs-table, occurs-by-place}
 use Rattle.memory.proofs.GreatestLaws.{greatest-bounds}
 use Rattle.memory.proofs.PlaneLaws.{dot-column, dot-row, dot-inside}
-use Rattle.levelling.specs.Shears.{natural}
-use Rattle.levelling.specs.Frames.{Frame, frame, rowOf, columnOf}
-use Rattle.levelling.specs.Mapping.{toPage}
-use Rattle.levelling.specs.Planes.{within, levelAt, levelled, levelInk}
+use Rattle.levelling.specs.rules.Shears.{natural}
+use Rattle.levelling.specs.rules.Frames.{Frame, frame, rowOf, columnOf}
+use Rattle.levelling.specs.rules.Mapping.{toPage}
+use Rattle.levelling.specs.rules.Planes.{within, levelAt, levelled, levelInk}
 use Rattle.levelling.specs.declared.Point.{Point}
 use Rattle.levelling.proofs.Integers.{sub-added, sub-is-pos}
 
@@ -94,6 +96,37 @@ added-or-source f x y = go (toPage f x y .x) (toPage f x y .y) refl refl
     go (pos c) (pos r) a b = two c r a b (decLt c (f .page-w)) (decLt r (f .page-h))
     go (pos c) (negsuc r) a b = inl (outside (pos c) (negsuc r) a b (off (ltb c (f .page-w))))
     go (negsuc c) z a b = inl (outside (negsuc c) z a b refl)
+
+-- a plane of the frame's size that has each page dot at its place, and `fill` at every dot that is no page dot's place, is the levelled page
+pub dots-at-their-places-is-levelled :
+    (f : Frame) (fill : ℕ) (page plane : List ℕ) → length page ≡ f .page-w * f .page-h → length plane ≡ f .w * f .h
+    → ((c y : ℕ) → c < f .page-w → y < f .page-h → getD plane (rowOf f c y * f .w + columnOf f c y) 0 ≡ getD page (y * f .page-w + c) 0)
+    → ((x r : ℕ) → x < f .w → r < f .h → ((c y : ℕ) → c < f .page-w → y < f .page-h → columnOf f c y ≡ x → rowOf f c y ≡ r → ⊥) → getD plane (r * f .w + x) 0 ≡ fill)
+    → plane ≡ levelled f fill page
+unfolding levelled
+dots-at-their-places-is-levelled f fill page plane size room placed filled =
+    ext-getD 0 plane (levelled f fill page) (room ∙ sym (length-table _ (f .w * f .h)))
+    (λ i l. (let k : i < f .w * f .h = omega arith in at i k (added-or-source f (i % f .w) (i / f .w)) ∙ sym (getD-table _ (f .w * f .h) i 0 k)))
+  where
+    some : (w h i : ℕ) → i < w * h → 0 < w
+    some zero h i l = absurd (let e = zero-mul h in omega arith)
+    some (suc w) h i l = omega arith
+
+    at : (i : ℕ) → i < f .w * f .h → ((fill : ℕ) (page : List ℕ) → levelAt f fill page (i % f .w) (i / f .w) ≡ fill) ⊎ Source f (i % f .w) (i / f .w) → getD plane i 0 ≡ levelAt f fill page (i % f .w) (i / f .w)
+    at i k (inl h) =
+        let wide : 0 < f .w = some (f .w) (f .h) i k in
+        sym (ap (λ n. getD plane n 0) (div-add-mod' i (f .w)))
+        ∙ (filled (i % f .w) (i / f .w) (mod-lt i wide) (div-lt-iff-lt-mul wide .1 (subst (λ n. i < n) (mul-comm (f .w) (f .h)) k)) (λ c y lc ly ec er.
+        let ones = table (λ _. 1) (suc (y * f .page-w + c)) in
+        let e : _≡_ {A = ℕ} 1 0 = sym (getD-table (λ _. 1) (suc (y * f .page-w + c)) (y * f .page-w + c) 0 (le-refl (suc (y * f .page-w + c)))) ∙ (sym (levelAt-place f 0 ones c y lc ly) ∙ ((λ t. levelAt f 0 ones (ec t) (er t)) ∙ h 0 ones)) in
+        omega arith)
+        ∙ sym (h fill page))
+    at i k (inr S) =
+        let E = mapped-point-is-place f (i % f .w) (i / f .w) (S .c) (S .r) (S .c-in) (S .point) in
+        let n = S .r * f .page-w + S .c in
+        sym (ap (λ n. getD plane n 0) ((λ t. E .1 t * f .w + E .0 t) ∙ div-add-mod' i (f .w)))
+        ∙ (placed (S .c) (S .r) (S .c-in) (S .r-in)
+        ∙ (getD-default page n 0 fill (subst (λ m. n < m) (sym size) (dot-inside (f .page-w) (f .page-h) (S .c) (S .r) (S .c-in) (S .r-in))) ∙ sym (S .value fill page)))
 
 source : (f : Frame) (page : List ℕ) (x y : ℕ) → levelAt f 0 page x y ≡ 1 → Source f x y
 source f page x y e = go (added-or-source f x y)

@@ -1,8 +1,8 @@
--- differences of natural numbers, the lesser of two integers
+-- differences of natural numbers, the lesser of two integers, signed words
 pub mod Integers
 -- the shear of a table that runs one way, entry by entry
 pub mod ShearLaws
--- a slope from -1 to 1 and its drifts, as the code computes them
+-- a slope from -1 to 1 and its two drifts, by sign and size
 pub mod SlopeLaws
 -- the frame's sides and shears for a slope from -1 to 1
 pub mod FrameLaws
@@ -10,7 +10,7 @@ pub mod FrameLaws
 pub mod InverseTheorems
 -- the ink dots of a levelled plane and those of the mask pair one to one
 pub mod PairTheorems
--- words held against the shear that a slope gives
+-- the entries of a shear, as the code finds them, and words held against them
 pub mod ShearTests
 -- the words that hold a frame's two shears, one behind the other
 pub mod ShearParts

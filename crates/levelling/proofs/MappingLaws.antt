@@ -5,11 +5,12 @@ use Prim.Native.Nat.{ℕ, _-_, min, max}
 use native.Mathlib.Omega.{arith}
 use lib.IntN.{ℤ, pos, negsuc, subℕ}
 use lib.ListN.{getD}
-use Rattle.labelling.specs.declared.rect.Rect.{Rect}
-use Rattle.labelling.specs.Rects.{union}
-use Rattle.levelling.specs.Shears.{lesserℤ, greaterℤ}
-use Rattle.levelling.specs.Frames.{Frame, frameOf}
-use Rattle.levelling.specs.Mapping.{toPage, clamped, dotToPage, rectToPage}
+use Rattle.memory.specs.declared.rect.Rect.{Rect}
+use Rattle.memory.specs.rules.Rects.{union}
+use Rattle.levelling.specs.rules.Shears.{lesserℤ, greaterℤ}
+use Rattle.levelling.specs.rules.Frames.{Frame, frameOf}
+use Rattle.levelling.specs.rules.Mapping.{toPage, clamped, rectToPage}
+use Rattle.levelling.specs.stages.Corners.{dotToPage}
 use Rattle.levelling.proofs.Integers.{natural-sub}
 
 -- ---- moved onto a side, the lesser stays the lesser

@@ -8,14 +8,14 @@ use native.Mathlib.Omega.{arith}
 use lib.Ieee.{Float}
 use lib.ListN.{length, getD, take}
 use lib.Seq.{getD-take, take-all}
-use Rattle.memory.specs.Lists.{occurs}
+use Rattle.memory.specs.rules.Lists.{occurs}
 use Rattle.memory.proofs.PlaneLaws.{dot-inside, dot-column, dot-row}
 use Rattle.memory.proofs.TableLaws.{getD-table}
 use Rattle.params.specs.declared.LayoutParams.{LayoutParams}
-use Rattle.levelling.specs.Frames.{Frame, frame, rowOf, columnOf}
-use Rattle.levelling.specs.Mapping.{toPage}
-use Rattle.levelling.specs.Pairs.{ToInk, FromInk, InkPairs}
-use Rattle.levelling.specs.Planes.{levelAt, levelled, levelInk, levelling}
+use Rattle.levelling.specs.rules.Frames.{Frame, frame, rowOf, columnOf}
+use Rattle.levelling.specs.rules.Mapping.{toPage}
+use Rattle.levelling.specs.rules.Pairs.{ToInk, FromInk, InkPairs}
+use Rattle.levelling.specs.rules.Planes.{levelAt, levelled, levelInk, levelling}
 use Rattle.levelling.proofs.InverseTheorems.{HoldsPage, frame-holds, Source, added-or-source, place-maps-back, mapped-point-is-place, levelAt-place, levelled-ink-count, length-levelled}
 
 module _ (f : Frame) (holds : HoldsPage f) (mask plane : List ℕ) (wide : 0 < f .page-w) (size : length mask ≡ f .page-w * f .page-h) (front : take (f .w * f .h) plane ≡ levelInk f mask) where

@@ -13,18 +13,18 @@ use lib.ListN.{getD, length, take, drop, set}
 use lib.Seq.{getD-set-same, getD-set-other, take-at, drop-at}
 use borrow.Rule.Slice.PartMut.{putMid}
 use lib.Dec.{ltb, leb}
-use Rattle.memory.specs.Lists.{table}
-use Rattle.memory.specs.Words.{over}
+use Rattle.memory.specs.rules.Lists.{table}
+use Rattle.memory.specs.rules.Words.{over}
 use Rattle.memory.proofs.TableLaws.{length-table, table-ext, table-whole, table-filled}
 use Rattle.memory.proofs.PartLaws.{over-all, part-is-table, part-filled, table-add}
 use Rattle.memory.proofs.PlaneLaws.{row-end, dot-column, dot-row}
-use Rattle.levelling.specs.Shears.{natural}
-use Rattle.levelling.specs.Frames.{Frame, frameOf}
+use Rattle.levelling.specs.rules.Shears.{natural}
+use Rattle.levelling.specs.rules.Frames.{Frame, frameOf}
 use Rattle.levelling.specs.declared.Point.{Point}
 use Rattle.levelling.proofs.Integers.{sub-at-least}
-use Rattle.levelling.specs.Mapping.{toPage}
-use Rattle.levelling.specs.Planes.{within, levelAt, levelled}
-use Rattle.levelling.specs.Moves.{columnAt, Stretch, Stretches}
+use Rattle.levelling.specs.rules.Mapping.{toPage}
+use Rattle.levelling.specs.rules.Planes.{within, levelAt, levelled}
+use Rattle.levelling.specs.stages.Moves.{columnAt, Stretch, Stretches}
 
 -- ---- a column of a frame row
 column-above : (page : List ℕ) (fill w h r s c : ℕ) → r < s → columnAt page fill w h r s c ≡ fill

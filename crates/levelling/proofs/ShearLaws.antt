@@ -1,18 +1,19 @@
--- The shear of a table that runs one way from 0: its entries in closed form, its greatest entry, its steps.
+-- The shear of a table that runs one way from 0: its entries in closed form and as drift minus least, its greatest entry, its steps.
 use mathlib.Core.Path.{_≡_, refl, sym, ap, _∙_, subst}
 use mathlib.Core.List.{List, [], _∷_, map}
 use mathlib.Core.Bool.{Bool, true, false, cond}
-use Prim.Native.Nat.{ℕ, zero, suc, _-_, _≤_, _<_, max}
+use Prim.Native.Nat.{ℕ, zero, suc, _-_, _≤_, _<_, min, max}
 use native.Mathlib.Nat.{not-suc-le-zero, le-of-suc-le-suc, le-refl}
 use native.Mathlib.Omega.{arith}
 use lib.IntN.{ℤ, pos, negℤ, _-ℤ_}
 use lib.ListN.{getD, length, length-map}
 use lib.Seq.{ext-getD}
-use Rattle.memory.specs.Lists.{table, greatest}
+use Rattle.memory.specs.rules.Lists.{table, greatest}
 use Rattle.memory.proofs.GreatestLaws.{greatest-bounds, greatest-at-most}
-use Rattle.memory.proofs.TableLaws.{length-table, getD-table, getD-default}
+use Rattle.memory.proofs.TableLaws.{length-table, getD-table, getD-default, table-ext}
 use Rattle.rounding.proofs.DriftLaws.{signed}
-use Rattle.levelling.specs.Shears.{lesserℤ, natural, leastEntry, shearOf}
+use Rattle.levelling.specs.rules.Shears.{lesserℤ, natural, leastEntry, shearOf}
+use Rattle.levelling.specs.stages.Entries.{leastEnd}
 use Rattle.levelling.proofs.Integers.{minus-zero, minus-negated, lesser-comm, lesser-assoc, lesser-same, zero-lesser, negated-lesser}
 
 -- ---- the least entry
@@ -66,37 +67,87 @@ shearEntry s size n c = cond s (size (n - 1) - size c) (size c)
 pub record OneWay (d : ℕ → ℤ) (s : Bool) (size : ℕ → ℕ) (n : ℕ) : Type 0 where
   pub some : 0 < n
   pub first : size 0 ≡ 0
-  pub last : (c : ℕ) → c < n → size c ≤ size (n - 1)
+  pub rises : (c c' : ℕ) → c ≤ c' → c' < n → size c ≤ size c'
   pub entries : (c : ℕ) → c < n → d c ≡ signed s (size c)
 
-pub shear-one-way : (d : ℕ → ℤ) (s : Bool) (size : ℕ → ℕ) (n : ℕ) → OneWay d s size n → shearOf (table d n) ≡ table (shearEntry s size n) n
-shear-one-way d s size n W =
-    ext-getD 0 (shearOf (table d n)) (table (shearEntry s size n) n) (lengths ∙ sym (length-table (shearEntry s size n) n))
-    (λ i l. (let k : i < n = omega (arith, lengths) in at s (W .entries) i k ∙ sym (getD-table (shearEntry s size n) n i 0 k)))
-  where
-    lengths : length (shearOf (table d n)) ≡ n
-    lengths = length-shear (table d n) ∙ length-table d n
+module _ (d : ℕ → ℤ) (s : Bool) (size : ℕ → ℕ) (n : ℕ) (W : OneWay d s size n) where
+  end : n - 1 < n
+  end = omega (arith, W .some)
 
-    entry : (i : ℕ) → i < n → getD (table d n) i (pos 0) ≡ d i
-    entry i l = getD-table d n i (pos 0) l
+  pub last-greatest : (c : ℕ) → c < n → size c ≤ size (n - 1)
+  last-greatest c l = W .rises c (n - 1) (omega arith) end
 
-    inside : (i : ℕ) → i < length (table d n) → i < n
-    inside i l = omega (arith, length-table d n)
+  -- the least of them: the first, which is 0, or where they fall the last
+  least : leastEnd d n ≡ cond s (negℤ (pos (size (n - 1)))) (pos 0)
+  least = (λ t. lesserℤ (W .entries 0 (W .some) t) (W .entries (n - 1) end t)) ∙ go s
+    where
+      go : (s : Bool) → lesserℤ (signed s (size 0)) (signed s (size (n - 1))) ≡ cond s (negℤ (pos (size (n - 1)))) (pos 0)
+      go false = ap pos (let f = W .first in let e : min (size 0) (size (n - 1)) ≡ 0 = omega arith in e)
+      go true = negated-lesser (size 0) (size (n - 1)) (last-greatest 0 (W .some))
 
-    inside' : (i : ℕ) → i < n → i < length (table d n)
-    inside' i l = omega (arith, length-table d n)
+  least-is-entry : (k : ℕ) × (k < n) × (d k ≡ leastEnd d n)
+  least-is-entry = go s (λ c l. W .entries c l) least
+    where
+      go : (s : Bool) → ((c : ℕ) → c < n → d c ≡ signed s (size c)) → leastEnd d n ≡ cond s (negℤ (pos (size (n - 1)))) (pos 0) → (k : ℕ) × (k < n) × (d k ≡ leastEnd d n)
+      go false E e = (0, W .some, E 0 (W .some) ∙ (ap pos (W .first) ∙ sym e))
+      go true E e = (n - 1, end, E (n - 1) end ∙ sym e)
 
-    at : (s : Bool) → ((c : ℕ) → c < n → d c ≡ signed s (size c)) → (i : ℕ) → i < n → getD (shearOf (table d n)) i 0 ≡ shearEntry s size n i
-    at false E i l =
-        shear-at (table d n) (pos 0) (pos 0) 0 (inside' 0 (W .some)) (entry 0 (W .some) ∙ (E 0 (W .some) ∙ ap pos (W .first)))
-        (λ j q. ap (λ z. lesserℤ z (pos 0)) (entry j (inside j q) ∙ E j (inside j q)) ∙ zero-lesser (size j)) i (inside' i l)
-        ∙ (ap (λ z. natural (z -ℤ pos 0)) (entry i l ∙ E i l) ∙ minus-zero (size i))
-    at true E i l =
-        let z = size (n - 1) in
-        let q : n - 1 < n = omega (arith, W .some) in
-        shear-at (table d n) (negℤ (pos z)) (pos 0) (n - 1) (inside' (n - 1) q) (entry (n - 1) q ∙ E (n - 1) q)
-        (λ j k. ap (λ v. lesserℤ v (negℤ (pos z))) (entry j (inside j k) ∙ E j (inside j k)) ∙ negated-lesser (size j) z (W .last j (inside j k))) i (inside' i l)
-        ∙ (ap (λ v. natural (v -ℤ negℤ (pos z))) (entry i l ∙ E i l) ∙ minus-negated (size i) z (W .last i l))
+  none-less : (i : ℕ) → i < n → lesserℤ (d i) (leastEnd d n) ≡ leastEnd d n
+  none-less i l = (λ t. lesserℤ (W .entries i l t) (least t)) ∙ (go s ∙ sym least)
+    where
+      go : (s : Bool) → lesserℤ (signed s (size i)) (cond s (negℤ (pos (size (n - 1)))) (pos 0)) ≡ cond s (negℤ (pos (size (n - 1)))) (pos 0)
+      go false = zero-lesser (size i)
+      go true = negated-lesser (size i) (size (n - 1)) (last-greatest i l)
+
+  pub minus-least : (i : ℕ) → i < n → d i -ℤ leastEnd d n ≡ pos (shearEntry s size n i)
+  minus-least i l = (λ t. W .entries i l t -ℤ least t) ∙ go s
+    where
+      go : (s : Bool) → signed s (size i) -ℤ cond s (negℤ (pos (size (n - 1)))) (pos 0) ≡ pos (shearEntry s size n i)
+      go false = minus-zero (size i)
+      go true = minus-negated (size i) (size (n - 1)) (last-greatest i l)
+
+  pub shear-by-least : table (λ c. natural (d c -ℤ leastEnd d n)) n ≡ shearOf (table d n)
+  shear-by-least =
+      sym
+      (ext-getD 0 (shearOf (table d n)) (table (λ c. natural (d c -ℤ leastEnd d n)) n) (lengths ∙ sym (length-table _ n))
+      (λ i l. (let k : i < n = omega (arith, lengths) in at i k ∙ sym (getD-table _ n i 0 k))))
+    where
+      lengths : length (shearOf (table d n)) ≡ n
+      lengths = length-shear (table d n) ∙ length-table d n
+
+      entry : (i : ℕ) → i < n → getD (table d n) i (pos 0) ≡ d i
+      entry i l = getD-table d n i (pos 0) l
+
+      outward : (i : ℕ) → i < n → i < length (table d n)
+      outward i l = omega (arith, length-table d n)
+
+      inward : (i : ℕ) → i < length (table d n) → i < n
+      inward i l = omega (arith, length-table d n)
+
+      at : (i : ℕ) → i < n → getD (shearOf (table d n)) i 0 ≡ natural (d i -ℤ leastEnd d n)
+      at i l =
+          let k = least-is-entry in
+          shear-at (table d n) (leastEnd d n) (pos 0) (k .0) (outward (k .0) (k .1)) (entry (k .0) (k .1) ∙ k .2)
+          (λ j q. ap (λ z. lesserℤ z (leastEnd d n)) (entry j (inward j q)) ∙ none-less j (inward j q)) i (outward i l)
+          ∙ ap (λ z. natural (z -ℤ leastEnd d n)) (entry i l)
+
+  pub shear-one-way : shearOf (table d n) ≡ table (shearEntry s size n) n
+  shear-one-way = sym shear-by-least ∙ table-ext _ _ n (λ i l. ap natural (minus-least i l))
+
+  pub entry-at-most : (i : ℕ) → i < n → shearEntry s size n i ≤ size (n - 1)
+  entry-at-most i l = go s
+    where
+      go : (s : Bool) → shearEntry s size n i ≤ size (n - 1)
+      go false = last-greatest i l
+      go true = omega arith
+
+  -- what lies between two equal entries equals them
+  pub level-between : (a b c : ℕ) → a ≤ b → b ≤ c → c < n → shearEntry s size n a ≡ shearEntry s size n c → shearEntry s size n a ≡ shearEntry s size n b
+  level-between a b c l m k = go s
+    where
+      go : (s : Bool) → shearEntry s size n a ≡ shearEntry s size n c → shearEntry s size n a ≡ shearEntry s size n b
+      go false e = let p = W .rises a b l (omega arith) in let q = W .rises b c m k in omega arith
+      go true e = let p = W .rises a b l (omega arith) in let q = W .rises b c m k in let r = last-greatest c k in omega arith
 
 -- ---- the greatest entry
 greatest-table : (g : ℕ → ℕ) (n k : ℕ) → k < n → ((i : ℕ) → i < n → g i ≤ g k) → greatest (table g n) ≡ g k
@@ -105,15 +156,23 @@ greatest-table g n k l h =
     let high : greatest (table g n) ≤ g k = greatest-at-most (table g n) (g k) (λ i q. (let j : i < n = omega (arith, length-table g n) in subst (λ v. v ≤ g k) (sym (getD-table g n i 0 j)) (h i j))) in
     omega arith
 
--- it is the last entry of a rising shear and the first of a falling one: the last drift's size
-pub greatest-one-way : (d : ℕ → ℤ) (s : Bool) (size : ℕ → ℕ) (n : ℕ) → OneWay d s size n → greatest (shearOf (table d n)) ≡ size (n - 1)
-greatest-one-way d s size n W = ap greatest (shear-one-way d s size n W) ∙ go s
-  where
-    go : (s : Bool) → greatest (table (shearEntry s size n) n) ≡ size (n - 1)
-    go false = greatest-table size n (n - 1) (omega (arith, W .some)) (W .last)
-    go true =
-        greatest-table (λ c. size (n - 1) - size c) n 0 (W .some) (λ i l. (let f = W .first in omega arith))
-        ∙ (let f = W .first in let e : size (n - 1) - size 0 ≡ size (n - 1) = omega arith in e)
+module _ (d : ℕ → ℤ) (s : Bool) (size : ℕ → ℕ) (n : ℕ) (W : OneWay d s size n) where
+  -- it is the last entry of a rising shear and the first of a falling one: the last drift's size
+  pub greatest-one-way : greatest (shearOf (table d n)) ≡ size (n - 1)
+  greatest-one-way = ap greatest (shear-one-way d s size n W) ∙ go s
+    where
+      go : (s : Bool) → greatest (table (shearEntry s size n) n) ≡ size (n - 1)
+      go false = greatest-table size n (n - 1) (omega (arith, W .some)) (last-greatest d s size n W)
+      go true =
+          greatest-table (λ c. size (n - 1) - size c) n 0 (W .some) (λ i l. (let f = W .first in omega arith))
+          ∙ (let f = W .first in let e : size (n - 1) - size 0 ≡ size (n - 1) = omega arith in e)
+
+  pub greatest-of-ends : max (shearEntry s size n 0) (shearEntry s size n (n - 1)) ≡ greatest (shearOf (table d n))
+  greatest-of-ends = go s ∙ sym greatest-one-way
+    where
+      go : (s : Bool) → max (shearEntry s size n 0) (shearEntry s size n (n - 1)) ≡ size (n - 1)
+      go false = let f = W .first in omega arith
+      go true = let f = W .first in omega arith
 
 -- ---- from entry to entry
 -- the entries run one way, down where s is true, else up, and by at most one

@@ -6,10 +6,10 @@ use native.Mathlib.Omega.{arith}
 use lib.Ieee.{Float}
 use lib.ListN.{length, take, drop}
 use lib.Seq.{take-at, drop-at}
-use Rattle.memory.specs.Words.{over}
-use Rattle.rounding.specs.Drift.{WithinOne}
-use Rattle.levelling.specs.Frames.{PageSides, Frame, frame, frameOf}
-use Rattle.levelling.specs.Planes.{PlaneFits}
+use Rattle.memory.specs.rules.Words.{over}
+use Rattle.rounding.specs.rules.Drift.{WithinOne}
+use Rattle.levelling.specs.rules.Frames.{PageSides, Frame, frame, frameOf}
+use Rattle.levelling.specs.stages.Rooms.{PlaneFits}
 use Rattle.levelling.proofs.FrameLaws.{length-shears, frame-plane-fits, frame-is-frameOf}
 
 -- the two parts of what lies over the front of a list

@@ -13,13 +13,14 @@ use borrow.Rule.Slice.PartMut.{putMid}
 use lib.ListN.{getD, length, take, drop, set, length-set, length-take, length-drop}
 use lib.Seq.{ext-getD, getD-set-same, getD-set-other, getD-take, getD-drop, set-append-left}
 use lib.Dec.{ltb, leb, eqb}
-use Rattle.memory.specs.Lists.{table}
-use Rattle.memory.specs.Words.{over}
+use Rattle.memory.specs.rules.Lists.{table}
+use Rattle.memory.specs.rules.Words.{over}
 use Rattle.memory.proofs.TableLaws.{length-table, getD-table, getD-default, table-ext}
 use Rattle.memory.proofs.PlaneLaws.{dot-column, dot-row, dot-inside}
-use Rattle.levelling.specs.Frames.{Frame, frameOf, rowOf, columnOf}
-use Rattle.levelling.specs.Planes.{levelAt, levelled, PlaneFits}
-use Rattle.levelling.specs.Moves.{placeOf, shown, partly, orRange, orRows}
+use Rattle.levelling.specs.rules.Frames.{Frame, frameOf, rowOf, columnOf}
+use Rattle.levelling.specs.rules.Planes.{levelAt, levelled}
+use Rattle.levelling.specs.stages.Rooms.{PlaneFits}
+use Rattle.levelling.specs.stages.Moves.{placeOf, shown, partly, orRange, orRows}
 use Rattle.levelling.proofs.InverseTheorems.{Source, added-or-source, mapped-point-is-place, levelAt-place, length-levelled}
 
 -- ---- the page with some dots done

@@ -1,15 +1,15 @@
 // The levelled frame: its sides, and its two shears.
-use crate::shears::abs;
-use crate::shears::drift_size;
+use crate::shears::Drift;
 use crate::shears::fill_shear;
+use crate::shears::greatest_entry;
 ghost use mathlib.Core.Path.{_≡_};
 ghost use mathlib.Core.List.{_++_};
 ghost use Prim.Native.Nat.{_+_, _≤_};
 ghost use lib.ListN.{length};
-ghost use Rattle.memory.specs.Limits.{maxFrameWidth, maxFrameHeight};
-ghost use Rattle.memory.specs.Words.{over};
-ghost use Rattle.rounding.specs.Drift.{WithinOne};
-ghost use Rattle.levelling.specs.Frames.{PageSides, frame};
+ghost use Rattle.memory.specs.rules.Limits.{maxFrameWidth, maxFrameHeight};
+ghost use Rattle.memory.specs.rules.Words.{over};
+ghost use Rattle.rounding.specs.rules.Drift.{WithinOne};
+ghost use Rattle.levelling.specs.rules.Frames.{PageSides, frame};
 
 // The sides of the frame.
 pub struct FrameSize {
@@ -17,14 +17,13 @@ pub struct FrameSize {
     pub h: u32,
 }
 
-// The page's sides and the last drifts: a shear's greatest entry is the size of its last drift.
+// The page's sides and what the two shears add.
 pub fn frame_size(page_w: u32, page_h: u32, slope: f64) -> FrameSize
     requires { ⌜ PageSides «page_w» «page_h» ⌝ ∗ ⌜ WithinOne slope ⌝ }
     ensures { λ r. ⌜ (r .w ≡ frame «page_w» «page_h» slope .w) × (r .h ≡ frame «page_w» «page_h» slope .h) ⌝ ∗ ⌜ (r .w ≤ maxFrameWidth) × (r .h ≤ maxFrameHeight) ⌝ }
 {
-    let steep = abs(slope);
-    let h = page_h + drift_size(page_w - 1, steep);
-    let w = page_w + drift_size(h - 1, steep);
+    let h = page_h + greatest_entry(Drift::Row, page_w, slope);
+    let w = page_w + greatest_entry(Drift::Column, h, slope);
     FrameSize { w, h }
 }
 
@@ -36,6 +35,6 @@ pub fn fill_shears(words: &mut [u32], page_w: u32, page_h: u32, slope: f64)
     let size = frame_size(page_w, page_h, slope);
     let h = size.h;
     let at = page_w as usize;
-    fill_shear(words, page_w, slope);
-    fill_shear(&mut words[at..], h, -slope);
+    fill_shear(words, Drift::Row, page_w, slope);
+    fill_shear(&mut words[at..], Drift::Column, h, slope);
 }

@@ -13,6 +13,7 @@ pub use frame::frame_size;
 pub use mapping::rect_to_page;
 pub use mapping::to_page;
 pub use plane::level_plane;
+pub use shears::Drift;
 pub use shears::applied;
 pub use shears::is_shear;
 

@@ -1,12 +1,13 @@
 // The way back from the frame to the page.
 use crate::Point;
-use labelling::Rect;
+use memory::Rect;
 ghost use mathlib.Core.Path.{_≡_};
 ghost use Prim.Native.Nat.{ℕ, min, _-_, _<_};
 ghost use lib.IntN.{subℕ};
 ghost use lib.ListN.{length};
-ghost use Rattle.levelling.specs.Frames.{frameOf};
-ghost use Rattle.levelling.specs.Mapping.{toPage, rectToPage, dotToPage};
+ghost use Rattle.levelling.specs.rules.Frames.{frameOf};
+ghost use Rattle.levelling.specs.rules.Mapping.{toPage, rectToPage};
+ghost use Rattle.levelling.specs.stages.Corners.{dotToPage};
 
 // Frame point (x, y) in page coordinates; it may lie outside the page.
 pub fn to_page(shear: &[u32], shear_x: &[u32], page_w: u32, x: u32, y: u32) -> Point

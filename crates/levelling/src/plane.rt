@@ -3,10 +3,11 @@ use crate::stretches::level_by_stretches;
 use crate::tiles::level_by_tiles;
 ghost use mathlib.Core.Path.{_≡_};
 ghost use Prim.Native.Nat.{_≤_};
-ghost use Rattle.memory.specs.Limits.{maxPageSide};
-ghost use Rattle.memory.specs.Words.{over};
-ghost use Rattle.levelling.specs.Frames.{frameOf};
-ghost use Rattle.levelling.specs.Planes.{PlaneFits, levelled};
+ghost use Rattle.memory.specs.rules.Limits.{maxPageSide};
+ghost use Rattle.memory.specs.rules.Words.{over};
+ghost use Rattle.levelling.specs.rules.Frames.{frameOf};
+ghost use Rattle.levelling.specs.stages.Rooms.{PlaneFits};
+ghost use Rattle.levelling.specs.rules.Planes.{levelled};
 
 // Stretches shorter than this on the average are slower than tiles: measured, no promise goes by it.
 const SHORT: usize = 16;

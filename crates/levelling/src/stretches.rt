@@ -5,12 +5,13 @@ use memory::fill_bytes;
 ghost use mathlib.Core.Path.{_≡_};
 ghost use Prim.Native.Nat.{_+_, _*_, _^_, _≤_, _<_};
 ghost use lib.ListN.{length, getD};
-ghost use Rattle.memory.specs.Limits.{maxPageSide};
-ghost use Rattle.memory.specs.Lists.{table};
-ghost use Rattle.memory.specs.Words.{over};
-ghost use Rattle.levelling.specs.Frames.{frameOf};
-ghost use Rattle.levelling.specs.Planes.{PlaneFits, levelAt, levelled};
-ghost use Rattle.levelling.specs.Moves.{Stretch, Stretches, columnAt};
+ghost use Rattle.memory.specs.rules.Limits.{maxPageSide};
+ghost use Rattle.memory.specs.rules.Lists.{table};
+ghost use Rattle.memory.specs.rules.Words.{over};
+ghost use Rattle.levelling.specs.rules.Frames.{frameOf};
+ghost use Rattle.levelling.specs.stages.Rooms.{PlaneFits};
+ghost use Rattle.levelling.specs.rules.Planes.{levelAt, levelled};
+ghost use Rattle.levelling.specs.stages.Moves.{Stretch, Stretches, columnAt};
 
 // The longest side of a page.
 const MAX_PAGE_SIDE: usize = 8192;

@@ -6,10 +6,11 @@ ghost use mathlib.Core.Bool.{Bool, true};
 ghost use mathlib.Core.List.{List};
 ghost use Prim.Native.Nat.{ℕ, _+_, _≤_, _<_};
 ghost use lib.ListN.{length, getD};
-ghost use Rattle.memory.specs.Words.{over};
-ghost use Rattle.levelling.specs.Frames.{frameOf};
-ghost use Rattle.levelling.specs.Planes.{PlaneFits, levelled};
-ghost use Rattle.levelling.specs.Moves.{PartFits, MovesPart, partly, orRows};
+ghost use Rattle.memory.specs.rules.Words.{over};
+ghost use Rattle.levelling.specs.rules.Frames.{frameOf};
+ghost use Rattle.levelling.specs.stages.Rooms.{PlaneFits};
+ghost use Rattle.levelling.specs.rules.Planes.{levelled};
+ghost use Rattle.levelling.specs.stages.Moves.{PartFits, MovesPart, partly, orRows};
 
 // The columns of a tile, and the most frame rows that one tile goes to at a time: more are slow to store to, which was measured.
 const TILE: usize = 1024;

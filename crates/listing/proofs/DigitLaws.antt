@@ -9,8 +9,7 @@ use borrow.Author.Tests.{ltb-true, ltb-false}
 use lib.Dec.{ltb}
 use lib.ListN.{length, getD, take, drop, set, take-append-drop}
 use lib.Seq.{take-suc, set-at, length-take-le, drop-drop}
-use Rattle.memory.specs.Words.{over}
-use Rattle.grouping.specs.Words.{putAt}
+use Rattle.memory.specs.rules.Words.{over, putAt}
 use Rattle.listing.specs.rules.Digits.{digitOf, hex}
 use Rattle.listing.specs.stages.Pairs.{pairOf}
 

@@ -9,9 +9,8 @@ use native.Mathlib.Omega.{arith}
 use borrow.Author.Tests.{leb-true}
 use lib.Dec.{lit≤, leb}
 use lib.ListN.{length, getD, set, length-append, length-set}
-use Rattle.memory.specs.Words.{wordAt}
+use Rattle.memory.specs.rules.Words.{wordAt, putAt}
 use Rattle.memory.proofs.BoolLaws.{and-left, and-right}
-use Rattle.grouping.specs.Words.{putAt}
 use Rattle.listing.specs.rules.Digits.{hex, joined, lineFeed, refusalText}
 use Rattle.listing.specs.stages.Puts.{Put}
 use Rattle.listing.specs.rules.Sheets.{wordFormat, fieldCount, fieldDigits, fieldsText, wordFrom, entryText, entryFrom, entryAt, entriesText}

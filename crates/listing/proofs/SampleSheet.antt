@@ -4,10 +4,10 @@ use mathlib.Core.List.{List, [], _∷_, _++_}
 use Prim.Native.Nat.{ℕ}
 use Prim.Native.Char.{Char, code}
 use Prim.Native.String.{String, [] as none, _∷_ as _then_}
-use Rattle.grouping.proofs.Computed.{computed}
-use Rattle.grouping.proofs.SampleLeaf.{sampleLeaf}
+use Rattle.segmenting.proofs.Computed.{computed}
+use Rattle.segmenting.proofs.SampleLeaf.{sampleLeaf}
 use Rattle.listing.specs.rules.Digits.{digitOf, hex, refusalText}
-use Rattle.listing.specs.rules.Pages.{figures, headFigures, lineFigures, blockFigures, glyphFigures, columnFigures, numbersText, figureText, figuresText, pageSheet}
+use Rattle.listing.specs.rules.Pages.{figures, headFigures, lineFigures, blockFigures, glyphFigures, columnFigures, dotFigures, numbersText, figureText, figuresText, pageSheet}
 
 -- exactly the figures of 01's printed sheet
 pub sample-figures :
@@ -20,7 +20,7 @@ pub sample-figures :
     ∷ (6 ∷ 1 ∷ 3 ∷ [])
     ∷ (7 ∷ 4 ∷ 0 ∷ 0 ∷ 0 ∷ 4 ∷ 0 ∷ [])
     ∷ []
-unfolding computed figures headFigures lineFigures blockFigures glyphFigures columnFigures
+unfolding computed figures headFigures lineFigures blockFigures glyphFigures columnFigures dotFigures
 sample-figures = refl
 
 -- the bytes of a text

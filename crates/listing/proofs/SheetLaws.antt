@@ -5,8 +5,7 @@ use Prim.Native.Nat.{ℕ, _+_, _*_, _≤_, _<_}
 use native.Mathlib.Nat.{mul-le-mul}
 use native.Mathlib.Omega.{arith}
 use lib.ListN.{length, set, length-append}
-use Rattle.memory.specs.Words.{wordAt, over}
-use Rattle.grouping.specs.Words.{putAt}
+use Rattle.memory.specs.rules.Words.{wordAt, over, putAt}
 use Rattle.listing.specs.rules.Digits.{hex, joined, lineFeed, refusalText}
 use Rattle.listing.specs.stages.Puts.{Put}
 use Rattle.listing.specs.stages.Rooms.{SheetRoom}

@@ -7,22 +7,23 @@ use native.Mathlib.Omega.{arith}
 use lib.Ieee.{Float, binary64, toBits}
 use lib.ListN.{length, getD, List·getD-append}
 use lib.Seq.{getD-append-add}
-use Rattle.memory.specs.Records.{encoded}
-use Rattle.memory.specs.Words.{wordAt}
-use Rattle.labelling.specs.declared.rect.Rect.{Rect}
-use Rattle.sorting.specs.Units.{unitValue}
-use Rattle.grouping.specs.Blocks.{Block}
+use Rattle.memory.specs.rules.Records.{encoded}
+use Rattle.memory.specs.rules.Words.{wordAt}
+use Rattle.memory.specs.declared.rect.Rect.{Rect}
+use Rattle.sorting.specs.rules.Units.{unitValue}
+use Rattle.grouping.specs.rules.Blocks.{Block}
 use Rattle.params.specs.declared.LayoutParams.{LayoutParams}
-use Rattle.sorting.specs.Sorted.{kindCounts}
-use Rattle.grouping.specs.Layouts.{Layout, TextLine, GlyphBox, Page, layout, page}
-use Rattle.levelling.specs.Planes.{Levelling, levelling}
+use Rattle.segmenting.specs.rules.Layouts.{Layout, Page, layout, page}
+use Rattle.smoothing.specs.rules.Lines.{TextLine, GlyphBox}
+use Rattle.levelling.specs.rules.Planes.{Levelling, levelling}
 use Rattle.grouping.specs.declared.column.Column.{Column}
 use Rattle.judging.specs.rules.Views.{viewOfLayout, ruleCount, graphicCount, glyphCount, lineCount, blockCount, columnCount, inkDotsAt}
-use Rattle.listing.specs.rules.Pages.{figures, headFigures, lineFigures, blockFigures, glyphFigures, columnFigures, corners, edition, formats, numbersText, figureText, figuresText, pageSheet}
+use Rattle.listing.specs.rules.Pages.{figures, headFigures, lineFigures, blockFigures, glyphFigures, columnFigures, dotFigures, corners, edition, formats, numbersText, figureText, figuresText, pageSheet}
 use Rattle.listing.specs.rules.Sheets.{fieldCount, fieldDigits, fieldsText, wordFrom, entryText, entryFrom, entryAt, entriesText, headText, sheetText, sheetHeld}
-use Rattle.grouping.specs.Words.{lineRecord, blockRecord, columnRecord, glyphRecord}
-use Rattle.segmenting.specs.Results.{boxWords}
-use Rattle.segmenting.specs.Figures.{figuresOf, figureWords}
+use Rattle.smoothing.specs.rules.LineRecords.{lineRecord, glyphRecord}
+use Rattle.grouping.specs.rules.BlockRecords.{blockRecord, columnRecord}
+use Rattle.segmenting.specs.rules.Results.{boxWords}
+use Rattle.segmenting.specs.rules.Figures.{figuresOf, figureWords}
 use Rattle.listing.specs.rules.Digits.{digitOf, hex, joined, lineFeed}
 use Rattle.listing.proofs.EntryLaws.{fields-few}
 
@@ -121,7 +122,7 @@ record Tells (l : Layout) (words : List ℕ) : Type 0 where
   pub graphics : graphicCount words ≡ length (l .graphics)
   pub glyphs : glyphCount words ≡ length (l .glyphs)
   pub columns : columnCount words ≡ length (l .columns)
-  pub dots : l .ink-pixels ∷ l .counts ≡ wordAt words 9 ∷ wordAt words 10 ∷ wordAt words 11 ∷ wordAt words 12 ∷ wordAt words 13 ∷ wordAt words 14 ∷ []
+  pub dots : dotFigures (l .ink-pixels) (l .counts) ≡ 7 ∷ wordAt words 9 ∷ wordAt words 10 ∷ wordAt words 11 ∷ wordAt words 12 ∷ wordAt words 13 ∷ wordAt words 14 ∷ []
 
 -- sixteen digits are the eight of the high word and the eight of the low one
 two-words : (high low : ℕ) → low < 2 ^ 32 → hex 8 high ++ hex 8 low ≡ hex 16 (high * 2 ^ 32 + low)
@@ -187,9 +188,9 @@ module _ (p : Page) (words : List ℕ) (T : Tells (p .layout) words) where
       ap (λ t. hex 2 0 ++ hex 2 edition ++ hex 4 (f .w) ++ hex 4 (f .h) ++ hex 4 (f .page-w) ++ hex 4 (f .page-h) ++ t ++ (lineFeed ∷ []))
       (two-words (wordAt words 2) (wordAt words 1) (T .low) ∙ ap (hex 16) (sym (T .unit)))
 
-  dots-is : entryFrom 7 words inkDotsAt ≡ figureText (7 ∷ p .layout .ink-pixels ∷ p .layout .counts)
+  dots-is : entryFrom 7 words inkDotsAt ≡ figureText (dotFigures (p .layout .ink-pixels) (p .layout .counts))
   unfolding entryText joined hex numbersText figureText
-  dots-is = ap (λ z. figureText (7 ∷ z)) (sym (T .dots))
+  dots-is = ap figureText (sym (T .dots))
 
   list-is : {A : Type 0} (kind : ℕ) (r f : A → List ℕ) (l : List A) (n : ℕ) → ((a : A) → length (r a) ≡ fieldCount kind) → ((a : A) → entryOf kind (r a) ≡ figureText (f a)) → n ≡ length l
       → entriesText kind (encoded r l) n ≡ figuresText (map f l)
@@ -212,10 +213,10 @@ module _ (p : Page) (words : List ℕ) (T : Tells (p .layout) words) where
       ++ list-is 4 boxWords (λ (r : Rect). 4 ∷ corners r) (l .graphics) (graphicCount words) (λ a. refl) graphic-text (T .graphics) i
       ++ list-is 5 glyphRecord glyphFigures (l .glyphs) (glyphCount words) (λ a. refl) glyph-text (T .glyphs) i
       ++ list-is 6 columnRecord columnFigures (l .columns) (columnCount words) (λ a. refl) column-text (T .columns) i
-      ++ (dots-is ∙ sym (append-nil (figureText (7 ∷ l .ink-pixels ∷ l .counts)))) i)
+      ++ (dots-is ∙ sym (append-nil (figureText (dotFigures (l .ink-pixels) (l .counts))))) i)
       ∙ sym
       (eight (headFigures p ∷ []) (map lineFigures (l .lines)) (map blockFigures (l .blocks)) (map (λ (r : Rect). 3 ∷ corners r) (l .rules))
-      (map (λ (r : Rect). 4 ∷ corners r) (l .graphics)) (map glyphFigures (l .glyphs)) (map columnFigures (l .columns)) ((7 ∷ l .ink-pixels ∷ l .counts) ∷ []))
+      (map (λ (r : Rect). 4 ∷ corners r) (l .graphics)) (map glyphFigures (l .glyphs)) (map columnFigures (l .columns)) (dotFigures (l .ink-pixels) (l .counts) ∷ []))
     where
       eight : (a b c d e f g h : List (List ℕ))
           → figuresText (a ++ b ++ c ++ d ++ e ++ f ++ g ++ h)
@@ -223,13 +224,9 @@ module _ (p : Page) (words : List ℕ) (T : Tells (p .layout) words) where
       eight a b c d e f g h = simp figures-append
 
 -- ---- the figures' words
--- five counts
-abbrev pub Five : List ℕ → Type 0
-Five c = c ≡ getD c 0 0 ∷ getD c 1 0 ∷ getD c 2 0 ∷ getD c 3 0 ∷ getD c 4 0 ∷ []
-
-tells : (l : Layout) → Five (l .counts) → Tells l (figureWords (figuresOf l))
-unfolding figureWords
-tells l five =
+tells : (l : Layout) → Tells l (figureWords (figuresOf l))
+unfolding figureWords dotFigures
+tells l =
     let b = toBits binary64 (unitValue (l .unit)) in
     record {
       unit = sym (div-add-mod' b (2 ^ 32));
@@ -240,13 +237,8 @@ tells l five =
       graphics = refl;
       glyphs = refl;
       columns = refl;
-      dots = ap (λ c. l .ink-pixels ∷ c) five;
+      dots = refl;
     }
-
--- a page's segmentation has five
-layout-five : (p : LayoutParams) (w h : ℕ) (m : List ℕ) → Five (layout p w h m .counts)
-unfolding layout kindCounts
-layout-five p w h m = refl
 
 -- what a store says of a segmentation by the rules has the sheet of that page
 pub sheet-of-layout : (v : Levelling) (sheet : LayoutParams) (w h : ℕ) (m : List ℕ)
@@ -254,7 +246,7 @@ pub sheet-of-layout : (v : Levelling) (sheet : LayoutParams) (w h : ℕ) (m : Li
 unfolding viewOfLayout pageSheet
 sheet-of-layout v sheet w h m =
     let l = layout sheet w h m in
-    words-have-text (record { levelled = v; layout = l }) (figureWords (figuresOf l)) (tells l (layout-five sheet w h m))
+    words-have-text (record { levelled = v; layout = l }) (figureWords (figuresOf l)) (tells l)
 
 -- and so for every page
 pub sheet-of-page : (mask : List ℕ) (w h : ℕ) (skew slope : Float) (level segment : LayoutParams)

@@ -8,8 +8,7 @@ use native.Mathlib.Decide.{ℕ-discrete}
 use native.Mathlib.Omega.{arith}
 use lib.ListN.{length, getD, take, drop, set, length-append, length-drop, length-take, take-append-drop}
 use lib.Seq.{take-at, drop-at, drop-drop, set-split, length-take-le}
-use Rattle.memory.specs.Words.{over}
-use Rattle.grouping.specs.Words.{putAt}
+use Rattle.memory.specs.rules.Words.{over, putAt}
 use Rattle.listing.specs.rules.Digits.{joined}
 use Rattle.listing.specs.stages.Puts.{Put}
 

@@ -2,7 +2,7 @@
 ghost use mathlib.Core.Path.{_≡_};
 ghost use Prim.Native.Nat.{_+_, _<_, _≤_};
 ghost use lib.ListN.{length};
-ghost use Rattle.memory.specs.Words.{over};
+ghost use Rattle.memory.specs.rules.Words.{over};
 ghost use Rattle.listing.specs.rules.Digits.{digitOf, hex, refusalText};
 ghost use Rattle.listing.specs.stages.Pairs.{pairOf, refusalLength};
 ghost use Rattle.listing.specs.stages.Puts.{Put};

@@ -2,8 +2,8 @@
 ghost use mathlib.Core.Path.{_≡_};
 ghost use Prim.Native.Nat.{_*_, _<_, _≤_};
 ghost use lib.ListN.{length};
-ghost use Rattle.memory.specs.Words.{wordAt, over};
-ghost use Rattle.segmenting.specs.Figures.{figuresLength};
+ghost use Rattle.memory.specs.rules.Words.{wordAt, over};
+ghost use Rattle.segmenting.specs.rules.Figures.{figuresLength};
 ghost use Rattle.listing.specs.rules.Pages.{edition};
 ghost use Rattle.listing.specs.rules.Sheets.{headText, sheetText};
 ghost use Rattle.listing.specs.stages.Parts.{entryLength, sheetLength};

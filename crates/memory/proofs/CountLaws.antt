@@ -10,7 +10,7 @@ use borrow.Author.Tests.{eq-eqb, ne-eqb}
 use lib.ListN.{getD, length}
 use lib.Seq.{ext-getD}
 use lib.Dec.{eqb}
-use Rattle.memory.specs.Lists.{table, countIf, occurs}
+use Rattle.memory.specs.rules.Lists.{table, countIf, occurs}
 use Rattle.memory.proofs.TableLaws.{length-table, getD-table}
 
 -- ---- lists counted by place

@@ -9,7 +9,7 @@ use lib.ListN.{getD, set, length, length-set}
 use lib.Seq.{getD-set-same, getD-set-other}
 use lib.Ieee.{Float, binary64, toBits, ofBits, fits}
 use lib.Ieee.Bits.{ofBits-toBits}
-use Rattle.memory.specs.Floats.{withFloat, floatAt}
+use Rattle.memory.specs.rules.Floats.{withFloat, floatAt}
 
 next : (at : ℕ) → at < at + 1
 next at = omega arith

@@ -6,7 +6,7 @@ use native.Mathlib.Nat.{le-refl}
 use native.Mathlib.Omega.{arith}
 use native.Mathlib.Numerals.{add-one}
 use lib.ListN.{getD, length}
-use Rattle.memory.specs.Lists.{table, greatest}
+use Rattle.memory.specs.rules.Lists.{table, greatest}
 
 greatest-snoc : (l : List ℕ) (a : ℕ) → greatest (l ++ (a ∷ [])) ≡ max (greatest l) a
 unfolding greatest

@@ -22,3 +22,9 @@ pub mod GreatestLaws
 pub mod MaskLaws
 -- two tests that both pass
 pub mod BoolLaws
+-- those that pass a test; lists whose entries all have a property
+pub mod ListLaws
+-- the numbers that pass a test: their count and their places
+pub mod PlaceLaws
+-- one more entry of a sorted list is one more insertion
+pub mod InsertLaws

@@ -7,8 +7,8 @@ use native.Mathlib.Nat.{le-trans}
 use borrow.Author.Tests.{leb-true, le-leb}
 use lib.Dec.{leb}
 use lib.ListN.{getD, length}
-use Rattle.memory.specs.Lists.{table, greatest}
-use Rattle.memory.specs.Masks.{isMask}
+use Rattle.memory.specs.rules.Lists.{table, greatest}
+use Rattle.memory.specs.rules.Masks.{isMask}
 use Rattle.memory.proofs.CountLaws.{list-is-table}
 use Rattle.memory.proofs.GreatestLaws.{greatest-bounds, greatest-at-most}
 

@@ -3,7 +3,7 @@ use mathlib.Core.Path.{_≡_, refl}
 use mathlib.Core.Bool.{Bool, true, false}
 use Prim.Native.Nat.{ℕ, suc}
 use native.Mathlib.Omega.{arith}
-use Rattle.memory.specs.Refusals.{refuseIf}
+use Rattle.memory.specs.rules.Refusals.{refuseIf}
 
 -- the first test says that the call is not bad, and the later ones give 0
 pub record Passed (bad : Bool) (rest : ℕ) : Type 0 where

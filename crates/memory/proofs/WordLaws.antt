@@ -9,8 +9,8 @@ use borrow.Author.Tests.{eqb-true, eq-eqb}
 use lib.Dec.{eqb}
 use lib.ListN.{length, getD, take}
 use lib.Seq.{ext-getD, getD-take, length-take-le}
-use Rattle.memory.specs.Lists.{table}
-use Rattle.memory.specs.Words.{sameWords}
+use Rattle.memory.specs.rules.Lists.{table}
+use Rattle.memory.specs.rules.Words.{sameWords}
 use Rattle.memory.proofs.BoolLaws.{and-left, and-right}
 use Rattle.memory.proofs.TableLaws.{length-table, getD-table}
 

@@ -3,7 +3,7 @@ ghost use mathlib.Core.Path.{_≡_};
 ghost use Prim.Native.Nat.{_+_, _*_, _^_, _<_};
 ghost use lib.ListN.{length};
 ghost use lib.Ieee.{binary64, ofBits, toBits};
-ghost use Rattle.memory.specs.Floats.{withFloat, floatAt};
+ghost use Rattle.memory.specs.rules.Floats.{withFloat, floatAt};
 
 // The bits of any float. A NaN has no one pattern, so all are written as the same one.
 pub fn bits_of(x: f64) -> u64

@@ -1,8 +1,9 @@
-// Lent memory: words, floats in two words, and the chain of tests that refuses a call; and the small numbers' work that all share. Every crate above keeps its records in
+// Lent memory: words, floats in two words, and the chain of tests that refuses a call; boxes of dots, and the small numbers' work that all share. Every crate above keeps its records in
 // memory that the caller lends, and says what that memory holds by the definitions in specs/.
 mod floats;
 mod masks;
 mod numbers;
+mod rect;
 mod refusals;
 mod words;
 
@@ -16,6 +17,7 @@ pub use numbers::larger;
 pub use numbers::lesser;
 pub use numbers::smaller;
 pub use numbers::wide;
+pub use rect::Rect;
 pub use refusals::refuse_if;
 pub use words::copy_bytes;
 pub use words::copy_words;

@@ -1,6 +1,6 @@
 // The bytes of a mask.
 ghost use mathlib.Core.Path.{_≡_};
-ghost use Rattle.memory.specs.Masks.{isMask};
+ghost use Rattle.memory.specs.rules.Masks.{isMask};
 
 // Whether no byte is above 1: by the greatest, so that every byte is read alike and the compiler can take many at once.
 pub fn is_mask(mask: &[u8]) -> bool

@@ -2,8 +2,8 @@
 ghost use mathlib.Core.Path.{_≡_};
 ghost use Prim.Native.Nat.{_≤_};
 ghost use lib.ListN.{length};
-ghost use Rattle.memory.specs.Lists.{table};
-ghost use Rattle.memory.specs.Words.{wordAt, over};
+ghost use Rattle.memory.specs.rules.Lists.{table};
+ghost use Rattle.memory.specs.rules.Words.{wordAt, over};
 
 // The word at k, 0 past the end: a header can be judged before its length is.
 pub fn word_at(s: &[u32], k: usize) -> u32

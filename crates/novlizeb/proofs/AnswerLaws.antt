@@ -8,11 +8,11 @@ use borrow.Author.Tests.{not-false, ltb-true, leb-true}
 use lib.Dec.{ltb, leb}
 use lib.IntN.{pos}
 use lib.Ieee.{Float, fin, le}
-use Rattle.memory.specs.Limits.{maxPageSide}
+use Rattle.memory.specs.rules.Limits.{maxPageSide}
 use Rattle.memory.proofs.BoolLaws.{and-left, and-right}
-use Rattle.rounding.specs.Drift.{WithinOne}
+use Rattle.rounding.specs.rules.Drift.{WithinOne}
 use Rattle.rounding.proofs.Tests.{yes}
-use Rattle.levelling.specs.Frames.{PageSides, frame}
+use Rattle.levelling.specs.rules.Frames.{PageSides, frame}
 use Rattle.judging.specs.rules.Spoiled.{sideOk, slopeOk}
 use Rattle.store.specs.rules.Answers.{answerNumber, answerValue}
 use Rattle.store.specs.rules.Outcomes.{Left, left, Told, told}

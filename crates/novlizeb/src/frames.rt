@@ -6,7 +6,7 @@ ghost use Rattle.store.specs.rules.Readings.Output.{words, integers};
 ghost use Rattle.novlizeb.specs.rules.Boxes.{boxOf};
 ghost use Rattle.novlizeb.specs.rules.Frames.{frameSize};
 use crate::answers::number_of;
-use labelling::Rect;
+use memory::Rect;
 
 // The page's column and row of a frame point: two numbers.
 #[no_mangle]

@@ -2,7 +2,7 @@
 ghost use mathlib.Core.Path.{_≡_};
 ghost use mathlib.Core.List.{[]};
 ghost use lib.ListN.{length, drop};
-ghost use Rattle.params.specs.Sheets.{sheetOf};
+ghost use Rattle.params.specs.rules.Sheets.{sheetOf};
 ghost use Rattle.judging.specs.rules.Header.{held, scratchHeld};
 ghost use Rattle.judging.specs.rules.Leaves.{leafOf};
 ghost use Rattle.store.specs.rules.Outcomes.{left, levelLeft, segmentLeft, clearLeft};

@@ -8,7 +8,7 @@ ghost use Rattle.novlizeb.specs.rules.Answers.{toldWord};
 ghost use Rattle.novlizeb.specs.rules.Boxes.{boxOf};
 use crate::answers::number_of;
 use crate::answers::word_of;
-use labelling::Rect;
+use memory::Rect;
 
 // The unit and its case, how long each list is, the dots of ink and of each kind: fifteen words.
 #[no_mangle]

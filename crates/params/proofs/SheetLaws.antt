@@ -6,8 +6,8 @@ use lib.Dec.{T, eqb}
 use lib.Ieee.{Float, ofBits, lt, le}
 use lib.Ieee.Scale.{finite}
 use Rattle.params.specs.declared.LayoutParams.{LayoutParams}
-use Rattle.params.specs.Valid as sheet
-use Rattle.params.specs.Facts.{Length, ValidSheet}
+use Rattle.params.specs.rules.Valid as sheet
+use Rattle.params.specs.rules.Facts.{Length, ValidSheet}
 use Rattle.params.proofs.FiniteOrder.{not-lt→le, not-le→lt}
 
 -- none of two or three is so

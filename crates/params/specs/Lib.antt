@@ -1,9 +1,3 @@
 -- The parameter sheet of layout.rs (01, the forms that give way; refusal 6).
--- which sheets `validate` passes
-pub mod Valid
--- what is known of a sheet that it passes
-pub mod Facts
--- a sheet of its eighteen numbers
-pub mod Sheets
--- the show program's sheet
-pub mod ShowSheets
+-- what a reader must believe
+pub mod rules

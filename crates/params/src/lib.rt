@@ -1,6 +1,6 @@
 // The parameter sheet of layout.rs, and the test that each sheet has to pass.
 ghost use mathlib.Core.Path.{_≡_};
-ghost use Rattle.params.specs.Valid.{lengthOk, lengthsOk, valid};
+ghost use Rattle.params.specs.rules.Valid.{lengthOk, lengthsOk, valid};
 
 // The greatest length.
 const TOP: f64 = 1.0e4;

@@ -4,14 +4,15 @@
 --   drift-rises          its size never falls as c grows, so that with drift-signed it runs one way
 --   drift-step           from c to c + 1 its size stays or grows by one
 --   drift-near           it is within 1/2 + 2 ^ -31 of c times the slope
+--   drift-by-32-bits     the Rust's cast, to 32 bits, gives the same
 --   drift-negated        the negated slope has the negated drift
 --   driftX-is-drift      driftX is the drift of the negated slope, for any slope and row
 --   driftX-is-negated    so it is the negated drift
 --   drift-zero           a slope of 0.0 or -0.0 has the drift 0, at any column
 use mathlib.Core.Path.{_≡_, refl, sym, ap, _∙_, subst}
 use mathlib.Core.Bool.{Bool, true, false, not, cond, true≢false}
-use Prim.Native.Nat.{ℕ, zero, suc, _+_, _*_, _^_, _≤_, _<_, min}
-use native.Mathlib.Nat.{le-trans, le-of-lt, le-suc, mul-comm, mul-assoc, mul-left-comm, mul-one, mul-zero, mul-pos, zero-mul, zero-lt-suc}
+use Prim.Native.Nat.{ℕ, zero, suc, _+_, _*_, _^_, _-_, _≤_, _<_}
+use native.Mathlib.Nat.{min-eq-left, le-trans, le-of-lt, le-suc, mul-comm, mul-assoc, mul-left-comm, mul-one, mul-zero, mul-pos, zero-mul, zero-lt-suc}
 use native.Mathlib.Omega.{arith}
 use lib.IntN.{ℤ, pos, negℤ, natAbs}
 use lib.Dec.{T, eqb, lit≤, eqb→eq}
@@ -21,8 +22,8 @@ use lib.Ieee.Exact.{HasValue}
 use lib.Ieee.Back.{round-whole}
 use lib.Ieee.Scale.{round-same}
 use lib.Ieee.Positive.{num, den, den-pos}
-use Rattle.rounding.specs.Rounding.{nearestWhole, roundHalfAway, roundToSigned}
-use Rattle.rounding.specs.Drift.{drift, driftX, WithinOne}
+use Rattle.rounding.specs.rules.Rounding.{nearestWhole, roundHalfAway, roundToSigned}
+use Rattle.rounding.specs.rules.Drift.{drift, driftX, WithinOne}
 use Rattle.rounding.proofs.Tests.{at-most}
 use Rattle.rounding.proofs.Signs.{negative, neg-round, mul-neg}
 use Rattle.rounding.proofs.RoundedCasts.{roundToSigned-is}
@@ -50,26 +51,33 @@ product : (c : ℕ) (s : Bool) (m : ℕ) (e : ℤ) → c ≤ 2 ^ 15 → mul bina
 unfolding ofInt
 product c s m e C = times (round binary64 false c 1) c s m e (round-whole binary64 false c (le-trans C (lit≤ tt)))
 
-uncapped : (n : ℕ) → n ≤ 32768 → (min n 2147483647 ≡ n) × (min n 2147483648 ≡ n)
-uncapped n h = (omega arith, omega arith)
+-- a cast to h bits and a sign is wide enough
+Wide : ℕ → Type 0
+Wide h = 32768 ≤ 2 ^ h - 1
 
--- the cast does not cut a product of either sign
-uncut : (y : Float) → T (fits binary64 y) → T (finite-nonneg y) → nearestWhole (num y) (den y) ≤ 2 ^ 15
-    → (roundToSigned 31 y ≡ pos (nearestWhole (num y) (den y))) × (roundToSigned 31 (neg y) ≡ negℤ (pos (nearestWhole (num y) (den y))))
-unfolding neg
-uncut (fin false m e) F p h =
-    let n = nearestWhole (m * up e) (down e) in
-    (roundToSigned-is 31 (fin false m e) F tt ∙ ap pos (uncapped n h .0), roundToSigned-is 31 (fin true m e) (neg-fits binary64 (fin false m e) F) tt ∙ ap (λ (z : ℕ). negℤ (pos z)) (uncapped n h .1))
+-- it does not cut a product of either sign
+uncut : (h : ℕ) → Wide h → (y : Float) → T (fits binary64 y) → T (finite-nonneg y) → nearestWhole (num y) (den y) ≤ 2 ^ 15
+    → (roundToSigned h y ≡ pos (nearestWhole (num y) (den y))) × (roundToSigned h (neg y) ≡ negℤ (pos (nearestWhole (num y) (den y))))
+unfolding neg Wide
+uncut h wide (fin false m e) F p l = (
+  roundToSigned-is h (fin false m e) F tt ∙ ap pos (min-eq-left (le-trans l wide)),
+  roundToSigned-is h (fin true m e) (neg-fits binary64 (fin false m e) F) tt ∙ ap (λ (z : ℕ). negℤ (pos z)) (min-eq-left (le-trans l (omega arith))),
+)
+
+cast-of-fin : (h : ℕ) → Wide h → (c : ℕ) (s : Bool) (m : ℕ) (e : ℤ) → c ≤ 2 ^ 15 → m * up e ≤ down e
+    → roundToSigned h (mul binary64 (ofInt binary64 (pos c)) (fin s m e)) ≡ signed s (size c (m * up e) (down e))
+cast-of-fin h wide c s m e C S = ap (roundToSigned h) (product c s m e C) ∙ go s
+  where
+    both : (roundToSigned h (round binary64 false (c * (m * up e)) (down e)) ≡ pos (size c (m * up e) (down e))) × (roundToSigned h (neg (round binary64 false (c * (m * up e)) (down e))) ≡ negℤ (pos (size c (m * up e) (down e))))
+    both = uncut h wide (round binary64 false (c * (m * up e)) (down e)) (round-fits binary64 false (c * (m * up e)) (down e)) (bound (m * up e) (down e) (down-pos e) S c C .0) (le-trans (size-le (m * up e) (down e) (down-pos e) S c C) C)
+
+    go : (s : Bool) → roundToSigned h (round binary64 s (c * (m * up e)) (down e)) ≡ signed s (size c (m * up e) (down e))
+    go false = both .0
+    go true = ap (roundToSigned h) (sym (neg-round binary64 false (c * (m * up e)) (down e))) ∙ both .1
 
 drift-of-fin : (c : ℕ) (s : Bool) (m : ℕ) (e : ℤ) → c ≤ 2 ^ 15 → m * up e ≤ down e → drift (fin s m e) c ≡ signed s (size c (m * up e) (down e))
-drift-of-fin c s m e C S = ap (roundToSigned 31) (product c s m e C) ∙ go s
-  where
-    both : (roundToSigned 31 (round binary64 false (c * (m * up e)) (down e)) ≡ pos (size c (m * up e) (down e))) × (roundToSigned 31 (neg (round binary64 false (c * (m * up e)) (down e))) ≡ negℤ (pos (size c (m * up e) (down e))))
-    both = uncut (round binary64 false (c * (m * up e)) (down e)) (round-fits binary64 false (c * (m * up e)) (down e)) (bound (m * up e) (down e) (down-pos e) S c C .0) (le-trans (size-le (m * up e) (down e) (down-pos e) S c C) C)
-
-    go : (s : Bool) → roundToSigned 31 (round binary64 s (c * (m * up e)) (down e)) ≡ signed s (size c (m * up e) (down e))
-    go false = both .0
-    go true = ap (roundToSigned 31) (sym (neg-round binary64 false (c * (m * up e)) (down e))) ∙ both .1
+unfolding Wide
+drift-of-fin = cast-of-fin 63 (lit≤ tt)
 
 -- a slope within one has a size of at most one
 tidy-one : (n d : ℕ) → n * 1 ≤ 1 * 1 * d → n ≤ d
@@ -130,6 +138,14 @@ module _ (slope : Float) (w : WithinOne slope) where
       subst (λ (n : ℕ). (n * den slope * 2 ^ 32 ≤ c * num slope * 2 ^ 32 + (2 ^ 31 + 2) * den slope) × (c * num slope * 2 ^ 32 ≤ n * den slope * 2 ^ 32 + (2 ^ 31 + 2) * den slope))
       (sym (size-is c C)) (size-near (num slope) (den slope) (den-pos slope) (slope-size slope w) c C)
 
+-- the Rust's cast, to 32 bits, gives the same
+pub drift-by-32-bits : (slope : Float) → WithinOne slope → (c : ℕ) → c ≤ 2 ^ 15 → roundToSigned 31 (mul binary64 (ofInt binary64 (pos c)) slope) ≡ drift slope c
+unfolding Wide
+drift-by-32-bits nan w c C = absurd (unfold le in w .0)
+drift-by-32-bits (inf true) w c C = absurd (unfold le in w .0)
+drift-by-32-bits (inf false) w c C = absurd (unfold le in w .1)
+drift-by-32-bits (fin s m e) w c C = let S = slope-size (fin s m e) w in cast-of-fin 31 (lit≤ tt) c s m e C S ∙ sym (drift-of-fin c s m e C S)
+
 -- ---- with the sign turned
 pub drift-negated : (slope : Float) → WithinOne slope → (c : ℕ) → c ≤ 2 ^ 15 → drift (neg slope) c ≡ negℤ (drift slope c)
 unfolding neg
@@ -141,13 +157,13 @@ drift-negated (fin s m e) w c C =
     drift-of-fin c (not s) m e C S ∙ neg-signed s (size c (m * up e) (down e)) ∙ ap negℤ (sym (drift-of-fin c s m e C S))
 
 pub driftX-is-drift : (slope : Float) (r : ℕ) → driftX slope r ≡ drift (neg slope) r
-driftX-is-drift slope r = ap (roundToSigned 31) (mul-neg binary64 (ofInt binary64 (pos r)) slope)
+driftX-is-drift slope r = ap (roundToSigned 63) (mul-neg binary64 (ofInt binary64 (pos r)) slope)
 
 pub driftX-is-negated : (slope : Float) → WithinOne slope → (r : ℕ) → r ≤ 2 ^ 15 → driftX slope r ≡ negℤ (drift slope r)
 driftX-is-negated slope w r R = driftX-is-drift slope r ∙ drift-negated slope w r R
 
 -- ---- no slope: a product that is a zero, or for a column past f64's range a NaN
-cast-zero : (s : Bool) → roundToSigned 31 (fin s 0 (pos 0)) ≡ pos 0
+cast-zero : (s : Bool) → roundToSigned 63 (fin s 0 (pos 0)) ≡ pos 0
 unfolding roundHalfAway round toSigned
 cast-zero true = refl
 cast-zero false = refl
@@ -157,11 +173,11 @@ unfolding round
 round-zero true = refl
 round-zero false = refl
 
-zero-product : (f : Float) (s : Bool) → roundToSigned 31 (mul binary64 f (fin s 0 (pos 0))) ≡ pos 0
+zero-product : (f : Float) (s : Bool) → roundToSigned 63 (mul binary64 f (fin s 0 (pos 0))) ≡ pos 0
 unfolding mul
 zero-product nan s = unfold roundHalfAway in unfold toSigned in refl
 zero-product (inf t) s = unfold roundHalfAway in unfold toSigned in refl
-zero-product (fin t m e) s = ap (roundToSigned 31) (round-same binary64 (unlike t s) (m * up e * (0 * 1)) (down e * 1) 0 1 (mul-pos (down-pos e) (zero-lt-suc 0)) (zero-lt-suc 0) (none (m * up e) (down e * 1)) ∙ round-zero (unlike t s)) ∙ cast-zero (unlike t s)
+zero-product (fin t m e) s = ap (roundToSigned 63) (round-same binary64 (unlike t s) (m * up e * (0 * 1)) (down e * 1) 0 1 (mul-pos (down-pos e) (zero-lt-suc 0)) (zero-lt-suc 0) (none (m * up e) (down e * 1)) ∙ round-zero (unlike t s)) ∙ cast-zero (unlike t s)
   where
     none : (n d : ℕ) → n * (0 * 1) * 1 ≡ 0 * d
     none n d = mul-one (n * 0) ∙ mul-zero n ∙ sym (zero-mul d)

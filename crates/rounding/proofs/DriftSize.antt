@@ -7,7 +7,7 @@ use native.Mathlib.Omega.{arith}
 use lib.Dec.{T, leb, lit≤, lit<, nleb→lt, leb→le}
 use lib.Ieee.{Float, binary64, round}
 use lib.Ieee.Positive.{num, den, den-pos}
-use Rattle.rounding.specs.Rounding.{nearestWhole}
+use Rattle.rounding.specs.rules.Rounding.{nearestWhole}
 use Rattle.rounding.proofs.NearestWhole.{nearestWhole-mono, nearestWhole-low, nearestWhole-high, nearestWhole-at-most, nearestWhole-above}
 use Rattle.rounding.proofs.RoundBounds.{finite-nonneg, round-at-most, round-at-least, round-in-order}
 

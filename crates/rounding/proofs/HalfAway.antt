@@ -14,7 +14,7 @@ use lib.Ieee.Exact.{HasValue, round-exact}
 use lib.Ieee.Scale.{round-same}
 use lib.Ieee.Back.{round-whole, whole-unique}
 use lib.Ieee.Positive.{num, den, positive, first-pos}
-use Rattle.rounding.specs.Rounding.{nearestWhole, roundHalfAway}
+use Rattle.rounding.specs.rules.Rounding.{nearestWhole, roundHalfAway}
 use Rattle.rounding.proofs.Fractions.{half, two-to, Within, held, large-whole}
 use Rattle.rounding.proofs.NearestWhole.{nearestWhole-of-whole, nearestWhole-below-half}
 use Rattle.rounding.proofs.Signs.{not-not, neg-round}

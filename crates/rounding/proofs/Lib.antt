@@ -20,3 +20,5 @@ pub mod DriftSize
 pub mod DriftLaws
 -- the sum of a list, without its count of splits
 pub mod SumLaws
+-- worked values
+pub mod Examples

@@ -4,7 +4,7 @@ use Prim.Native.Nat.{ℕ, suc, _+_, _*_, _/_, _%_, _≤_, _<_}
 use native.Mathlib.Nat.{le-trans, le-of-eq, lt-of-lt-of-le, mul-comm, mul-assoc, mul-left-comm, add-mul, div-div-eq-div-mul, add-div-right, div-eq-of-lt, le-div-iff-mul-le, div-lt-iff-lt-mul}
 use native.Mathlib.Omega.{arith}
 use lib.Ieee.Nearest.{div-mono}
-use Rattle.rounding.specs.Rounding.{nearestWhole}
+use Rattle.rounding.specs.rules.Rounding.{nearestWhole}
 
 pub nearestWhole-by-twice : (n d : ℕ) → 0 < d → 2 * n / d / 2 + 2 * n / d % 2 ≡ nearestWhole n d
 nearestWhole-by-twice n d h =

@@ -10,7 +10,7 @@ use lib.Ieee.Exact.{HasValue}
 use lib.Ieee.Fits.{down-pos}
 use lib.Ieee.Positive.{num, den}
 use lib.Ieee.Scale.{finite}
-use Rattle.rounding.specs.Rounding.{nearestWhole, roundHalfAway, roundToUnsigned, roundToSigned}
+use Rattle.rounding.specs.rules.Rounding.{nearestWhole, roundHalfAway, roundToUnsigned, roundToSigned}
 use Rattle.rounding.proofs.HalfAway.{roundHalfAway-value}
 use Rattle.rounding.proofs.Signs.{negative}
 

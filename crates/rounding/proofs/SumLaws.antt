@@ -11,7 +11,7 @@ use lib.Arith.{lt→nleb}
 use lib.ListN.{length, take, drop, getD, length-take, length-drop, drop-of-length-le}
 use lib.Seq.{drop-cons}
 use lib.Ieee.{Float, nan, binary64, add}
-use Rattle.rounding.specs.Sums.{sumFrom, block, blockSum, half, sumWithin, pairwiseSum}
+use Rattle.rounding.specs.rules.Sums.{sumFrom, block, blockSum, half, sumWithin, pairwiseSum}
 
 -- ---- left to right
 pub sumFrom-next : (sum : Float) (xs : List Float) (i : ℕ) → i < length xs → sumFrom (add binary64 sum (getD xs i nan)) (drop (i + 1) xs) ≡ sumFrom sum (drop i xs)

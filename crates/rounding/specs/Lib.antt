@@ -1,11 +1,3 @@
 -- Document 01, part 1, and the drift of part 3.
--- rounding to whole numbers, the casts after it, and to six decimals
-pub mod Rounding
--- the sum of a list in a fixed order
-pub mod Sums
--- how far a row or a column has drifted under a slope
-pub mod Drift
--- worked values of all of these
-pub mod Examples
--- lengths in f64: a count as a float, a product rounded once, a length in whole dots
-pub mod Lengths
+-- what a reader must believe
+pub mod rules

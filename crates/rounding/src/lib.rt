@@ -6,8 +6,8 @@ ghost use lib.IntN.{pos, negsuc};
 ghost use lib.Ieee as Ieee;
 ghost use lib.Ieee.{fin};
 ghost use lib.Ieee.Positive.{num, den};
-ghost use Rattle.rounding.specs.Rounding.{nearestWhole, roundHalfAway, roundToUnsigned, roundToSigned, roundOutput};
-ghost use Rattle.rounding.specs.Sums.{blockSum, pairwiseSum};
+ghost use Rattle.rounding.specs.rules.Rounding.{nearestWhole, roundHalfAway, roundToUnsigned, roundToSigned, roundOutput};
+ghost use Rattle.rounding.specs.rules.Sums.{blockSum, pairwiseSum};
 
 // A report's floats keep six decimals.
 const OUTPUT_SCALE: f64 = 1_000_000.0;

@@ -10,11 +10,11 @@ use borrow.Author.Tests.{lt-ltb, le-ltb, le-leb, lt-leb}
 use lib.ListN.{length, getD, take, drop, set}
 use lib.Seq.{getD-set-same, getD-set-other, getD-take, getD-drop, drop-set-add}
 use lib.Dec.{ltb, leb}
-use Rattle.memory.specs.Limits.{maxExtent}
-use Rattle.extents.specs.Extents.{behind, ahead, runThrough, extent}
-use Rattle.rulings.specs.Rulings.{widened, inThinRuling}
-use Rattle.extents.specs.Scans.{Starts}
-use Rattle.rulings.specs.Sweeps.{spotOf, planeOf, widenedLine, isThin, isRuling, Laid, ScannedBack, Marked, UpTo, Counted, inkBeside, CountedOn, Recounted, rulingBy, Risen}
+use Rattle.memory.specs.rules.Limits.{maxExtent}
+use Rattle.extents.specs.rules.Extents.{behind, ahead, runThrough, extent}
+use Rattle.rulings.specs.rules.Rulings.{widened, inThinRuling}
+use Rattle.extents.specs.stages.Scans.{Starts}
+use Rattle.rulings.specs.stages.Sweeps.{spotOf, planeOf, widenedLine, isThin, isRuling, Laid, ScannedBack, Marked, UpTo, Counted, inkBeside, CountedOn, Recounted, rulingBy, Risen}
 use Rattle.rulings.specs.declared.lines.Sweep.{Sweep}
 use Rattle.extents.proofs.MaskLaws.{dot-inside}
 use Rattle.extents.proofs.RunLaws.{behind-on, behind-off, behind-le, ahead-on, ahead-off, ahead-le, count-next, runThrough-on, runThrough-last, run-reached, run-reached-before, run-apart, run-last}

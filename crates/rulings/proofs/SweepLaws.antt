@@ -1,6 +1,6 @@
 -- Rows or columns walked alike: where dots lie, marks dot by dot, runs found from probes, extents that are kept.
 use mathlib.Core.Path.{_≡_, refl, sym, ap, _∙_, subst}
-use mathlib.Core.Bool.{Bool, true, false, cond, not, _&&_, _||_}
+use mathlib.Core.Bool.{Bool, true, false, cond, not, _&&_, _||_, true≢false}
 use mathlib.Core.List.{List}
 use Prim.Native.Nat.{ℕ, zero, suc, _+_, _-_, _*_, _/_, _%_, _≤_, _<_, min}
 use native.Mathlib.Nat.{le-refl, div-eq-of-lt-le, div-lt-iff-lt-mul, div-add-mod', mod-lt, mul-comm, mul-le-mul-right}
@@ -11,14 +11,15 @@ use borrow.Rule.Slice.PartMut.{putMid}
 use lib.ListN.{length, getD, take, drop, set, replicate, length-set, length-drop}
 use lib.Seq.{getD-set-same, getD-set-other, getD-drop}
 use lib.Dec.{ltb, leb}
-use Rattle.memory.specs.Lists.{table}
-use Rattle.memory.specs.Words.{over}
-use Rattle.memory.specs.Limits.{maxExtent, maxMaskSide, maxMaskDots}
-use Rattle.memory.specs.Masks.{isInk}
-use Rattle.extents.specs.Extents.{Plane, inkAt, behind, runThrough, extent}
-use Rattle.rulings.specs.Rulings.{transposed, widened, inThinRuling, cutHorizontal, cutVertical, cutMark}
-use Rattle.extents.specs.Scans.{ScannedTo, Starts, clear, blank, PlaneFits}
-use Rattle.rulings.specs.Sweeps.{sweepDown, sweepAcross, spotOf, planeOf, widenedLine, isThin, isRuling, Laid, ScannedBack, Cached, Marked, Unmarked, Walked}
+use Rattle.memory.specs.rules.Lists.{table}
+use Rattle.memory.specs.rules.Words.{over}
+use Rattle.memory.specs.rules.Limits.{maxExtent, maxMaskSide, maxMaskDots}
+use Rattle.memory.specs.rules.Masks.{isInk}
+use Rattle.extents.specs.rules.Extents.{Plane, inkAt, behind, runThrough, extent}
+use Rattle.rulings.specs.rules.Rulings.{transposed, widened, inThinRuling, cutHorizontal, cutVertical}
+use Rattle.rulings.specs.stages.Marks.{cutMark, Blank}
+use Rattle.extents.specs.stages.Scans.{ScannedTo, Starts, clear, blank, MaskFits}
+use Rattle.rulings.specs.stages.Sweeps.{sweepDown, sweepAcross, spotOf, planeOf, widenedLine, isThin, isRuling, Laid, ScannedBack, Cached, Marked, Unmarked, Walked}
 use Rattle.rulings.specs.declared.lines.Sweep.{Sweep}
 use Rattle.extents.proofs.MaskLaws.{dot-column, dot-row, dot-inside, isInk-maskOf}
 use Rattle.extents.proofs.OverLaws.{over-unique, part-filled}
@@ -50,6 +51,11 @@ range-split c d f x y v t k = go (decLe c k) (decLt k d) (decLt k f)
     go (no r) s u = rw (lt-leb c k (omega arith), lt-leb d k (omega arith)) refl
 
 -- Marks
+
+-- words that neither walk changed, where neither tells that it marked a dot
+pub still-both : (a b : Bool) (x y z : List ℕ) → (a ≡ false → y ≡ x) → (b ≡ false → z ≡ y) → (a || b) ≡ false → z ≡ x
+still-both true b x y z f k e = absurd (true≢false e)
+still-both false b x y z f k e = k e ∙ f refl
 
 module _ (g : Sweep) (n : ℕ) where
   -- nothing is marked where no dot passes the test
@@ -400,15 +406,20 @@ laid-down w h wide a b few =
       low = omega arith;
     }
 
-pub fit-across : (w h n k : ℕ) → PlaneFits w h n k → Laid (sweepAcross w h) n
+pub fit-across : (w h n k : ℕ) → MaskFits w h n k → Laid (sweepAcross w h) n
 fit-across w h n k F = subst (Laid (sweepAcross w h)) (sym (F .dots)) (laid-across w h (F .wide) (F .low) (F .narrow) (F .few))
 
-pub fit-down : (w h n k : ℕ) → PlaneFits w h n k → Laid (sweepDown w h) n
+pub fit-down : (w h n k : ℕ) → MaskFits w h n k → Laid (sweepDown w h) n
 fit-down w h n k F = subst (Laid (sweepDown w h)) (sym (F .dots)) (laid-down w h (F .wide) (F .low) (F .narrow) (F .few))
 
 -- marks of at most 2 everywhere
 pub unmarked-all : (g : Sweep) (n : ℕ) (marks : List ℕ) → Laid g n → n ≤ length marks → ((k : ℕ) → k < n → getD marks k 0 ≤ 2) → Unmarked g n marks 0
 unmarked-all g n marks L h z = record { room = h; small = λ i o l k x. z (spotOf g i o) (L .inside i o l k) }
+
+-- a mark that did not grow
+unmarked : (t : Bool) (v k : ℕ) → k ≡ k + cond t (suc v) 0 → t ≡ false
+unmarked true v k e = absurd (omega arith)
+unmarked false v k e = refl
 
 module _ (run-min thick-max w h : ℕ) (m : List ℕ) (wide : 0 < w) (size : length m ≡ w * h) where
   ink-past-rows : (x y : ℕ) → x < w → h ≤ y → ltb 0 (getD m (y * w + x) 0) ≡ false
@@ -493,6 +504,17 @@ module _ (run-min thick-max w h : ℕ) (m : List ℕ) (wide : 0 < w) (size : len
       over-unique (cutMark run-min thick-max w h m) (w * h) s e room (B .size ∙ (A .size ∙ q))
       (λ k l. let x = marked-across b e B' k l in let y = marked-down a b A' k l in let z = zeros k l in omega arith)
       (λ k l. B' .past k l ∙ (A' .past k l ∙ past k l))
+
+  -- no ruling where the walk marked nothing
+  pub blank-down : (a b : List ℕ) → Marked (sweepDown w h) (length m) (isRuling (sweepDown w h) m run-min thick-max) 2 a b 0 (w * h) → b ≡ a → Blank (cutVertical run-min thick-max w h m) (w * h)
+  blank-down a b A e k l =
+      let A' = subst (λ n. Marked (sweepDown w h) n (isRuling (sweepDown w h) m run-min thick-max) 2 a b 0 (w * h)) size A in
+      unmarked (isInk (cutVertical run-min thick-max w h m) k) 1 (getD a k 0) (ap (λ (s : List ℕ). getD s k 0) (sym e) ∙ marked-down a b A' k l)
+
+  pub blank-across : (a b : List ℕ) → Marked (sweepAcross w h) (length m) (isRuling (sweepAcross w h) m run-min thick-max) 1 a b 0 (h * w) → b ≡ a → Blank (cutHorizontal run-min thick-max w h m) (w * h)
+  blank-across a b A e k l =
+      let A' = subst (λ n. Marked (sweepAcross w h) n (isRuling (sweepAcross w h) m run-min thick-max) 1 a b 0 (h * w)) size A in
+      unmarked (isInk (cutHorizontal run-min thick-max w h m) k) 0 (getD a k 0) (ap (λ (s : List ℕ). getD s k 0) (sym e) ∙ marked-across a b A' k l)
 
 -- the marks are zeros, and what lies past them is as it was
 pub record Cleared (marks n : ℕ) (s t : List ℕ) : Type 0 where

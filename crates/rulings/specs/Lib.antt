@@ -1,4 +1,4 @@
--- thin rulings: the two cut masks and the ink after the cut
-pub mod Rulings
--- rows or columns walked alike
-pub mod Sweeps
+-- what a reader must believe
+pub mod rules
+-- what only the code's way needs
+pub mod stages

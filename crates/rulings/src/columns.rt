@@ -5,9 +5,10 @@ ghost use mathlib.Core.Bool.{cond, true, false, _||_};
 ghost use Prim.Native.Nat.{ℕ, _+_, _*_, _-_, _≤_, _<_, min};
 ghost use lib.ListN.{length, getD, set, take, drop};
 ghost use lib.Dec.{ltb};
-ghost use Rattle.extents.specs.Extents.{behind, ahead, runThrough};
-ghost use Rattle.rulings.specs.Sweeps.{spotOf, planeOf, widenedLine, isThin, isRuling, Laid, Marked, UpTo, Counted, CountedOn, Recounted, Risen};
+ghost use Rattle.extents.specs.rules.Extents.{behind, ahead, runThrough};
+ghost use Rattle.rulings.specs.stages.Sweeps.{spotOf, planeOf, widenedLine, isThin, isRuling, Laid, Marked, UpTo, Counted, CountedOn, Recounted, Risen};
 use crate::lines::Sweep;
+use crate::lines::Walk;
 use crate::lines::is_ink;
 use crate::lines::is_widened;
 use crate::lines::run_start;
@@ -16,7 +17,7 @@ use extents::fill;
 use extents::stretch_end;
 use memory::smaller;
 
-// Down every column, some stretches of columns at a time.
+// Down every column, some stretches of columns at a time. Answers whether a dot was marked.
 pub fn mark_columns(
     ink: &[u8],
     words: &mut [u32],
@@ -24,19 +25,23 @@ pub fn mark_columns(
     g: Sweep,
     run_min: u32,
     thick_max: u32,
-)
+) -> bool
     requires { ⌜ (Laid g (length (now ink))) × (g .across ≡ 1) × (0 < «run_min») × (UpTo g (length (now ink)) (drop marks (now words)) 2) × (g .outer ≤ marks) × (marks ≤ length (now words)) ⌝ }
-    ensures { λ _. ⌜ Marked g (length (now (ink .entry))) (isRuling g (now (ink .entry)) «run_min» «thick_max») 2 (drop marks (now (words .entry))) (drop marks (now (words .exit))) 0 (g .outer * g .inner) ⌝ }
+    ensures { λ r. ⌜ (Marked g (length (now (ink .entry))) (isRuling g (now (ink .entry)) «run_min» «thick_max») 2 (drop marks (now (words .entry))) (drop marks (now (words .exit))) 0 (g .outer * g .inner)) × (r ≡ false → drop marks (now (words .exit)) ≡ drop marks (now (words .entry))) ⌝ }
 {
     let outer = g.outer;
+    let mut found = false;
     let mut a: usize = 0;
     while a < outer {
-        a = mark_stretches(ink, words, marks, g, a, run_min, thick_max);
+        let walk = mark_stretches(ink, words, marks, g, a, run_min, thick_max);
+        a = walk.to;
+        found = found | walk.found;
     }
+    found
 }
 
 // The stretch from column a on, and those behind it that have a long run as it has: their rows are walked at once, dot after dot.
-// Without a long run no row is walked. Answers where the next stretch starts.
+// Without a long run no row is walked. Answers where the next stretch starts, and whether a dot was marked.
 fn mark_stretches(
     ink: &[u8],
     words: &mut [u32],
@@ -45,18 +50,21 @@ fn mark_stretches(
     a: usize,
     run_min: u32,
     thick_max: u32,
-) -> usize
+) -> Walk
     requires { ⌜ (Laid g (length (now ink))) × (g .across ≡ 1) × (a < g .outer) × (0 < «run_min») × (UpTo g (length (now ink)) (drop marks (now words)) 4) × (g .outer ≤ marks) × (marks ≤ length (now words)) ⌝ }
-    ensures { λ r. ⌜ (a < r) × (r ≤ g .outer) × (Risen g (now (ink .entry)) «run_min» «thick_max» a r 0 (g .inner) (drop marks (now (words .entry))) (drop marks (now (words .exit)))) ⌝ }
+    ensures { λ r. ⌜ (a < r .to) × (r .to ≤ g .outer) × (Risen g (now (ink .entry)) «run_min» «thick_max» a (r .to) 0 (g .inner) (drop marks (now (words .entry))) (drop marks (now (words .exit)))) × (r .found ≡ false → drop marks (now (words .exit)) ≡ drop marks (now (words .entry))) ⌝ }
 {
     let least = run_min as usize;
     let b = stretch_end(a, g.outer);
     if !any_long_run(ink, g, a, b, least) {
-        return b;
+        return Walk {
+            to: b,
+            found: false,
+        };
     }
     let end = long_end(ink, g, b, least);
-    mark_rows(ink, words, marks, g, a, end, run_min, thick_max);
-    end
+    let found = mark_rows(ink, words, marks, g, a, end, run_min, thick_max);
+    Walk { to: end, found }
 }
 
 // Where the stretches from column `from` on end that have a long run each.
@@ -76,7 +84,7 @@ fn long_end(ink: &[u8], g: Sweep, from: usize, run_min: usize) -> usize
     b
 }
 
-// Row by row; the counter of a column is the word of its number.
+// Row by row; the counter of a column is the word of its number. Answers whether a dot was marked, as those below do.
 fn mark_rows(
     ink: &[u8],
     words: &mut [u32],
@@ -86,17 +94,20 @@ fn mark_rows(
     b: usize,
     run_min: u32,
     thick_max: u32,
-)
+) -> bool
     requires { ⌜ (Laid g (length (now ink))) × (g .across ≡ 1) × (a < b) × (b ≤ g .outer) × (0 < «run_min») × (UpTo g (length (now ink)) (drop marks (now words)) 4) × (g .outer ≤ marks) × (marks ≤ length (now words)) ⌝ }
-    ensures { λ _. ⌜ Risen g (now (ink .entry)) «run_min» «thick_max» a b 0 (g .inner) (drop marks (now (words .entry))) (drop marks (now (words .exit))) ⌝ }
+    ensures { λ r. ⌜ (Risen g (now (ink .entry)) «run_min» «thick_max» a b 0 (g .inner) (drop marks (now (words .entry))) (drop marks (now (words .exit)))) × (r ≡ false → drop marks (now (words .exit)) ≡ drop marks (now (words .entry))) ⌝ }
 {
     let inner = g.inner;
     fill(&mut words[a..b], 0);
+    let mut found = false;
     let mut y: usize = 0;
     while y < inner {
-        mark_row(ink, words, marks, g, a, b, y, run_min, thick_max);
+        let here = mark_row(ink, words, marks, g, a, b, y, run_min, thick_max);
+        found = found | here;
         y += 1;
     }
+    found
 }
 
 // One row more.
@@ -110,14 +121,15 @@ fn mark_row(
     y: usize,
     run_min: u32,
     thick_max: u32,
-)
+) -> bool
     requires { ⌜ (Laid g (length (now ink))) × (g .across ≡ 1) × (a < b) × (b ≤ g .outer) × (y < g .inner) × (0 < «run_min») × (UpTo g (length (now ink)) (drop marks (now words)) 6) × (Counted g (now ink) a b y (now words)) × (g .outer ≤ marks) × (marks ≤ length (now words)) ⌝ }
-    ensures { λ _. ⌜ (Risen g (now (ink .entry)) «run_min» «thick_max» a b y (y + 1) (drop marks (now (words .entry))) (drop marks (now (words .exit)))) × (Counted g (now (ink .entry)) a b (y + 1) (now (words .exit))) ⌝ }
+    ensures { λ r. ⌜ (Risen g (now (ink .entry)) «run_min» «thick_max» a b y (y + 1) (drop marks (now (words .entry))) (drop marks (now (words .exit)))) × (Counted g (now (ink .entry)) a b (y + 1) (now (words .exit))) × (r ≡ false → drop marks (now (words .exit)) ≡ drop marks (now (words .entry))) ⌝ }
 {
     count_row(ink, words, g, a, b, y);
     if any_reached(words, a, b, run_min) {
-        mark_reached(ink, words, marks, g, a, b, y, run_min, thick_max);
+        return mark_reached(ink, words, marks, g, a, b, y, run_min, thick_max);
     }
+    false
 }
 
 // The columns of a row where some counter has reached run_min.
@@ -131,15 +143,18 @@ fn mark_reached(
     y: usize,
     run_min: u32,
     thick_max: u32,
-)
+) -> bool
     requires { ⌜ (Laid g (length (now ink))) × (a < b) × (b ≤ g .outer) × (y < g .inner) × (0 < «run_min») × (UpTo g (length (now ink)) (drop marks (now words)) 6) × (Counted g (now ink) a b (y + 1) (now words)) × (g .outer ≤ marks) × (marks ≤ length (now words)) ⌝ }
-    ensures { λ _. ⌜ (Risen g (now (ink .entry)) «run_min» «thick_max» a b y (y + 1) (drop marks (now (words .entry))) (drop marks (now (words .exit)))) × (take marks (now (words .exit)) ≡ take marks (now (words .entry))) ⌝ }
+    ensures { λ r. ⌜ (Risen g (now (ink .entry)) «run_min» «thick_max» a b y (y + 1) (drop marks (now (words .entry))) (drop marks (now (words .exit)))) × (take marks (now (words .exit)) ≡ take marks (now (words .entry))) × (r ≡ false → drop marks (now (words .exit)) ≡ drop marks (now (words .entry))) ⌝ }
 {
+    let mut found = false;
     let mut o = a;
     while o < b {
-        mark_place(ink, words, marks, g, o, y, run_min, thick_max);
+        let here = mark_place(ink, words, marks, g, o, y, run_min, thick_max);
+        found = found | here;
         o += 1;
     }
+    found
 }
 
 // One column in row y: its run is long and goes on, or gets long here, so that all of it is marked, or is not long.
@@ -152,19 +167,19 @@ fn mark_place(
     y: usize,
     run_min: u32,
     thick_max: u32,
-)
+) -> bool
     requires { ⌜ (Laid g (length (now ink))) × (o < g .outer) × (y < g .inner) × (0 < «run_min») × (UpTo g (length (now ink)) (drop marks (now words)) 8) × (getD (now words) o 0 ≡ behind (widenedLine g (now ink) o) (y + 1)) × (g .outer ≤ marks) × (marks ≤ length (now words)) ⌝ }
-    ensures { λ _. ⌜ (Risen g (now (ink .entry)) «run_min» «thick_max» o (o + 1) y (y + 1) (drop marks (now (words .entry))) (drop marks (now (words .exit)))) × (take marks (now (words .exit)) ≡ take marks (now (words .entry))) ⌝ }
+    ensures { λ r. ⌜ (Risen g (now (ink .entry)) «run_min» «thick_max» o (o + 1) y (y + 1) (drop marks (now (words .entry))) (drop marks (now (words .exit)))) × (take marks (now (words .exit)) ≡ take marks (now (words .entry))) × (r ≡ false → drop marks (now (words .exit)) ≡ drop marks (now (words .entry))) ⌝ }
 {
     let since = words[o];
     if run_min < since {
-        cut_places(ink, words, marks, g, o, y, y + 1, thick_max);
-        return;
+        return cut_places(ink, words, marks, g, o, y, y + 1, thick_max);
     }
     if since == run_min {
         let from = y + 1 - run_min as usize;
-        cut_places(ink, words, marks, g, o, from, y + 1, thick_max);
+        return cut_places(ink, words, marks, g, o, from, y + 1, thick_max);
     }
+    false
 }
 
 // The thin dots of column o from place `from` up to `to`.
@@ -177,15 +192,18 @@ fn cut_places(
     from: usize,
     to: usize,
     thick_max: u32,
-)
+) -> bool
     requires { ⌜ (Laid g (length (now ink))) × (o < g .outer) × (from ≤ to) × (to ≤ g .inner) × (UpTo g (length (now ink)) (drop marks (now words)) 8) × (marks ≤ length (now words)) ⌝ }
-    ensures { λ _. ⌜ (Marked g (length (now (ink .entry))) (isThin g (now (ink .entry)) «thick_max») 2 (drop marks (now (words .entry))) (drop marks (now (words .exit))) (o * g .inner + from) (o * g .inner + to)) × (take marks (now (words .exit)) ≡ take marks (now (words .entry))) ⌝ }
+    ensures { λ r. ⌜ (Marked g (length (now (ink .entry))) (isThin g (now (ink .entry)) «thick_max») 2 (drop marks (now (words .entry))) (drop marks (now (words .exit))) (o * g .inner + from) (o * g .inner + to)) × (take marks (now (words .exit)) ≡ take marks (now (words .entry))) × (r ≡ false → drop marks (now (words .exit)) ≡ drop marks (now (words .entry))) ⌝ }
 {
+    let mut found = false;
     let mut i = from;
     while i < to {
-        cut_place(ink, words, marks, g, i, o, thick_max);
+        let here = cut_place(ink, words, marks, g, i, o, thick_max);
+        found = found | here;
         i += 1;
     }
+    found
 }
 
 // One dot, marked where it is ink and thin across.
@@ -197,14 +215,16 @@ fn cut_place(
     i: usize,
     o: usize,
     thick_max: u32,
-)
+) -> bool
     requires { ⌜ (Laid g (length (now ink))) × (i < g .inner) × (o < g .outer) × (UpTo g (length (now ink)) (drop marks (now words)) 10) × (marks ≤ length (now words)) ⌝ }
-    ensures { λ _. ⌜ (drop marks (now (words .exit)) ≡ cond (isThin g (now (ink .entry)) «thick_max» i o) (set (drop marks (now (words .entry))) (spotOf g i o) (getD (drop marks (now (words .entry))) (spotOf g i o) 0 + 2)) (drop marks (now (words .entry)))) × (take marks (now (words .exit)) ≡ take marks (now (words .entry))) ⌝ }
+    ensures { λ r. ⌜ (drop marks (now (words .exit)) ≡ cond (isThin g (now (ink .entry)) «thick_max» i o) (set (drop marks (now (words .entry))) (spotOf g i o) (getD (drop marks (now (words .entry))) (spotOf g i o) 0 + 2)) (drop marks (now (words .entry)))) × (take marks (now (words .exit)) ≡ take marks (now (words .entry))) × (r ≡ false → drop marks (now (words .exit)) ≡ drop marks (now (words .entry))) ⌝ }
 {
     if is_thin(ink, g, i, o, thick_max) {
         let at = marks + spot(g, i, o);
         words[at] = words[at] + 2;
+        return true;
     }
+    false
 }
 
 // Whether a dot is ink and its extent across at most thick_max; no more than thick_max dots beside it are looked at.

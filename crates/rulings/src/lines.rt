@@ -2,17 +2,13 @@
 // places alike, with a step along the line and a step across it. Here lines are walked one by one; the columns are in columns.rt.
 ghost use mathlib.Core.Path.{_≡_};
 ghost use mathlib.Core.Bool.{cond, true, false};
-ghost use Prim.Native.Nat.{ℕ, _+_, _*_, _≤_, _<_};
+ghost use Prim.Native.Nat.{_+_, _*_, _≤_, _<_};
 ghost use lib.ListN.{length, getD, set, take, drop};
-ghost use lib.Dec.{leb};
-ghost use Rattle.memory.specs.Limits.{maxMaskDots};
-ghost use Rattle.extents.specs.Extents.{extent};
-ghost use Rattle.memory.specs.Lists.{table};
-ghost use Rattle.memory.specs.Words.{over};
-ghost use Rattle.rulings.specs.Rulings.{cutMark};
-ghost use Rattle.extents.specs.Scans.{ScannedTo, Starts};
-ghost use Rattle.rulings.specs.Sweeps.{RulingsRoom};
-ghost use Rattle.rulings.specs.Sweeps.{sweepDown, sweepAcross, spotOf, planeOf, widenedLine, isThin, isRuling, Laid, ScannedBack, Cached, Marked, Unmarked, Walked};
+ghost use Rattle.memory.specs.rules.Limits.{maxMaskDots};
+ghost use Rattle.extents.specs.rules.Extents.{extent};
+ghost use Rattle.rulings.specs.stages.Marks.{RulingsMarked};
+ghost use Rattle.extents.specs.stages.Scans.{ScannedTo, Starts};
+ghost use Rattle.rulings.specs.stages.Sweeps.{RulingsRoom, sweepDown, sweepAcross, spotOf, planeOf, widenedLine, isThin, isRuling, Laid, ScannedBack, Cached, Marked, Unmarked, Walked};
 use crate::columns::mark_columns;
 use extents::area;
 use extents::capped;
@@ -26,9 +22,21 @@ pub struct Sweep {
     pub outer: usize,
 }
 
+// How far a walk came, and whether it marked a dot.
+pub struct Walk {
+    pub to: usize,
+    pub found: bool,
+}
+
+// Whether a dot of each kind is cut: told false, none is.
+pub struct Found {
+    pub horizontal: bool,
+    pub vertical: bool,
+}
+
 // The two cut masks from the ink, a word a dot from word `marks` on: 1 in the horizontal mask, 2 in the vertical one, 3 in both. The
 // words before are worked in.
-pub fn thin_rulings(
+pub fn mark_rulings(
     ink: &[u8],
     width: u32,
     height: u32,
@@ -36,16 +44,16 @@ pub fn thin_rulings(
     thick_max: u32,
     words: &mut [u32],
     marks: usize,
-)
-    requires { ⌜ RulingsRoom width height «run_min» (length (now ink)) marks (length (now words)) ⌝ }
-    ensures { λ _. ⌜ (length (now (words .exit)) ≡ length (now (words .entry))) × (drop marks (now (words .exit)) ≡ over (table (cutMark «run_min» «thick_max» width height (now (ink .entry))) (width * height)) (drop marks (now (words .entry)))) ⌝ }
+) -> Found
+    requires { ⌜ (RulingsRoom width height (length (now ink)) marks (length (now words))) × (2 ≤ «run_min») ⌝ }
+    ensures { λ r. ⌜ RulingsMarked «run_min» «thick_max» width height (now (ink .entry)) marks (now (words .entry)) (now (words .exit)) r ⌝ }
 {
     let w = width as usize;
     let h = height as usize;
     let end = marks + area(width, height);
     fill(&mut words[marks..end], 0);
-    mark_columns(ink, words, marks, down(w, h), run_min, thick_max);
-    mark_lines(
+    let vertical = mark_columns(ink, words, marks, down(w, h), run_min, thick_max);
+    let horizontal = mark_lines(
         ink,
         words,
         marks,
@@ -54,6 +62,10 @@ pub fn thin_rulings(
         thick_max,
         1,
     );
+    Found {
+        horizontal,
+        vertical,
+    }
 }
 
 // The columns of a plane.
@@ -80,7 +92,7 @@ fn across(w: usize, h: usize) -> Sweep
     }
 }
 
-// Along every line.
+// Along every line. Answers whether a dot was marked, as those below do.
 fn mark_lines(
     ink: &[u8],
     words: &mut [u32],
@@ -89,18 +101,21 @@ fn mark_lines(
     run_min: usize,
     thick_max: u32,
     bit: u32,
-)
+) -> bool
     requires { ⌜ (Laid g (length (now ink))) × (0 < «run_min») × («run_min» ≤ 4294967295) × (bit ≤ 2) × (Unmarked g (length (now ink)) (drop marks (now words)) 0) × (g .inner + g .inner ≤ marks) × (marks ≤ length (now words)) ⌝ }
-    ensures { λ _. ⌜ Marked g (length (now (ink .entry))) (isRuling g (now (ink .entry)) «run_min» «thick_max») bit (drop marks (now (words .entry))) (drop marks (now (words .exit))) 0 (g .outer * g .inner) ⌝ }
+    ensures { λ r. ⌜ (Marked g (length (now (ink .entry))) (isRuling g (now (ink .entry)) «run_min» «thick_max») bit (drop marks (now (words .entry))) (drop marks (now (words .exit))) 0 (g .outer * g .inner)) × (r ≡ false → drop marks (now (words .exit)) ≡ drop marks (now (words .entry))) ⌝ }
 {
     let inner = g.inner;
     let outer = g.outer;
     fill(&mut words[0..inner], 0);
+    let mut found = false;
     let mut o: usize = 0;
     while o < outer {
-        mark_line(ink, words, marks, g, o, run_min, thick_max, bit);
+        let here = mark_line(ink, words, marks, g, o, run_min, thick_max, bit);
+        found = found | here;
         o += 1;
     }
+    found
 }
 
 // Along one line: each turn goes on to a place that no run reaches over.
@@ -113,15 +128,19 @@ fn mark_line(
     run_min: usize,
     thick_max: u32,
     bit: u32,
-)
+) -> bool
     requires { ⌜ (Laid g (length (now ink))) × (o < g .outer) × (0 < «run_min») × («run_min» ≤ 4294967295) × (bit ≤ 2) × (Unmarked g (length (now ink)) (drop marks (now words)) (o * g .inner)) × (Cached g (now ink) o (take marks (now words))) × (marks ≤ length (now words)) ⌝ }
-    ensures { λ _. ⌜ (Marked g (length (now (ink .entry))) (isRuling g (now (ink .entry)) «run_min» «thick_max») bit (drop marks (now (words .entry))) (drop marks (now (words .exit))) (o * g .inner) (o * g .inner + g .inner)) × (Cached g (now (ink .entry)) o (take marks (now (words .exit)))) ⌝ }
+    ensures { λ r. ⌜ (Marked g (length (now (ink .entry))) (isRuling g (now (ink .entry)) «run_min» «thick_max») bit (drop marks (now (words .entry))) (drop marks (now (words .exit))) (o * g .inner) (o * g .inner + g .inner)) × (Cached g (now (ink .entry)) o (take marks (now (words .exit)))) × (r ≡ false → drop marks (now (words .exit)) ≡ drop marks (now (words .entry))) ⌝ }
 {
     let inner = g.inner;
+    let mut found = false;
     let mut x: usize = 0;
     while x + run_min <= inner {
-        x = mark_from(ink, words, marks, g, o, x, run_min, thick_max, bit);
+        let walk = mark_from(ink, words, marks, g, o, x, run_min, thick_max, bit);
+        x = walk.to;
+        found = found | walk.found;
     }
+    found
 }
 
 // One turn: a run of at least run_min from x on covers the place run_min - 1 further, so the walk starts there, backwards.
@@ -135,17 +154,24 @@ fn mark_from(
     run_min: usize,
     thick_max: u32,
     bit: u32,
-) -> usize
+) -> Walk
     requires { ⌜ (Laid g (length (now ink))) × (o < g .outer) × (0 < «run_min») × (x + «run_min» ≤ g .inner) × (bit ≤ 2) × (Starts (widenedLine g (now ink) o) x) × (Unmarked g (length (now ink)) (drop marks (now words)) (o * g .inner + x)) × (Cached g (now ink) o (take marks (now words))) × (marks ≤ length (now words)) ⌝ }
-    ensures { λ r. ⌜ (Walked g (now (ink .entry)) «run_min» «thick_max» bit o x r (drop marks (now (words .entry))) (drop marks (now (words .exit)))) × (Cached g (now (ink .entry)) o (take marks (now (words .exit)))) ⌝ }
+    ensures { λ r. ⌜ (Walked g (now (ink .entry)) «run_min» «thick_max» bit o x (r .to) (drop marks (now (words .entry))) (drop marks (now (words .exit)))) × (Cached g (now (ink .entry)) o (take marks (now (words .exit)))) × (r .found ≡ false → drop marks (now (words .exit)) ≡ drop marks (now (words .entry))) ⌝ }
 {
     let probe = x + run_min;
     let start = run_start(ink, g, o, x, probe);
     if x < start {
-        return start;
+        return Walk {
+            to: start,
+            found: false,
+        };
     }
-    cut_run(ink, words, marks, g, o, x, probe, thick_max, bit);
-    cut_on(ink, words, marks, g, o, probe, thick_max, bit)
+    let found = cut_run(ink, words, marks, g, o, x, probe, thick_max, bit);
+    let walk = cut_on(ink, words, marks, g, o, probe, thick_max, bit);
+    Walk {
+        to: walk.to,
+        found: found | walk.found,
+    }
 }
 
 // The thin dots of a run, from place `from` up to `to`.
@@ -159,18 +185,21 @@ fn cut_run(
     to: usize,
     thick_max: u32,
     bit: u32,
-)
+) -> bool
     requires { ⌜ (Laid g (length (now ink))) × (o < g .outer) × (from ≤ to) × (to ≤ g .inner) × (bit ≤ 2) × (Unmarked g (length (now ink)) (drop marks (now words)) (o * g .inner + from)) × (Cached g (now ink) o (take marks (now words))) × (marks ≤ length (now words)) ⌝ }
-    ensures { λ _. ⌜ (Marked g (length (now (ink .entry))) (isThin g (now (ink .entry)) «thick_max») bit (drop marks (now (words .entry))) (drop marks (now (words .exit))) (o * g .inner + from) (o * g .inner + to)) × (Cached g (now (ink .entry)) o (take marks (now (words .exit)))) ⌝ }
+    ensures { λ r. ⌜ (Marked g (length (now (ink .entry))) (isThin g (now (ink .entry)) «thick_max») bit (drop marks (now (words .entry))) (drop marks (now (words .exit))) (o * g .inner + from) (o * g .inner + to)) × (Cached g (now (ink .entry)) o (take marks (now (words .exit)))) × (r ≡ false → drop marks (now (words .exit)) ≡ drop marks (now (words .entry))) ⌝ }
 {
+    let mut found = false;
     let mut i = from;
     while i < to {
-        cut_dot(ink, words, marks, g, i, o, thick_max, bit);
+        let here = cut_dot(ink, words, marks, g, i, o, thick_max, bit);
+        found = found | here;
         i += 1;
     }
+    found
 }
 
-// The thin dots of the run that goes on at `from`, up to its end, which is the answer: each place is looked at once.
+// The thin dots of the run that goes on at `from`, up to its end, which is told: each place is looked at once.
 fn cut_on(
     ink: &[u8],
     words: &mut [u32],
@@ -180,20 +209,22 @@ fn cut_on(
     from: usize,
     thick_max: u32,
     bit: u32,
-) -> usize
+) -> Walk
     requires { ⌜ (Laid g (length (now ink))) × (o < g .outer) × (from ≤ g .inner) × (bit ≤ 2) × (Unmarked g (length (now ink)) (drop marks (now words)) (o * g .inner + from)) × (Cached g (now ink) o (take marks (now words))) × (marks ≤ length (now words)) ⌝ }
-    ensures { λ r. ⌜ (ScannedTo (widenedLine g (now (ink .entry)) o) true from (g .inner) r) × (Marked g (length (now (ink .entry))) (isThin g (now (ink .entry)) «thick_max») bit (drop marks (now (words .entry))) (drop marks (now (words .exit))) (o * g .inner + from) (o * g .inner + r)) × (Cached g (now (ink .entry)) o (take marks (now (words .exit)))) ⌝ }
+    ensures { λ r. ⌜ (ScannedTo (widenedLine g (now (ink .entry)) o) true from (g .inner) (r .to)) × (Marked g (length (now (ink .entry))) (isThin g (now (ink .entry)) «thick_max») bit (drop marks (now (words .entry))) (drop marks (now (words .exit))) (o * g .inner + from) (o * g .inner + r .to)) × (Cached g (now (ink .entry)) o (take marks (now (words .exit)))) × (r .found ≡ false → drop marks (now (words .exit)) ≡ drop marks (now (words .entry))) ⌝ }
 {
     let inner = g.inner;
+    let mut found = false;
     let mut i = from;
     while i < inner {
         if !is_widened(ink, g, i, o) {
-            return i;
+            return Walk { to: i, found };
         }
-        cut_dot(ink, words, marks, g, i, o, thick_max, bit);
+        let here = cut_dot(ink, words, marks, g, i, o, thick_max, bit);
+        found = found | here;
         i += 1;
     }
-    i
+    Walk { to: i, found }
 }
 
 // One dot, marked where it is ink and thin across.
@@ -206,17 +237,19 @@ fn cut_dot(
     o: usize,
     thick_max: u32,
     bit: u32,
-)
+) -> bool
     requires { ⌜ (Laid g (length (now ink))) × (i < g .inner) × (o < g .outer) × (bit ≤ 2) × (length (now ink) ≤ length (drop marks (now words))) × (getD (drop marks (now words)) (spotOf g i o) 0 ≤ 2) × (Cached g (now ink) o (take marks (now words))) × (marks ≤ length (now words)) ⌝ }
-    ensures { λ _. ⌜ (drop marks (now (words .exit)) ≡ cond (isThin g (now (ink .entry)) «thick_max» i o) (set (drop marks (now (words .entry))) (spotOf g i o) (getD (drop marks (now (words .entry))) (spotOf g i o) 0 + bit)) (drop marks (now (words .entry)))) × (Cached g (now (ink .entry)) o (take marks (now (words .exit)))) ⌝ }
+    ensures { λ r. ⌜ (drop marks (now (words .exit)) ≡ cond (isThin g (now (ink .entry)) «thick_max» i o) (set (drop marks (now (words .entry))) (spotOf g i o) (getD (drop marks (now (words .entry))) (spotOf g i o) 0 + bit)) (drop marks (now (words .entry)))) × (Cached g (now (ink .entry)) o (take marks (now (words .exit)))) × (r ≡ false → drop marks (now (words .exit)) ≡ drop marks (now (words .entry))) ⌝ }
 {
     if is_ink(ink, g, i, o) {
         let thickness = extent_across(ink, &mut words[0..marks], g, i, o);
         if thickness <= thick_max {
             let at = marks + spot(g, i, o);
             words[at] = words[at] + bit;
+            return true;
         }
     }
+    false
 }
 
 // The extent of an ink dot across its line. Each run across is walked once: its end and its extent are kept by place.

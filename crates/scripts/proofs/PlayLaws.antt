@@ -8,8 +8,8 @@ use native.Mathlib.Omega.{arith}
 use lib.Dec.{T, eqb, leb}
 use lib.Ieee.{Float, fits, binary64}
 use lib.ListN.{length, take, drop, set, length-append}
-use Rattle.memory.specs.Records.{encoded}
-use Rattle.memory.specs.Words.{wordAt, over}
+use Rattle.memory.specs.rules.Records.{encoded}
+use Rattle.memory.specs.rules.Words.{wordAt, over}
 use Rattle.memory.proofs.RecordLaws.{length-encoded, record-more}
 use Rattle.params.specs.declared.LayoutParams.{LayoutParams}
 use Rattle.judging.specs.rules.Leaves.{Leaf}

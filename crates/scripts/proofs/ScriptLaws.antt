@@ -10,9 +10,9 @@ use lib.IntN.{ℤ}
 use lib.Ieee.{Float}
 use lib.ListN.{length, take, drop, take-append-drop}
 use lib.Seq.{length-take-le}
-use Rattle.memory.specs.Words.{wordAt, over}
+use Rattle.memory.specs.rules.Words.{wordAt, over}
 use Rattle.params.specs.declared.LayoutParams.{LayoutParams}
-use Rattle.labelling.specs.declared.rect.Rect.{Rect}
+use Rattle.memory.specs.declared.rect.Rect.{Rect}
 use Rattle.judging.specs.rules.Leaves.{leafOf}
 use Rattle.store.specs.rules.Readings.{LevelReading, ResultReading, Which}
 use Rattle.store.specs.rules.Readings.Output.{none, words, integers, floats}

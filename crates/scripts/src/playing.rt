@@ -5,7 +5,7 @@ ghost use Prim.Native.Nat.{ℕ, _+_, _*_, _≤_, min};
 ghost use lib.IntN.{ℤ};
 ghost use lib.Ieee.{Float};
 ghost use lib.ListN.{length};
-ghost use Rattle.memory.specs.Words.{wordAt};
+ghost use Rattle.memory.specs.rules.Words.{wordAt};
 ghost use Rattle.store.specs.rules.Answers.{outcomeNumber, answerNumber, answerValue};
 ghost use Rattle.store.specs.rules.Readings.{ResultReading};
 ghost use Rattle.store.specs.rules.Readings.Output.{words};

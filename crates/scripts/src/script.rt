@@ -1,7 +1,7 @@
 // What the words of a call name: parts of lent memory, floats, a sheet, a box. Every word is taken, whatever it is.
 ghost use mathlib.Core.Path.{_≡_};
 ghost use Prim.Native.Nat.{min};
-ghost use Rattle.memory.specs.Words.{wordAt};
+ghost use Rattle.memory.specs.rules.Words.{wordAt};
 ghost use Rattle.scripts.specs.rules.Scripts.{numberAt, bytesOf, sheetFrom, boxOf};
 use crate::words::BOTTOM;
 use crate::words::BYTES;
@@ -13,7 +13,7 @@ use crate::words::RIGHT;
 use crate::words::SHEET;
 use crate::words::TOP;
 use crate::words::XHEIGHT_AREA;
-use labelling::Rect;
+use memory::Rect;
 use memory::smaller;
 use memory::word_at;
 use params::LayoutParams;

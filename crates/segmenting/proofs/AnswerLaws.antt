@@ -6,24 +6,26 @@ use native.Mathlib.Omega.{arith}
 use borrow.Author.Tests.{lt-ltb, le-ltb}
 use lib.Dec.{ltb}
 use lib.ListN.{length}
-use Rattle.memory.specs.Lists.{table, greatest}
-use Rattle.memory.specs.Limits.{maxLines}
-use Rattle.memory.specs.Refusals.{refuseIf}
-use Rattle.memory.specs.Words.{over}
+use Rattle.memory.specs.rules.Lists.{table, greatest}
+use Rattle.memory.specs.rules.Limits.{maxLines}
+use Rattle.memory.specs.rules.Refusals.{refuseIf}
+use Rattle.memory.specs.rules.Words.{over}
 use Rattle.memory.proofs.TableLaws.{length-table}
 use Rattle.params.specs.declared.LayoutParams.{LayoutParams}
-use Rattle.sorting.specs.Scratch.{SortRoom, mostComponents}
-use Rattle.sorting.specs.Sorted.{sorted}
-use Rattle.sorting.specs.Sortings.{SortHeld}
-use Rattle.sorting.specs.Units.{unitValue}
+use Rattle.sorting.specs.stages.Scratch.{SortRoom}
+use Rattle.sorting.specs.rules.Capacity.{mostComponents}
+use Rattle.sorting.specs.rules.Sorted.{sorted}
+use Rattle.sorting.specs.stages.Sortings.{SortHeld}
+use Rattle.sorting.specs.rules.Units.{unitValue}
 use Rattle.sorting.specs.declared.sort.Sorting.{Sorting}
-use Rattle.grouping.specs.Blocks.{blockFirsts}
-use Rattle.grouping.specs.Layouts.{layout, layoutRefusal, textLine}
-use Rattle.segmenting.specs.Answers.{left, leftBy, segmented, SegmentRoom, SortedRoom}
-use Rattle.segmenting.specs.Results.{resultsLeft}
-use Rattle.smoothing.specs.Segments.{rowsOf, glyphsIn, linesIn, RowsHeld, SortedPage}
-use Rattle.segmenting.specs.Figures.{figuresOf}
-use Rattle.segmenting.specs.Writing.{boxesOfLines, ResultsRoom}
+use Rattle.grouping.specs.rules.Blocks.{blockFirsts}
+use Rattle.segmenting.specs.rules.Layouts.{layout, layoutRefusal, textLine}
+use Rattle.segmenting.specs.rules.Answers.{segmentOutcome, segmentOutcomeBy, segmentPlane}
+use Rattle.segmenting.specs.stages.Rooms.{SegmentRoom, SortedRoom}
+use Rattle.segmenting.specs.rules.Results.{resultsLeft}
+use Rattle.smoothing.specs.stages.Segments.{rowsOf, glyphsIn, linesIn, RowsHeld, SortedPage}
+use Rattle.segmenting.specs.rules.Figures.{figuresOf}
+use Rattle.segmenting.specs.stages.Writing.{boxesOfLines, ResultsRoom}
 use Rattle.segmenting.specs.declared.page.SegmentAnswer.the-variants.{Segmented, Refused}
 use Rattle.segmenting.specs.declared.results.Segmentation.{Segmentation}
 use Rattle.smoothing.specs.declared.rows.Rows.{Rows}
@@ -76,34 +78,34 @@ module _ (p : LayoutParams) (w h : ℕ) (m : List ℕ) (P : ℕ) where
       rw (le-ltb P (greatest (layout p w h m .components)) a) (rw (le-ltb maxLines (length (layout p w h m .lines)) (let e = many-lines in omega arith)) refl)
 
   module _ (results kinds : List ℕ) where
-    by-number : (n : ℕ) → layoutRefusal P (layout p w h m) ≡ n → leftBy n w P (layout p w h m) results kinds ≡ segmented p w h m P results kinds
-    unfolding segmented
-    by-number n e = ap (λ k. leftBy k w P (layout p w h m) results kinds) (sym e)
+    by-number : (n : ℕ) → layoutRefusal P (layout p w h m) ≡ n → segmentOutcomeBy n w P (layout p w h m) results kinds ≡ segmentPlane p w h m P results kinds
+    unfolding segmentPlane
+    by-number n e = ap (λ k. segmentOutcomeBy k w P (layout p w h m) results kinds) (sym e)
 
-    left-many : P < most → left (Refused 20) results kinds ≡ segmented p w h m P results kinds
-    unfolding leftBy
+    left-many : P < most → segmentOutcome (Refused 20) results kinds ≡ segmentPlane p w h m P results kinds
+    unfolding segmentOutcomeBy
     left-many l = by-number 20 (refused-many l)
 
     -- more than P components in a labelling of sorting
-    pub sorted-many : P < mostComponents (sorted p w h m) → left (Refused 20) results kinds ≡ segmented p w h m P results kinds
+    pub sorted-many : P < mostComponents (sorted p w h m) → segmentOutcome (Refused 20) results kinds ≡ segmentPlane p w h m P results kinds
     sorted-many l = left-many (let a = most-sorted in omega arith)
 
     -- more than P smoothed components
-    pub rows-refused : P < length (rowsOf p w h m .components) → left (Refused 20) results kinds ≡ segmented p w h m P results kinds
+    pub rows-refused : P < length (rowsOf p w h m .components) → segmentOutcome (Refused 20) results kinds ≡ segmentPlane p w h m P results kinds
     rows-refused l = left-many (let a = most-rows in omega arith)
 
     -- more lines than a page may have
     pub lines-refused : mostComponents (sorted p w h m) ≤ P → length (rowsOf p w h m .components) ≤ P → maxLines < length (linesIn p w h m)
-        → left (Refused 21) results kinds ≡ segmented p w h m P results kinds
-    unfolding leftBy
+        → segmentOutcome (Refused 21) results kinds ≡ segmentPlane p w h m P results kinds
+    unfolding segmentOutcomeBy
     lines-refused a b d = by-number 21 (refused-lines (most-few a b) d)
 
     -- none of these
     pub page-segmented : mostComponents (sorted p w h m) ≤ P → length (rowsOf p w h m .components) ≤ P → length (linesIn p w h m) ≤ maxLines
         → (f : Segmentation) (results' kinds' : List ℕ) → f ≡ figuresOf (layout p w h m) → results' ≡ resultsLeft w P (layout p w h m) results
-        → kinds' ≡ over (layout p w h m .kinds) kinds → left (Segmented f) results' kinds' ≡ segmented p w h m P results kinds
-    unfolding leftBy
-    page-segmented a b d f results' kinds' e₁ e₂ e₃ = (λ i. left (Segmented (e₁ i)) (e₂ i) (e₃ i)) ∙ by-number 0 (not-refused (most-few a b) d)
+        → kinds' ≡ over (layout p w h m .kinds) kinds → segmentOutcome (Segmented f) results' kinds' ≡ segmentPlane p w h m P results kinds
+    unfolding segmentOutcomeBy
+    page-segmented a b d f results' kinds' e₁ e₂ e₃ = (λ i. segmentOutcome (Segmented (e₁ i)) (e₂ i) (e₃ i)) ∙ by-number 0 (not-refused (most-few a b) d)
 
 -- What the stages ask
 

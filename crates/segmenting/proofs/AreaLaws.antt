@@ -9,20 +9,21 @@ use native.Mathlib.Omega.{arith}
 use borrow.Author.Tests.{eq-eqb, ne-eqb}
 use lib.ListN.{getD, length}
 use lib.Dec.{eqb}
-use Rattle.memory.specs.Lists.{upto, keep, countIf, occurs, total}
-use Rattle.memory.specs.Limits.{maxMaskDots}
+use Rattle.memory.specs.rules.Lists.{upto, keep, countIf, occurs, total}
+use Rattle.memory.specs.rules.Limits.{maxMaskDots}
 use Rattle.memory.proofs.CountLaws.{count-ext, occurs-table}
-use Rattle.memory.specs.Masks.{isInk}
-use Rattle.labelling.specs.Labels.{labelling}
-use Rattle.labelling.specs.Sizes.{HoldsSizes}
+use Rattle.memory.specs.rules.Masks.{isInk}
+use Rattle.labelling.specs.rules.Labels.{labelling}
+use Rattle.labelling.specs.stages.Sizes.{HoldsSizes}
 use Rattle.labelling.proofs.SizeLaws.{size-at}
 use Rattle.labelling.proofs.Theorems.{label-within, label-blank, records-right}
 use Rattle.params.specs.declared.LayoutParams.{LayoutParams}
-use Rattle.sorting.specs.Scratch.{inkAfterCut}
-use Rattle.sorting.specs.Sorted.{sorted, kindCounts}
+use Rattle.sorting.specs.stages.Scratch.{inkAfterCut}
+use Rattle.sorting.specs.rules.Sorted.{sorted, kindCounts}
 use Rattle.sorting.proofs.KindLaws.{kinds-add-up}
-use Rattle.segmenting.specs.Results.{heldKind, KindsHeld, ofKind, heldArea, paintedKind}
-use Rattle.grouping.proofs.CountLaws.{once}
+use Rattle.segmenting.specs.stages.Held.{heldKind, KindsHeld, ofKind, heldArea}
+use Rattle.segmenting.specs.stages.Painting.{paintedKind}
+use Rattle.memory.proofs.PlaceLaws.{once}
 use Rattle.segmenting.proofs.SortedWords.{kept-map, sorted-plane}
 
 -- Each dot is counted once, at its label
@@ -141,7 +142,7 @@ module _ (p : LayoutParams) (w h : ℕ) (m s : List ℕ) (sizes kinds : ℕ) (wi
       → occurs 1 (sorted p w h m .plane)
       + (heldArea s sizes kinds 2 (length (sorted p w h m .rest .components)) + (heldArea s sizes kinds 3 (length (sorted p w h m .rest .components)) + (heldArea s sizes kinds 4 (length (sorted p w h m .rest .components)) + heldArea s sizes kinds 5 (length (sorted p w h m .rest .components)))))
       ≡ occurs 1 m
-  unfolding kindCounts total
+  unfolding kindCounts
   sorted-cut e =
       let a = sorted-area 2 (omega arith) in
       let b = sorted-area 3 (omega arith) in

@@ -11,16 +11,17 @@ use borrow.Rule.Slice.PartMut.{putMid}
 use lib.ListN.{getD, length, take, drop, length-append, length-drop, length-map}
 use lib.Seq.{sets}
 use lib.Dec.{eqb}
-use Rattle.memory.specs.Lists.{table, upto, keep, total}
-use Rattle.memory.specs.Words.{over}
-use Rattle.memory.specs.Records.{encoded}
+use Rattle.memory.specs.rules.Lists.{table, upto, keep, total}
+use Rattle.memory.specs.rules.Words.{over}
+use Rattle.memory.specs.rules.Records.{encoded}
 use Rattle.memory.proofs.TableLaws.{length-table}
 use Rattle.memory.proofs.PartLaws.{tail-part, over-behind}
 use Rattle.memory.proofs.RecordLaws.{length-encoded, record-more}
-use Rattle.labelling.specs.declared.rect.Rect.{Rect}
-use Rattle.segmenting.specs.Results.{boxWords, heldBox, heldKind, ofKind, heldBoxes, heldArea, unpackedBox, unpackedBoxes, heldRules}
-use Rattle.grouping.proofs.ListLaws.{keep-snoc-yes, keep-snoc-no, upto-suc, map-append, keep-few}
-use Rattle.grouping.proofs.CountLaws.{count-length, count-below}
+use Rattle.memory.specs.declared.rect.Rect.{Rect}
+use Rattle.segmenting.specs.rules.Results.{boxWords}
+use Rattle.segmenting.specs.stages.Held.{heldBox, heldKind, ofKind, heldBoxes, heldArea, unpackedBox, unpackedBoxes, heldRules}
+use Rattle.memory.proofs.ListLaws.{keep-snoc-yes, keep-snoc-no, upto-suc, map-append, keep-few}
+use Rattle.memory.proofs.PlaceLaws.{count-length, count-below}
 use Rattle.grouping.proofs.TableWords.{over-length}
 
 pub four-words : (r : Rect) → length (boxWords r) ≡ 4

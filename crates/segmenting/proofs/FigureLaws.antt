@@ -4,11 +4,11 @@ use mathlib.Core.List.{List, [], _∷_}
 use Prim.Native.Nat.{ℕ, _≤_}
 use lib.Ieee.{Float}
 use lib.ListN.{length, set, length-set}
-use Rattle.memory.specs.Floats.{withFloat}
-use Rattle.memory.specs.Words.{over}
+use Rattle.memory.specs.rules.Floats.{withFloat}
+use Rattle.memory.specs.rules.Words.{over}
 use Rattle.memory.proofs.CopyLaws.{stores, stores-over}
-use Rattle.sorting.specs.Units.{unitValue}
-use Rattle.segmenting.specs.Figures.{figuresLength, measuredWord, figureWords}
+use Rattle.sorting.specs.rules.Units.{unitValue}
+use Rattle.segmenting.specs.rules.Figures.{figuresLength, measuredWord, figureWords}
 use Rattle.segmenting.specs.declared.results.Segmentation.{Segmentation}
 
 pub figures-long : (s t : List ℕ) (a : ℕ) (x : Float) → figuresLength ≤ length s → t ≡ withFloat (set s 0 a) 1 x → length t ≡ length s

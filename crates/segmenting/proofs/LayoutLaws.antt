@@ -9,48 +9,51 @@ use borrow.Author.Tests.{eqb-true}
 use lib.Dec.{eqb}
 use lib.Ieee.{Float}
 use lib.ListN.{getD, length, length-map, List·getD-eq-default}
-use Rattle.memory.specs.Lists.{table, upto, keep, occurs, total, greatest}
-use Rattle.memory.specs.Records.{encoded}
-use Rattle.memory.specs.Words.{over}
+use Rattle.memory.specs.rules.Lists.{table, upto, keep, occurs, total, greatest}
+use Rattle.memory.specs.rules.Records.{encoded}
+use Rattle.memory.specs.rules.Words.{over, putAt}
 use Rattle.memory.proofs.RecordLaws.{length-encoded}
 use Rattle.memory.proofs.TableLaws.{length-table, getD-table}
-use Rattle.labelling.specs.Components.{noDots, boxOf}
-use Rattle.memory.specs.Masks.{isInk}
-use Rattle.labelling.specs.Labels.{Labelling, labelling}
+use Rattle.labelling.specs.rules.Components.{noDots, boxOf}
+use Rattle.memory.specs.rules.Masks.{isInk}
+use Rattle.labelling.specs.rules.Labels.{Labelling, labelling}
 use Rattle.labelling.specs.declared.component.Component.{Component}
 use Rattle.labelling.proofs.SizeLaws.{component-boxed}
 use Rattle.labelling.proofs.Theorems.{label-within, label-blank}
 use Rattle.params.specs.declared.LayoutParams.{LayoutParams}
-use Rattle.sorting.specs.Kinds.{glyphKind}
-use Rattle.rounding.specs.Lengths.{_·_, dots}
-use Rattle.extents.specs.Extents.{Plane, maskOf}
-use Rattle.rulings.specs.Rulings.{afterCut}
-use Rattle.sorting.specs.Scratch.{horizontalAt, verticalAt, sizesAt, kindsAt, smoothedAt, glyphsAt, inkAfterCut}
-use Rattle.sorting.specs.Sorted.{sorted, rulesOf, graphicsOf, kindCounts}
-use Rattle.sorting.specs.Units.{unitValue}
+use Rattle.sorting.specs.rules.Kinds.{glyphKind}
+use Rattle.rounding.specs.rules.Lengths.{_·_, dots}
+use Rattle.extents.specs.rules.Extents.{Plane, maskOf}
+use Rattle.rulings.specs.rules.Rulings.{afterCut}
+use Rattle.sorting.specs.stages.Scratch.{horizontalAt, verticalAt, sizesAt, kindsAt, smoothedAt, glyphsAt, inkAfterCut}
+use Rattle.sorting.specs.rules.Sorted.{sorted, rulesOf, graphicsOf, kindCounts}
+use Rattle.sorting.specs.rules.Units.{unitValue}
 use Rattle.sorting.specs.declared.sort.Sorting.{Sorting}
 use Rattle.sorting.proofs.PlanLaws.{frame-of, plan-dots, plan-across, plan-down, plan-runs}
 use Rattle.sorting.proofs.ComponentLaws.{areas-ink}
-use Rattle.smoothing.specs.LineWords.{glyphsOf, kindWord, HoldsGlyphs, HoldsRows}
-use Rattle.grouping.specs.Blocks.{opensBlock, blockOf, blockFirsts, blocksOf}
-use Rattle.grouping.specs.Columns.{cover, covered, columnsOf}
-use Rattle.grouping.specs.Lines.{LabelledGlyph, firstDot, SmoothedLine, keptLines}
-use Rattle.grouping.specs.Smoothing.{smoothingGap, smoothed}
-use Rattle.grouping.specs.Words.{Inside, glyphRecord, putAt}
-use Rattle.segmenting.specs.Results.{rulesAt, graphicsAt, glyphRecordsAt, boxWords, resultsLeft, heldArea, KindsHeld, paintedKind, Paintable, unpackedBoxes}
-use Rattle.grouping.specs.Layouts.{layout, textLine, glyphBox}
-use Rattle.smoothing.specs.Segments.{rowsOf, glyphsIn, linesIn, glyphLabel, HoldsPage}
+use Rattle.smoothing.specs.stages.LineWords.{glyphsOf, kindWord, HoldsGlyphs, HoldsRows}
+use Rattle.grouping.specs.rules.Blocks.{opensBlock, blockOf, blockFirsts, blocksOf}
+use Rattle.grouping.specs.rules.Columns.{cover, covered, columnsOf}
+use Rattle.smoothing.specs.rules.Lines.{LabelledGlyph, firstDot, SmoothedLine, keptLines, glyphBox}
+use Rattle.smoothing.specs.rules.Smoothing.{smoothingGap, smoothed}
+use Rattle.grouping.specs.stages.LineBoxes.{Inside}
+use Rattle.smoothing.specs.rules.LineRecords.{glyphRecord}
+use Rattle.segmenting.specs.rules.Results.{rulesAt, graphicsAt, glyphRecordsAt, boxWords, resultsLeft}
+use Rattle.segmenting.specs.stages.Held.{heldArea, KindsHeld, unpackedBoxes}
+use Rattle.segmenting.specs.stages.Painting.{paintedKind, Paintable}
+use Rattle.segmenting.specs.rules.Layouts.{layout, textLine}
+use Rattle.smoothing.specs.stages.Segments.{rowsOf, glyphsIn, linesIn, glyphLabel, HoldsPage}
 use Rattle.smoothing.specs.declared.rows.Rows.{Rows}
-use Rattle.segmenting.specs.Figures.{figuresOf}
-use Rattle.segmenting.specs.Writing.{rulesRead, graphicsRead, BoxRoom, LinesHeld, linesLeft, boxesOfLines, GroupRoom, groupsLeft, countedFigures, ResultsRoom}
+use Rattle.segmenting.specs.rules.Figures.{figuresOf}
+use Rattle.segmenting.specs.stages.Writing.{rulesRead, graphicsRead, BoxRoom, LinesHeld, linesLeft, boxesOfLines, GroupRoom, groupsLeft, countedFigures, ResultsRoom}
 use Rattle.segmenting.specs.declared.groups.GroupCounts.{GroupCounts}
 use Rattle.segmenting.specs.declared.lists.BoxCounts.{BoxCounts}
 use Rattle.segmenting.specs.declared.results.KindDots.{KindDots}
 use Rattle.segmenting.proofs.AreaLaws.{sorted-area, sorted-cut}
 use Rattle.smoothing.proofs.LineLaws.{labelled-glyphs}
 use Rattle.grouping.proofs.ColumnWords.{runs-few}
-use Rattle.grouping.proofs.ListLaws.{keep-few}
-use Rattle.grouping.proofs.TableWords.{occurs-length}
+use Rattle.memory.proofs.ListLaws.{keep-few}
+use Rattle.memory.proofs.PlaceLaws.{occurs-length}
 use Rattle.segmenting.proofs.BoxLaws.{boxes-few, rules-few}
 use Rattle.segmenting.proofs.PutLaws.{put-long}
 use Rattle.segmenting.proofs.WritingLaws.{groups-ask}

@@ -20,3 +20,11 @@ pub mod LayoutLaws
 pub mod AnswerLaws
 -- the figures stored
 pub mod FigureLaws
+-- the words of the lines once the blocks are set
+pub mod BlockedLines
+-- one name that opens every definition, for what is computed
+pub mod Computed
+-- document 01's starred cases, as one table
+pub mod StarredCases
+-- document 01's printed leaf
+pub mod SampleLeaf

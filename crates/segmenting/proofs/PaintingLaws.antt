@@ -7,17 +7,18 @@ use native.Mathlib.Nat.{le-refl}
 use native.Mathlib.Omega.{arith}
 use borrow.Rule.Slice.PartMut.{putMid, same-len-mid}
 use lib.ListN.{getD, length, take, drop, length-take, length-drop}
-use Rattle.memory.specs.Lists.{table}
-use Rattle.memory.specs.Words.{over}
+use Rattle.memory.specs.rules.Lists.{table}
+use Rattle.memory.specs.rules.Words.{over}
 use Rattle.memory.proofs.TableLaws.{length-table, table-ext}
 use Rattle.memory.proofs.PartLaws.{over-all, part-is-table, part-filled}
-use Rattle.memory.specs.Masks.{isInk}
-use Rattle.labelling.specs.Labels.{labelling}
-use Rattle.labelling.specs.InkRuns.{startOf, endOf}
+use Rattle.memory.specs.rules.Masks.{isInk}
+use Rattle.labelling.specs.rules.Labels.{labelling}
+use Rattle.labelling.specs.stages.InkRuns.{startOf, endOf}
 use Rattle.labelling.proofs.Theorems.{label-within}
 use Rattle.labelling.proofs.RunLabelLaws.{gap-blank}
 use Rattle.labelling.proofs.SizeLaws.{held-runs, held-start, held-end, run-label}
-use Rattle.segmenting.specs.Results.{heldKind, paintedKind, PaintedTo, RunPaintable, RunPainted, Paintable}
+use Rattle.segmenting.specs.stages.Held.{heldKind}
+use Rattle.segmenting.specs.stages.Painting.{paintedKind, PaintedTo, RunPaintable, RunPainted, Paintable}
 use Rattle.grouping.proofs.TableWords.{over-table}
 
 -- The next part is copied from the ink

@@ -6,9 +6,8 @@ use native.Mathlib.Omega.{arith}
 use lib.ListN.{length, take, drop, length-append, length-take, length-drop}
 use lib.Seq.{take-at, drop-at, drop-drop, take-add, take-append-seam, drop-append-seam, length-take-le}
 use borrow.Rule.Slice.PartMut.{putMid}
-use Rattle.memory.specs.Words.{over}
+use Rattle.memory.specs.rules.Words.{over, putAt}
 use Rattle.memory.proofs.PartLaws.{tail-part, tail-put}
-use Rattle.grouping.specs.Words.{putAt}
 
 -- the part from `a` on
 pub part-length : (a : ℕ) (s : List ℕ) → length (take (length s - a) (drop a s)) ≡ length s - a

@@ -8,26 +8,31 @@ use lib.Ieee.{Float}
 use lib.ListN.{getD, length, take, drop, length-append, length-drop}
 use lib.Seq.{take-at, drop-at, length-take-le}
 use borrow.Rule.Slice.PartMut.{putMid}
-use Rattle.memory.specs.Lists.{table}
-use Rattle.memory.specs.Records.{encoded}
-use Rattle.memory.specs.Words.{over}
+use Rattle.memory.specs.rules.Lists.{table}
+use Rattle.memory.specs.rules.Records.{encoded}
+use Rattle.memory.specs.rules.Words.{over, putAt}
 use Rattle.memory.proofs.PartLaws.{tail-part, tail-put}
 use Rattle.memory.proofs.RecordLaws.{length-encoded}
 use Rattle.memory.proofs.TableLaws.{length-table, getD-table, table-ext}
-use Rattle.labelling.specs.declared.rect.Rect.{Rect}
+use Rattle.memory.specs.declared.rect.Rect.{Rect}
 use Rattle.params.specs.declared.LayoutParams.{LayoutParams}
-use Rattle.sorting.specs.Scratch.{horizontalAt, verticalAt, sizesAt, kindsAt}
-use Rattle.grouping.specs.Blocks.{Block, noRect, blockFirsts, blockNumber, blocksOf}
-use Rattle.grouping.specs.Columns.{columnsOf}
-use Rattle.grouping.specs.Layouts.{TextLine, textLine}
-use Rattle.grouping.specs.Lines.{SmoothedLine}
-use Rattle.grouping.specs.Numbering.{withBlocks}
-use Rattle.segmenting.specs.Results.{rulesAt, graphicsAt, linesAt, blocksAt, boxWords}
-use Rattle.segmenting.specs.Writing.{rulesRead, graphicsRead, BoxRoom, BoxesLeft, plainLine, plainRecords, boxesOfLines, GroupRoom, groupsLeft}
-use Rattle.grouping.specs.Words.{Inside, Lines, ByTop, Groupable, lineBox, lineBoxes, lineRecord, blockRecord, columnRecord, putAt}
-use Rattle.grouping.proofs.BlockLaws.{getD-map}
+use Rattle.sorting.specs.stages.Scratch.{horizontalAt, verticalAt, sizesAt, kindsAt}
+use Rattle.grouping.specs.rules.Blocks.{Block, noRect, blockFirsts, blockNumber, blocksOf}
+use Rattle.grouping.specs.rules.Columns.{columnsOf}
+use Rattle.smoothing.specs.rules.Lines.{TextLine, SmoothedLine}
+use Rattle.segmenting.specs.rules.Layouts.{textLine}
+use Rattle.grouping.specs.stages.Numbering.{withBlocks}
+use Rattle.segmenting.specs.rules.Results.{rulesAt, graphicsAt, linesAt, blocksAt, boxWords}
+use Rattle.smoothing.specs.stages.LineWords.{plainLine}
+use Rattle.segmenting.specs.stages.Writing.{rulesRead, graphicsRead, BoxRoom, BoxesLeft, plainRecords, boxesOfLines, GroupRoom, groupsLeft}
+use Rattle.grouping.specs.stages.LineBoxes.{Inside, Lines, ByTop, Groupable, lineBoxes}
+use Rattle.grouping.specs.rules.HeldLines.{lineBox}
+use Rattle.smoothing.specs.rules.LineRecords.{lineRecord}
+use Rattle.grouping.specs.rules.BlockRecords.{blockRecord, columnRecord}
+use Rattle.memory.proofs.ListLaws.{getD-map}
 use Rattle.segmenting.proofs.BoxLaws.{length-boxes, boxes-few, rules-few}
-use Rattle.smoothing.proofs.LineRecords.{blocks-set, text-lines, record-boxes, plain-boxes}
+use Rattle.segmenting.proofs.BlockedLines.{blocks-set, text-lines, record-boxes}
+use Rattle.smoothing.proofs.LineRecords.{plain-boxes}
 use Rattle.segmenting.proofs.PutLaws.{part-length, put-part, put-long, put-before, put-behind, over-put}
 
 -- Rules and graphics

@@ -9,29 +9,29 @@ use lib.ListN.{getD, length, take, drop, length-map}
 use lib.Seq.{ext-getD, getD-take, getD-drop}
 use lib.Dec.{eqb, ltb}
 use lib.Ieee.{Float}
-use Rattle.memory.specs.Lists.{table, upto, keep, total}
-use Rattle.memory.specs.Records.{encoded}
-use Rattle.memory.specs.Limits.{maxMaskDots}
+use Rattle.memory.specs.rules.Lists.{table, upto, keep, total}
+use Rattle.memory.specs.rules.Records.{encoded}
+use Rattle.memory.specs.rules.Limits.{maxMaskDots}
 use Rattle.memory.proofs.TableLaws.{length-table, getD-table, table-ext}
 use Rattle.memory.proofs.RecordLaws.{record-at}
-use Rattle.labelling.specs.Components.{noDots, boxOf}
-use Rattle.memory.specs.Masks.{isInk}
-use Rattle.labelling.specs.Labels.{labelling}
-use Rattle.labelling.specs.Sizes.{HoldsSizes}
-use Rattle.labelling.specs.declared.rect.Rect.{Rect}
+use Rattle.labelling.specs.rules.Components.{noDots, boxOf}
+use Rattle.memory.specs.rules.Masks.{isInk}
+use Rattle.labelling.specs.rules.Labels.{labelling}
+use Rattle.labelling.specs.stages.Sizes.{HoldsSizes}
+use Rattle.memory.specs.declared.rect.Rect.{Rect}
 use Rattle.labelling.specs.declared.component.Component.{Component}
 use Rattle.labelling.proofs.SizeLaws.{size-at, component-boxed}
 use Rattle.labelling.proofs.Theorems.{label-within, label-blank}
 use Rattle.params.specs.declared.LayoutParams.{LayoutParams}
-use Rattle.sorting.specs.Kinds.{kindOf, kindAt, ruleKind}
-use Rattle.rulings.specs.Rulings.{runMin, thickMax, cutHorizontal, cutVertical, afterCut}
-use Rattle.sorting.specs.Units.{unitOf, unitValue}
-use Rattle.sorting.specs.Scratch.{packed, inkAfterCut}
-use Rattle.sorting.specs.Sorted.{sorted, boxesOf, rulesOf}
+use Rattle.sorting.specs.rules.Kinds.{kindOf, kindAt, ruleKind}
+use Rattle.rulings.specs.rules.Rulings.{runMin, thickMax, cutHorizontal, cutVertical, afterCut}
+use Rattle.sorting.specs.rules.Units.{unitOf, unitValue}
+use Rattle.sorting.specs.stages.Scratch.{packed, inkAfterCut}
+use Rattle.sorting.specs.rules.Sorted.{sorted, boxesOf, rulesOf}
 use Rattle.rulings.proofs.RulingMasks.{horizontal-blank, vertical-blank, afterCut-ink}
-use Rattle.segmenting.specs.Results.{heldBox, heldKind, KindsHeld, ofKind, heldBoxes, heldArea, unpackedBox, unpackedBoxes, heldRules, paintedKind}
-use Rattle.grouping.proofs.BlockLaws.{getD-map}
-use Rattle.grouping.proofs.ListLaws.{keep-snoc-yes, keep-snoc-no, map-append}
+use Rattle.segmenting.specs.stages.Held.{heldBox, heldKind, KindsHeld, ofKind, heldBoxes, heldArea, unpackedBox, unpackedBoxes, heldRules}
+use Rattle.segmenting.specs.stages.Painting.{paintedKind}
+use Rattle.memory.proofs.ListLaws.{getD-map, keep-snoc-yes, keep-snoc-no, map-append}
 
 -- Components of a kind
 

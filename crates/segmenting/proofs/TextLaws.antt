@@ -1,24 +1,25 @@
 -- Glyphs and lines ordered and written: what each call asks and what all leave, by the counts and the words that the code has.
 use mathlib.Core.Path.{_≡_, sym, ap, _∙_, subst}
 use mathlib.Core.List.{List, map}
-use Prim.Native.Nat.{ℕ, suc, _+_, _-_}
+use Prim.Native.Nat.{ℕ, suc, _-_}
 use native.Mathlib.Omega.{arith}
 use lib.Ieee.{Float}
 use lib.ListN.{length, take, drop}
 use borrow.Rule.Slice.PartMut.{putMid}
-use Rattle.memory.specs.Lists.{upto, indexFrom}
-use Rattle.memory.specs.Limits.{noLine}
-use Rattle.memory.specs.Records.{encoded}
-use Rattle.memory.specs.Words.{over}
+use Rattle.memory.specs.rules.Lists.{upto, indexFrom}
+use Rattle.memory.specs.rules.Limits.{noLine}
+use Rattle.memory.specs.rules.Records.{encoded}
+use Rattle.memory.specs.rules.Words.{over, putAt}
 use Rattle.labelling.specs.declared.component.Component.{Component}
 use Rattle.params.specs.declared.LayoutParams.{LayoutParams}
-use Rattle.sorting.specs.Scratch.{horizontalAt, verticalAt, sizesAt, kindsAt, smoothedAt, glyphsAt}
-use Rattle.grouping.specs.Layouts.{glyphBox}
-use Rattle.grouping.specs.Lines.{keptLines}
-use Rattle.grouping.specs.Words.{glyphRecord, putAt}
-use Rattle.smoothing.specs.LineWords.{glyphsOf, Filled, lineRows, OrderRoom, orderedRow, OrderedLines, NumberRoom, orderAt, GlyphRoom, WrittenGlyphs, lineRecordAt, LinesRoom}
-use Rattle.segmenting.specs.Results.{glyphRecordsAt, linesAt}
-use Rattle.segmenting.specs.Writing.{plainRecords, LinesHeld, LinesOrdered, linesLeft}
+use Rattle.sorting.specs.stages.Scratch.{horizontalAt, verticalAt, sizesAt, kindsAt, smoothedAt, glyphsAt}
+use Rattle.smoothing.specs.rules.Lines.{glyphBox, keptLines}
+use Rattle.smoothing.specs.rules.LineRecords.{glyphRecord}
+use Rattle.smoothing.specs.stages.LineWords.{glyphsOf, Filled, lineRows, OrderRoom, orderedRow, OrderedLines, NumberRoom, orderAt, GlyphRoom, WrittenGlyphs}
+use Rattle.smoothing.specs.stages.GlyphLists.{recordAt, LinesRoom}
+use Rattle.smoothing.specs.declared.lines.LinePlaces.{LinePlaces}
+use Rattle.segmenting.specs.rules.Results.{glyphRecordsAt, linesAt}
+use Rattle.segmenting.specs.stages.Writing.{plainRecords, LinesHeld, LinesOrdered, linePlaces, linesLeft}
 use Rattle.segmenting.proofs.PutLaws.{part-length, put-part}
 use Rattle.segmenting.proofs.WritingLaws.{order-ask, number-ask, lines-ordered, glyphs-ask, glyphs-count, glyphs-records, lines-ask, lines-records}
 
@@ -52,16 +53,16 @@ module _ {p : LayoutParams} {unit : Float} {cs : List Component} {ks : List ℕ}
         let f = H .few-components in
         subst (λ k. GlyphRoom (sizesAt dots P) (kindsAt dots P) k (verticalAt dots P) s₂ (length part)) (sym d) (glyphs-ask H L (length part) (omega arith))
 
-    pub text-lines : (results : List ℕ) → length results ≡ out
-        → LinesRoom (horizontalAt dots) n 0 (h + 1) (sizesAt dots P) (kindsAt dots P) m (smoothedAt dots P) (glyphsAt dots P) s₂ (length (take (length results - linesAt w P) (drop (linesAt w P) results)))
-    text-lines results q =
+    pub text-lines : {k : ℕ} → k ≡ length rows → (places : LinePlaces) → places ≡ linePlaces h dots P m k → (results : List ℕ) → length results ≡ out
+        → LinesRoom places n s₂ (length (take (length results - linesAt w P) (drop (linesAt w P) results)))
+    text-lines {k} e places z results q =
         let part = take (length results - linesAt w P) (drop (linesAt w P) results) in
         let a = part-length (linesAt w P) results in
         let b = H .results-room in
         let f = H .few-rows in
         let g = L .few in
-        subst (λ k. LinesRoom (horizontalAt dots) n 0 (h + 1) (sizesAt dots P) (kindsAt dots P) k (smoothedAt dots P) (glyphsAt dots P) s₂ (length part)) (sym d)
-        (lines-ask H L (length part) (omega arith))
+        let same : linePlaces h dots P (length cs) (length rows) ≡ places = sym (z ∙ (λ i. linePlaces h dots P (d i) (e i))) in
+        subst (λ (y : LinePlaces). LinesRoom y n s₂ (length part)) same (lines-ask H L (length part) (omega arith))
 
     -- what both leave
     module _ (results : List ℕ) {part : List ℕ} {found : ℕ}
@@ -79,13 +80,13 @@ module _ {p : LayoutParams} {unit : Float} {cs : List Component} {ks : List ℕ}
           put-part (glyphRecordsAt w P) results (encoded glyphRecord (map (glyphBox (keptLines p unit (glyphsOf cs ks labels) rows)) (glyphsOf cs ks labels))) part
           (written .words ∙ ap (λ (z : List ℕ). over z (take (length results - glyphRecordsAt w P) (drop (glyphRecordsAt w P) results))) (glyphs-records H L))
 
-      pub text-left : (one last : List ℕ) → one ≡ putMid (glyphRecordsAt w P) (length results - glyphRecordsAt w P) results part
-          → last
-          ≡ over (encoded (λ i. lineRecordAt s₂ (smoothedAt dots P) (glyphsAt dots P) (sizesAt dots P) (kindsAt dots P) m (orderedRow s₂ (horizontalAt dots) i)) (upto n))
-          (take (length one - linesAt w P) (drop (linesAt w P) one))
+      pub text-left : {k : ℕ} (places : LinePlaces) → places ≡ linePlaces h dots P m k → (one last : List ℕ)
+          → one ≡ putMid (glyphRecordsAt w P) (length results - glyphRecordsAt w P) results part
+          → last ≡ over (encoded (λ i. recordAt places s₂ (orderedRow s₂ (places .order) i)) (upto n)) (take (length one - linesAt w P) (drop (linesAt w P) one))
           → putMid (linesAt w P) (length one - linesAt w P) one last ≡ linesLeft w P (glyphsOf cs ks labels) (keptLines p unit (glyphsOf cs ks labels) rows) results
-      text-left one last q F =
-          let records = ap (λ k. encoded (λ i. lineRecordAt s₂ (smoothedAt dots P) (glyphsAt dots P) (sizesAt dots P) (kindsAt dots P) k (orderedRow s₂ (horizontalAt dots) i)) (upto n)) d ∙ lines-records H L in
+      text-left {k} places z one last q F =
+          let own : places ≡ linePlaces h dots P (length cs) k = z ∙ ap (λ j. linePlaces h dots P j k) d in
+          let records = ap (λ (y : LinePlaces). encoded (λ i. recordAt y s₂ (orderedRow s₂ (y .order) i)) (upto n)) own ∙ lines-records H L in
           put-part (linesAt w P) one (plainRecords (keptLines p unit (glyphsOf cs ks labels) rows)) last
-          (F ∙ ap (λ (z : List ℕ). over z (take (length one - linesAt w P) (drop (linesAt w P) one))) records)
+          (F ∙ ap (λ (y : List ℕ). over y (take (length one - linesAt w P) (drop (linesAt w P) one))) records)
           ∙ ap (putAt (linesAt w P) (plainRecords (keptLines p unit (glyphsOf cs ks labels) rows))) (q ∙ glyphs-put)

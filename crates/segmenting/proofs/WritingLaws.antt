@@ -1,5 +1,5 @@
 -- Glyphs and lines of a page in scratch: what ordering and writing them asks and leaves.
-use mathlib.Core.Path.{_≡_, refl, sym, ap, _∙_, subst}
+use mathlib.Core.Path.{_≡_, sym, ap, _∙_, subst}
 use mathlib.Core.Bool.{Bool, true, false, cond}
 use mathlib.Core.List.{List, map}
 use Prim.Native.Nat.{ℕ, suc, _+_, _-_, _*_, _≤_, _<_}
@@ -7,31 +7,28 @@ use native.Mathlib.Omega.{arith}
 use lib.Dec.{eqb}
 use lib.Ieee.{Float}
 use lib.ListN.{getD, length, take, drop, length-map, List·getD-map}
-use Rattle.memory.specs.Lists.{table, upto, total, indexFrom}
-use Rattle.memory.specs.Limits.{noLine, maxFrameWidth}
-use Rattle.memory.specs.Records.{encoded}
-use Rattle.memory.specs.Words.{over}
-use Rattle.memory.proofs.RecordLaws.{length-encoded}
-use Rattle.memory.proofs.TableLaws.{length-table}
-use Rattle.labelling.specs.Components.{noDots, boxOf}
-use Rattle.labelling.specs.declared.rect.Rect.{Rect}
+use Rattle.memory.specs.rules.Lists.{table, upto, total, indexFrom}
+use Rattle.memory.specs.rules.Limits.{noLine, maxFrameWidth}
+use Rattle.memory.specs.rules.Records.{encoded}
+use Rattle.memory.specs.rules.Words.{putAt}
+use Rattle.labelling.specs.rules.Components.{noDots, boxOf}
 use Rattle.labelling.specs.declared.component.Component.{Component}
 use Rattle.params.specs.declared.LayoutParams.{LayoutParams}
-use Rattle.sorting.specs.Kinds.{glyphKind}
-use Rattle.sorting.specs.Scratch.{horizontalAt, verticalAt, sizesAt, kindsAt, smoothedAt, glyphsAt}
-use Rattle.grouping.specs.Layouts.{glyphBox}
-use Rattle.grouping.specs.Lines.{LabelledGlyph, SmoothedLine, smoothedLine, keptLines, lineNumber}
-use Rattle.smoothing.specs.LineWords.{glyphsOf, Filled, labelAt, boxAt, lineRows, RowRoom, OrderRoom, orderedRow, OrderedLines, NumberRoom, orderAt, areaAt, glyphsAmong, glyphRecordAt, GlyphRoom, WrittenGlyphs, lineRecordAt, OwnRoom, KeptFrom, LinesRoom, HoldsGlyphs, HoldsRows}
-use Rattle.segmenting.specs.Results.{linesAt}
-use Rattle.segmenting.specs.Writing.{plainLine, plainRecords, LinesHeld, LinesOrdered, GroupRoom}
-use Rattle.grouping.specs.Words.{Inside, lineRecord, glyphRecord, putAt}
+use Rattle.sorting.specs.rules.Kinds.{glyphKind}
+use Rattle.sorting.specs.stages.Scratch.{horizontalAt, verticalAt, sizesAt, kindsAt, smoothedAt, glyphsAt}
+use Rattle.smoothing.specs.rules.Lines.{glyphBox, SmoothedLine, smoothedLine, keptLines}
+use Rattle.smoothing.specs.stages.LineWords.{plainLine, glyphsOf, Filled, labelAt, boxAt, lineRows, OrderRoom, orderedRow, OrderedLines, NumberRoom, orderAt, glyphsAmong, glyphRecordAt, GlyphRoom, lineRecordAt, HoldsGlyphs, HoldsRows}
+use Rattle.smoothing.specs.stages.GlyphLists.{LinesRoom}
+use Rattle.segmenting.specs.rules.Results.{linesAt}
+use Rattle.segmenting.specs.stages.Writing.{plainRecords, LinesHeld, LinesOrdered, linePlaces, GroupRoom}
+use Rattle.grouping.specs.stages.LineBoxes.{Inside}
+use Rattle.smoothing.specs.rules.LineRecords.{lineRecord, glyphRecord}
 use Rattle.smoothing.proofs.LineLaws.{held-box, label-of, glyphOf, glyphs-are, lineOf, lines-are, labels-are, order-is, numbers-are}
 use Rattle.smoothing.proofs.LineRecords.{glyph-records, line-records}
-use Rattle.smoothing.proofs.LineRooms.{areas-are, glyphs-kept, rows-kept, lines-room, order-labels, order-rows}
+use Rattle.smoothing.proofs.LineRooms.{areas-are, glyphs-kept, rows-kept, rows-counted, order-labels, order-rows}
 use Rattle.smoothing.proofs.RowLaws.{rows-few, rows-low}
-use Rattle.grouping.proofs.BlockLaws.{getD-map}
-use Rattle.grouping.proofs.ListLaws.{each-at}
-use Rattle.grouping.proofs.Theorems.{lines-go-by-top}
+use Rattle.memory.proofs.ListLaws.{getD-map, each-at}
+use Rattle.smoothing.proofs.Theorems.{lines-go-by-top}
 
 module _ {p : LayoutParams} {unit : Float} {cs : List Component} {ks : List ℕ} {labels : ℕ → ℕ} {rows : List Component} {w h dots P : ℕ} {s : List ℕ} {out : ℕ}
     (H : LinesHeld p unit cs ks labels rows w h dots P s out) where
@@ -152,8 +149,7 @@ module _ {p : LayoutParams} {unit : Float} {cs : List Component} {ks : List ℕ}
     own-box k l = subst (Inside w h) (sym (held-box cs s₂ (sizesAt dots P) (held₂ .held) k l)) (H .boxes k l)
 
     -- what writing the lines asks
-    pub lines-ask : (room : ℕ) → n * 8 ≤ room
-        → LinesRoom (horizontalAt dots) n 0 (h + 1) (sizesAt dots P) (kindsAt dots P) (length cs) (smoothedAt dots P) (glyphsAt dots P) s₂ room
+    pub lines-ask : (room : ℕ) → n * 8 ≤ room → LinesRoom (linePlaces h dots P (length cs) (length rows)) n s₂ room
     lines-ask room q =
         let a = H .few-components in
         let b = H .room in
@@ -161,19 +157,34 @@ module _ {p : LayoutParams} {unit : Float} {cs : List Component} {ks : List ℕ}
         let e = H .few-rows in
         let f = L .few in
         let g = H .heights in
-        lines-room cs ks labels 0 (h + 1) (horizontalAt dots) n (sizesAt dots P) (kindsAt dots P) (smoothedAt dots P) (glyphsAt dots P) room rows s₂ held₂ smoothed₂
-        (record {
-          before-sizes = omega arith;
-          before-kinds = omega arith;
-          sizes-room = omega arith;
-          kinds-room = omega arith;
-          few = let i = H .few in omega arith;
-          tops = λ k l. own-box k l .rows;
-          low = λ k l. let i = own-box k l .bottom in omega arith;
-          narrow = let i = H .high in omega arith;
-          ink = subst (λ (z : List ℕ). total z ≤ 4294967295) (sym (areas-are cs s₂ (sizesAt dots P) (held₂ .held))) (H .ink);
-        })
-        (omega arith) (omega arith) (omega arith) (omega arith) (L .labelled) q
+        record {
+          own = record {
+            before-heads = omega arith;
+            lists = record {
+              before-nexts = omega arith;
+              before-kinds = omega arith;
+              room = omega arith;
+              few = let i = H .few in omega arith;
+              labels = label-low;
+            };
+            before-sizes = omega arith;
+            sizes-room = omega arith;
+            tops = λ k l. own-box k l .rows;
+            low = λ k l. let i = own-box k l .bottom in omega arith;
+            narrow = let i = H .high in omega arith;
+            ink = subst (λ (z : List ℕ). total z ≤ 4294967295) (sym (areas-are cs s₂ (sizesAt dots P) (held₂ .held))) (H .ink);
+            before-smoothed = omega arith;
+            before-glyphs = omega arith;
+            smoothed-room = omega arith;
+            glyphs-room = omega arith;
+            counted = rows-counted cs ks labels (sizesAt dots P) (kindsAt dots P) (smoothedAt dots P) (glyphsAt dots P) rows s₂ held₂ smoothed₂;
+          };
+          before-order = omega arith;
+          order-room = omega arith;
+          labels = λ i l. L .labelled i l .0;
+          low = λ i l. L .labelled i l .1;
+          room = q;
+        }
 
     -- the order is the same by either words
     same-row : (i : ℕ) → i < n → orderedRow s₂ (horizontalAt dots) i ≡ getD (lineRows p unit s₂ (smoothedAt dots P) (glyphsAt dots P) (length rows)) i 0

@@ -3,10 +3,11 @@ ghost use mathlib.Core.Path.{_≡_};
 ghost use Prim.Native.Nat.{_+_, _*_, _≤_};
 ghost use lib.ListN.{length};
 ghost use lib.Seq.{sets};
-ghost use Rattle.memory.specs.Words.{over};
-ghost use Rattle.memory.specs.Records.{encoded};
-ghost use Rattle.segmenting.specs.Results.{boxWords, heldBox, heldBoxes, heldArea, unpackedBox, unpackedBoxes, heldRules};
-use labelling::Rect;
+ghost use Rattle.memory.specs.rules.Words.{over};
+ghost use Rattle.memory.specs.rules.Records.{encoded};
+ghost use Rattle.segmenting.specs.rules.Results.{boxWords};
+ghost use Rattle.segmenting.specs.stages.Held.{heldBox, heldBoxes, heldArea, unpackedBox, unpackedBoxes, heldRules};
+use memory::Rect;
 
 // The words of a box.
 const BOX_WORDS: usize = 4;

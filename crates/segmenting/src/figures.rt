@@ -2,8 +2,8 @@
 ghost use mathlib.Core.Path.{_≡_};
 ghost use Prim.Native.Nat.{_≤_};
 ghost use lib.ListN.{length};
-ghost use Rattle.memory.specs.Words.{over};
-ghost use Rattle.segmenting.specs.Figures.{figuresLength, measuredWord, figureWords};
+ghost use Rattle.memory.specs.rules.Words.{over};
+ghost use Rattle.segmenting.specs.rules.Figures.{figuresLength, measuredWord, figureWords};
 use crate::results::Segmentation;
 use memory::put_float;
 use sorting::Unit;

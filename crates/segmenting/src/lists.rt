@@ -1,6 +1,6 @@
 // The lists of boxes of a segmentation: rules and graphics, each in its place in the words lent for results.
 ghost use lib.ListN.{length};
-ghost use Rattle.segmenting.specs.Writing.{BoxRoom, BoxesLeft};
+ghost use Rattle.segmenting.specs.stages.Writing.{BoxRoom, BoxesLeft};
 use crate::boxes::write_boxes;
 use crate::boxes::write_rules;
 

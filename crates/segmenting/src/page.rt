@@ -1,7 +1,8 @@
 // A whole segmentation of an ink plane in lent memory (layout.rs, segment): sorted, grouped, and, unless refused, its results written.
 ghost use mathlib.Core.Path.{_≡_};
 ghost use lib.ListN.{length};
-ghost use Rattle.segmenting.specs.Answers.{SegmentRoom, SortedRoom, left, segmented};
+ghost use Rattle.segmenting.specs.stages.Rooms.{SegmentRoom, SortedRoom};
+ghost use Rattle.segmenting.specs.rules.Answers.{segmentOutcome, segmentPlane};
 use crate::results::Segmentation;
 use crate::results::write_results;
 use params::LayoutParams;
@@ -30,7 +31,7 @@ pub fn segment(
     kinds: &mut [u8],
 ) -> SegmentAnswer
     requires { ⌜ SegmentRoom sheet width height (now ink) capacity (now words) (length (now results)) (length (now kinds)) ⌝ }
-    ensures { λ r. ⌜ (length (now (words .exit)) ≡ length (now (words .entry))) × (left r (now (results .exit)) (now (kinds .exit)) ≡ segmented sheet width height (now (ink .entry)) capacity (now (results .entry)) (now (kinds .entry))) ⌝ }
+    ensures { λ r. ⌜ (length (now (words .exit)) ≡ length (now (words .entry))) × (segmentOutcome r (now (results .exit)) (now (kinds .exit)) ≡ segmentPlane sheet width height (now (ink .entry)) capacity (now (results .entry)) (now (kinds .entry))) ⌝ }
 {
     match sort_ink(ink, width, height, sheet, capacity, words) {
         SortAnswer::TooMany => SegmentAnswer::Refused(20),
@@ -61,7 +62,7 @@ fn segment_sorted(
     kinds: &mut [u8],
 ) -> SegmentAnswer
     requires { ⌜ SortedRoom sheet width height (now ink) capacity (now words) found (length (now results)) (length (now kinds)) ⌝ }
-    ensures { λ r. ⌜ (length (now (words .exit)) ≡ length (now (words .entry))) × (left r (now (results .exit)) (now (kinds .exit)) ≡ segmented sheet width height (now (ink .entry)) capacity (now (results .entry)) (now (kinds .entry))) ⌝ }
+    ensures { λ r. ⌜ (length (now (words .exit)) ≡ length (now (words .entry))) × (segmentOutcome r (now (results .exit)) (now (kinds .exit)) ≡ segmentPlane sheet width height (now (ink .entry)) capacity (now (results .entry)) (now (kinds .entry))) ⌝ }
 {
     let measured = found.unit;
     let unit = measured.value();

@@ -2,10 +2,10 @@
 ghost use mathlib.Core.Path.{_≡_};
 ghost use mathlib.Core.List.{List};
 ghost use Prim.Native.Nat.{ℕ, _*_};
-ghost use Rattle.memory.specs.Lists.{table};
-ghost use Rattle.memory.specs.Words.{over};
-ghost use Rattle.labelling.specs.Labels.{labelling};
-ghost use Rattle.segmenting.specs.Results.{paintedKind, RunPaintable, RunPainted, Paintable};
+ghost use Rattle.memory.specs.rules.Lists.{table};
+ghost use Rattle.memory.specs.rules.Words.{over};
+ghost use Rattle.labelling.specs.rules.Labels.{labelling};
+ghost use Rattle.segmenting.specs.stages.Painting.{paintedKind, RunPaintable, RunPainted, Paintable};
 use memory::copy_bytes;
 use memory::fill_bytes;
 use memory::wide;

@@ -2,11 +2,12 @@
 ghost use mathlib.Core.Path.{_≡_};
 ghost use Prim.Native.Nat.{_+_, _*_, _≤_};
 ghost use lib.ListN.{length};
-ghost use Rattle.memory.specs.Words.{over};
-ghost use Rattle.grouping.specs.Layouts.{layout};
-ghost use Rattle.segmenting.specs.Results.{heldArea, resultsLeft};
-ghost use Rattle.segmenting.specs.Figures.{figuresOf};
-ghost use Rattle.segmenting.specs.Writing.{countedFigures, ResultsRoom};
+ghost use Rattle.memory.specs.rules.Words.{over};
+ghost use Rattle.segmenting.specs.rules.Layouts.{layout};
+ghost use Rattle.segmenting.specs.stages.Held.{heldArea};
+ghost use Rattle.segmenting.specs.rules.Results.{resultsLeft};
+ghost use Rattle.segmenting.specs.rules.Figures.{figuresOf};
+ghost use Rattle.segmenting.specs.stages.Writing.{countedFigures, ResultsRoom};
 use crate::boxes::area_of_kind;
 use crate::groups::GroupCounts;
 use crate::groups::write_groups;

@@ -1,13 +1,14 @@
 // Glyphs and lines of a segmentation, each in its place in the words lent for results.
 ghost use mathlib.Core.Path.{_≡_};
 ghost use mathlib.Core.List.{List};
-ghost use Prim.Native.Nat.{ℕ};
+ghost use Prim.Native.Nat.{ℕ, _+_, _*_, _≤_, _<_};
 ghost use lib.ListN.{length};
 ghost use Rattle.labelling.specs.declared.component.Component.{Component};
-ghost use Rattle.grouping.specs.Lines.{keptLines};
-ghost use Rattle.smoothing.specs.LineWords.{glyphsOf};
-ghost use Rattle.segmenting.specs.Writing.{LinesHeld, LinesOrdered, linesLeft};
+ghost use Rattle.smoothing.specs.rules.Lines.{keptLines};
+ghost use Rattle.smoothing.specs.stages.LineWords.{glyphsOf};
+ghost use Rattle.segmenting.specs.stages.Writing.{LinesHeld, LinesOrdered, linePlaces, linesLeft};
 use params::LayoutParams;
+use smoothing::LinePlaces;
 use smoothing::number_labels;
 use smoothing::order_lines;
 use smoothing::write_glyphs;
@@ -33,6 +34,28 @@ fn order_labels(
     let lines = order_lines(words, smoothed, glyphs, rows, sheet, unit, order);
     number_labels(words, order, lines, order + 2 * capacity, rows);
     lines
+}
+
+// Where writing the lines finds glyphs and lines, and makes the lists of glyphs: behind the order of the lines and behind the line of
+// each label.
+fn line_places(dots: usize, capacity: usize, h: usize, components: usize, rows: usize) -> LinePlaces
+    requires { ⌜ (4 * dots + 64 + 15 * capacity ≤ 9223372036854775807) × (h < 9223372036854775807) ⌝ }
+    ensures { λ r. ⌜ r ≡ linePlaces h dots capacity components rows ⌝ }
+{
+    let order = 4 * dots + 64;
+    LinePlaces {
+        order,
+        smoothed: order + 10 * capacity,
+        glyphs: order + 15 * capacity,
+        rows,
+        sizes: order + 4 * capacity,
+        kinds: order + 9 * capacity,
+        count: components,
+        heads: order + capacity,
+        nexts: order + 3 * capacity,
+        heights: 0,
+        values: h + 1,
+    }
 }
 
 // Writes the glyphs, each with its line, and the lines, with 0 for the block of each; answers how many glyphs there are.
@@ -67,18 +90,7 @@ pub fn write_glyph_lines(
         &mut results[glyphs_at..],
     );
     let lines_at = 2 * w + 22 * capacity;
-    write_lines(
-        words,
-        order,
-        lines,
-        order + 10 * capacity,
-        order + 15 * capacity,
-        sizes,
-        kinds,
-        components,
-        0,
-        h + 1,
-        &mut results[lines_at..],
-    );
+    let places = line_places(dots, capacity, h, components, rows);
+    write_lines(words, places, lines, &mut results[lines_at..]);
     found
 }

@@ -8,7 +8,7 @@ use native.Mathlib.Omega.{arith}
 use borrow.Author.Tests.{leb-true, eqb-true}
 use lib.Dec.{eqb, leb}
 use lib.ListN.{length, getD}
-use Rattle.memory.specs.Words.{over}
+use Rattle.memory.specs.rules.Words.{over}
 use Rattle.memory.proofs.BoolLaws.{and-left, and-right}
 use Rattle.judging.specs.rules.Spoiled.{every}
 use Rattle.showing.specs.rules.Inputs.{digitsAt, widthOf, heightOf, rowsAt, rowDigits, rowAt, rowGood, headGood, sidesGood, wellMade, maxShownSide, skewOf, slopeOf, dotsIn, parsed, maskOf}

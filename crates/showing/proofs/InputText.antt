@@ -11,7 +11,7 @@ use lib.Dec.{eqb, leb, ltb}
 use lib.ListN.{length, getD, take, drop, length-drop, take-append-drop}
 use lib.Pow.{pow-add}
 use lib.Seq.{take-suc, take-add, take-all, drop-drop, getD-drop}
-use Rattle.memory.specs.Lists.{table}
+use Rattle.memory.specs.rules.Lists.{table}
 use Rattle.memory.proofs.BoolLaws.{and-left, and-right}
 use Rattle.memory.proofs.PlaneLaws.{dot-row, dot-column, dot-inside}
 use Rattle.memory.proofs.TableLaws.{getD-table}

@@ -10,12 +10,12 @@ use borrow.Author.Tests.{le-ltb}
 use lib.Dec.{T, eqb}
 use lib.Ieee.{fits, binary64}
 use lib.ListN.{length}
-use Rattle.memory.specs.Limits.{storeWords, scratchWords}
-use Rattle.memory.specs.Masks.{isMask}
-use Rattle.memory.specs.Refusals.{refuseIf}
+use Rattle.memory.specs.rules.Limits.{storeWords, scratchWords}
+use Rattle.memory.specs.rules.Masks.{isMask}
+use Rattle.memory.specs.rules.Refusals.{refuseIf}
 use Rattle.memory.proofs.RefusalLaws.{Passes, passes-none, passes-if}
-use Rattle.params.specs.Valid.{valid}
-use Rattle.levelling.specs.Frames.{Frame}
+use Rattle.params.specs.rules.Valid.{valid}
+use Rattle.levelling.specs.rules.Frames.{Frame}
 use Rattle.judging.specs.rules.Header.{storeHeld, dotsHeld}
 use Rattle.judging.specs.rules.Leaves.{Leaf, leafHeld}
 use Rattle.judging.specs.rules.Spoiled.{sideOk, capacityOk, skewOk, slopeOk}

@@ -11,7 +11,7 @@ use lib.Dec.{eqb, leb, ltb}
 use lib.ListN.{length, getD, take, drop, length-append, length-drop}
 use lib.Pow.{shl-shr, shr-shr, shl-lt}
 use lib.Seq.{take-all, take-at, drop-at, drop-drop, getD-drop, getD-take, take-take, take-append-le, drop-append-le, getD-at, ext-getD}
-use Rattle.memory.specs.Lists.{table}
+use Rattle.memory.specs.rules.Lists.{table}
 use Rattle.memory.proofs.TableLaws.{getD-table, length-table}
 use Rattle.listing.specs.rules.Digits.{digitOf, hex, joined, lineFeed}
 use Rattle.judging.specs.rules.Spoiled.{every}

@@ -3,10 +3,10 @@ use Prim.Native.Nat.{_-_, _*_, _≤_}
 use mathlib.Core.Path.{_≡_}
 use native.Mathlib.Nat.{mul-le-mul}
 use native.Mathlib.Omega.{arith}
-use Rattle.memory.specs.Limits.{storeWords, scratchWords}
+use Rattle.memory.specs.rules.Limits.{storeWords, scratchWords}
 use Rattle.rounding.proofs.DriftLaws.{drift-within}
-use Rattle.levelling.specs.Frames.{frame}
-use Rattle.levelling.specs.Planes.{levelling}
+use Rattle.levelling.specs.rules.Frames.{frame}
+use Rattle.levelling.specs.rules.Planes.{levelling}
 use Rattle.levelling.proofs.FrameLaws.{frame-height, frame-width}
 use Rattle.judging.specs.rules.Leaves.{Leaf, levellingOf}
 use Rattle.store.proofs.HeaderLaws.{Accepted, sides, one}

@@ -4,21 +4,20 @@ use mathlib.Core.Bool.{true, cond}
 use mathlib.Core.List.{List, []}
 use Prim.Native.Nat.{ℕ}
 use lib.Ieee.{binary64, ofBits}
-use Rattle.memory.specs.Lists.{table}
-use Rattle.rounding.specs.Lengths.{float}
-use Rattle.grouping.proofs.Computed.{computed}
-use Rattle.grouping.proofs.SampleLeaf.{sampleLeaf, sampleMask}
-use Rattle.grouping.specs.Layouts.{page}
-use Rattle.params.specs.ShowSheets.{showSheet}
+use Rattle.memory.specs.rules.Lists.{table}
+use Rattle.rounding.specs.rules.Lengths.{float}
+use Rattle.segmenting.proofs.Computed.{computed}
+use Rattle.segmenting.proofs.SampleLeaf.{sampleLeaf, sampleMask}
+use Rattle.segmenting.specs.rules.Layouts.{page}
+use Rattle.params.specs.rules.ShowSheets.{showSheet}
 use Rattle.judging.specs.rules.Leaves.{Leaf, leafOf}
-use Rattle.memory.specs.Masks.{isMask}
+use Rattle.memory.specs.rules.Masks.{isMask}
 use Rattle.judging.specs.rules.Refusals.{leafRefusal}
-use Rattle.judging.specs.rules.Spoiled.{skewOk, slopeOk}
+use Rattle.judging.specs.rules.Spoiled.{skewOk, slopeOk, every}
 use Rattle.listing.specs.rules.Digits.{digitOf, hex, refusalText}
 use Rattle.listing.specs.rules.Pages.{pageSheet}
 use Rattle.listing.proofs.SampleSheet.{bytes, sampleText, sample-text}
 use Rattle.showing.specs.declared.input.Parsed.the-variants.{Page}
-use Rattle.judging.specs.rules.Spoiled.{every}
 use Rattle.showing.specs.rules.Inputs.{isDigit, digitValue, numberAt, rowGood, headGood, sidesGood, wellMade, dotsIn, parsed, maskOf}
 use Rattle.showing.specs.rules.Shows.{leafShown, leafNumber, leafText, shown}
 use Rattle.showing.proofs.ShowLaws.{leafSheet, leaf-printed}

@@ -13,14 +13,14 @@ use lib.Ieee.{fits, binary64}
 use lib.Ieee.Bits.{ofBits-fits}
 use lib.ListN.{length, getD, take, drop, length-append}
 use lib.Seq.{take-at}
-use Rattle.memory.specs.Refusals.{refuseIf}
-use Rattle.memory.specs.Words.{over}
-use Rattle.labelling.specs.declared.rect.Rect.{Rect}
-use Rattle.grouping.specs.Layouts.{Page, layoutRefusal}
+use Rattle.memory.specs.rules.Refusals.{refuseIf}
+use Rattle.memory.specs.rules.Words.{over}
+use Rattle.memory.specs.declared.rect.Rect.{Rect}
+use Rattle.segmenting.specs.rules.Layouts.{Page, layoutRefusal}
 use Rattle.judging.specs.rules.Leaves.{Leaf, levellingOf, layoutOf}
 use Rattle.judging.specs.rules.Refusals.{leafRefusal}
 use Rattle.listing.specs.rules.Digits.{hex, refusalText}
-use Rattle.listing.specs.rules.Pages.{formats, corners, headFigures, lineFigures, blockFigures, glyphFigures, columnFigures, figures, numbersText, figureText, figuresText, pageSheet}
+use Rattle.listing.specs.rules.Pages.{formats, corners, headFigures, lineFigures, blockFigures, glyphFigures, columnFigures, dotFigures, figures, numbersText, figureText, figuresText, pageSheet}
 use Rattle.listing.specs.stages.Parts.{allDigits}
 use Rattle.listing.proofs.DigitLaws.{length-hex}
 use Rattle.store.specs.rules.Readings.{Output}
@@ -90,7 +90,7 @@ few-short : {A : Type 0} (f : A → List ℕ) (k n : ℕ) → ((x : A) → lengt
 few-short f k n each l h = let a = list-short f k each l in let b = mul-le-mul-right k h in omega arith
 
 page-short : (p : Page) → Few 46 64 (p .layout) → length (pageSheet p) ≤ longestShown
-unfolding pageSheet figures headFigures lineFigures blockFigures glyphFigures columnFigures
+unfolding pageSheet figures headFigures lineFigures blockFigures glyphFigures columnFigures dotFigures
 page-short p few =
     let l = p .layout in
     let h = one-short (headFigures p) 37 (entry-short 0 _) in
@@ -100,9 +100,9 @@ page-short p few =
     let d = few-short (λ (r : Rect). 4 ∷ corners r) 19 64 (λ x. entry-short 4 _) (l .graphics) (few .graphics) in
     let e = few-short glyphFigures 30 64 (λ x. entry-short 5 _) (l .glyphs) (few .glyphs) in
     let f = few-short columnFigures 11 46 (λ x. entry-short 6 _) (l .columns) (few .columns) in
-    let g = one-short (7 ∷ l .ink-pixels ∷ l .counts) 51 (entry-short 7 _) in
+    let g = one-short (dotFigures (l .ink-pixels) (l .counts)) 51 (entry-short 7 _) in
     sum (headFigures p ∷ []) (map lineFigures (l .lines)) (map blockFigures (l .blocks)) (map (λ (r : Rect). 3 ∷ corners r) (l .rules))
-    (map (λ (r : Rect). 4 ∷ corners r) (l .graphics)) (map glyphFigures (l .glyphs)) (map columnFigures (l .columns)) ((7 ∷ l .ink-pixels ∷ l .counts) ∷ []) h a b c d e f g
+    (map (λ (r : Rect). 4 ∷ corners r) (l .graphics)) (map glyphFigures (l .glyphs)) (map columnFigures (l .columns)) (dotFigures (l .ink-pixels) (l .counts) ∷ []) h a b c d e f g
   where
     sum : (h a b c d e f g : List (List ℕ))
         → length (figuresText h) ≤ 37 → length (figuresText a) ≤ 64 * 42 → length (figuresText b) ≤ 64 * 22 → length (figuresText c) ≤ 192 * 19 → length (figuresText d) ≤ 64 * 19

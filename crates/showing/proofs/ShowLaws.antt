@@ -14,11 +14,11 @@ use lib.Ieee.Bits.{ofBits-fits}
 use lib.Ieee.Fits.{ofInt-fits}
 use lib.ListN.{length}
 use lib.Seq.{take-all}
-use Rattle.memory.specs.Words.{wordAt, over}
+use Rattle.memory.specs.rules.Words.{wordAt, over}
 use Rattle.memory.proofs.PartLaws.{over-all}
-use Rattle.params.specs.ShowSheets.{showSheet}
+use Rattle.params.specs.rules.ShowSheets.{showSheet}
 use Rattle.params.specs.declared.LayoutParams.{LayoutParams}
-use Rattle.grouping.specs.Layouts.{layoutRefusal}
+use Rattle.segmenting.specs.rules.Layouts.{layoutRefusal}
 use Rattle.judging.specs.rules.Leaves.{Leaf, leafOf, levellingOf, layoutOf}
 use Rattle.judging.specs.rules.Refusals.{leafRefusal, levelRefusal}
 use Rattle.listing.specs.rules.Digits.{refusalText}

@@ -4,8 +4,8 @@ use mathlib.Core.List.{List}
 use Prim.Native.Nat.{ℕ, _≤_, _<_}
 use borrow.Author.Tests.{lt-ltb, le-ltb}
 use lib.ListN.{length}
-use Rattle.memory.specs.Refusals.{refuseIf}
-use Rattle.memory.specs.Words.{over}
+use Rattle.memory.specs.rules.Refusals.{refuseIf}
+use Rattle.memory.specs.rules.Words.{over}
 use Rattle.listing.specs.rules.Digits.{hex, refusalText}
 use Rattle.listing.specs.stages.Pairs.{refusalLength}
 use Rattle.store.specs.rules.Readings.Output.{words}

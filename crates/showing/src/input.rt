@@ -2,7 +2,7 @@
 ghost use mathlib.Core.Path.{_≡_};
 ghost use Prim.Native.Nat.{_≤_};
 ghost use lib.ListN.{length};
-ghost use Rattle.memory.specs.Words.{over};
+ghost use Rattle.memory.specs.rules.Words.{over};
 ghost use Rattle.showing.specs.rules.Inputs.{rowsAt, headGood, sidesGood, wellMade, parsed, maskOf};
 ghost use Rattle.showing.specs.stages.Rooms.{mostDots};
 use crate::reading::digits_at;

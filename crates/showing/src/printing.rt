@@ -2,7 +2,7 @@
 ghost use mathlib.Core.Path.{_≡_};
 ghost use Prim.Native.Nat.{_≤_};
 ghost use lib.ListN.{length};
-ghost use Rattle.params.specs.ShowSheets.{showSheet};
+ghost use Rattle.params.specs.rules.ShowSheets.{showSheet};
 ghost use Rattle.listing.specs.rules.Digits.{refusalText};
 ghost use Rattle.store.specs.rules.Answers.{outcomeNumber, answerNumber, answerValue};
 ghost use Rattle.store.specs.rules.Readings.Output.{words};

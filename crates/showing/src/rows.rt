@@ -2,7 +2,7 @@
 ghost use mathlib.Core.Path.{_≡_};
 ghost use Prim.Native.Nat.{_+_, _*_, _<_, _≤_};
 ghost use lib.ListN.{length};
-ghost use Rattle.memory.specs.Words.{over};
+ghost use Rattle.memory.specs.rules.Words.{over};
 ghost use Rattle.judging.specs.rules.Spoiled.{every};
 ghost use Rattle.showing.specs.rules.Inputs.{rowDigits, rowAt, rowGood, dotAt, dotsIn};
 use crate::reading::digits_at;

@@ -8,15 +8,14 @@ use native.Mathlib.Numerals.{add-one}
 use native.Mathlib.Omega.{arith}
 use lib.ListN.{getD, length, set, length-set}
 use lib.Seq.{getD-set-same, getD-set-other}
-use Rattle.memory.specs.Lists.{table, occurs}
+use Rattle.memory.specs.rules.Lists.{table, occurs}
 use Rattle.memory.proofs.TableLaws.{length-table, table-ext}
 use borrow.Author.Tests.{eqb-true}
 use lib.Dec.{eqb}
-use Rattle.memory.specs.Limits.{maxCapacity}
-use Rattle.sorting.specs.Kinds.{glyphKind}
-use Rattle.smoothing.specs.LineWords.{Filled, kindWord, firstNumber, LabelRoom, labelAt, labelsAt, CountRoom}
-use Rattle.grouping.proofs.CountLaws.{occurs-same, occurs-other}
-use Rattle.grouping.proofs.TableWords.{occurs-length}
+use Rattle.memory.specs.rules.Limits.{maxCapacity}
+use Rattle.sorting.specs.rules.Kinds.{glyphKind}
+use Rattle.smoothing.specs.stages.LineWords.{Filled, kindWord, firstNumber, LabelRoom, labelAt, labelsAt, CountRoom}
+use Rattle.memory.proofs.PlaceLaws.{occurs-same, occurs-other, occurs-length}
 
 pub filled-none : (f : ℕ → ℕ) (at : ℕ) (s : List ℕ) → Filled f at 0 s s
 filled-none f at s = record { len = refl; inside = λ k l. absurd (omega arith); before = λ i l. refl; behind = λ i l. refl }

@@ -18,6 +18,8 @@ pub mod FilledWords
 pub mod RowLaws
 -- records, ink and heights of glyphs, one component after the other
 pub mod GlyphLaws
+-- lists of the glyphs with each label, and walks along them
+pub mod GlyphListLaws
 -- what the words say of glyphs and lines is what the definitions say
 pub mod LineLaws
 -- the records that are written are those of the page's glyphs and lines
@@ -28,3 +30,15 @@ pub mod LineRooms
 pub mod SortedGlyphs
 -- from the sorted ink to the labelled and counted glyphs, stage by stage
 pub mod PageLaws
+-- what holds of every page: smoothing, lines
+pub mod Theorems
+-- smoothing, as a walk along the row sees it
+pub mod JoinLaws
+-- the runs of a smoothed row
+pub mod SmoothedRuns
+-- the order of lines
+pub mod OrderLaws
+-- the lines among the smoothed components, each once
+pub mod KeptLines
+-- the dots of a glyph stay joined in the smoothed mask
+pub mod GlyphChains

@@ -10,30 +10,30 @@ use lib.Ieee.{Float}
 use lib.ListN.{getD, length, take, drop, length-map, length-take, length-drop}
 use lib.Seq.{getD-take, getD-drop, ext-getD}
 use lib.Dec.{eqb, ltb}
-use Rattle.memory.specs.Lists.{table, upto, keep, occurs, countIf, total, indexFrom, insertBy, sortBy}
-use Rattle.memory.specs.Limits.{noLine}
-use Rattle.memory.specs.Records.{encoded}
+use Rattle.memory.specs.rules.Lists.{table, upto, keep, occurs, countIf, total, indexFrom, insertBy, sortBy}
+use Rattle.memory.specs.rules.Limits.{noLine}
+use Rattle.memory.specs.rules.Records.{encoded}
 use Rattle.memory.proofs.CountLaws.{occurs-table}
 use Rattle.memory.proofs.PartLaws.{part-is-table}
 use Rattle.memory.proofs.RecordLaws.{record-at}
 use Rattle.memory.proofs.TableLaws.{table-ext}
-use Rattle.labelling.specs.Rects.{height}
-use Rattle.labelling.specs.Components.{noDots, boxOf}
-use Rattle.labelling.specs.Labels.{Labelling}
-use Rattle.labelling.specs.Sizes.{sizeWords, HoldsSizes}
+use Rattle.memory.specs.rules.Rects.{height}
+use Rattle.labelling.specs.rules.Components.{noDots, boxOf}
+use Rattle.labelling.specs.rules.Labels.{Labelling}
+use Rattle.labelling.specs.stages.Sizes.{sizeWords, HoldsSizes}
 use Rattle.labelling.specs.declared.component.Component.{Component}
 use Rattle.params.specs.declared.LayoutParams.{LayoutParams}
-use Rattle.sorting.specs.Kinds.{glyphKind}
-use Rattle.grouping.specs.Lines.{LabelledGlyph, labelledGlyphs, firstDot, SmoothedLine, smoothedLine, isLine, keysAtMost, keptLines, lineNumber}
-use Rattle.smoothing.specs.LineWords.{glyphsOf, Filled, kindWord, firstNumber, labelAt, labelsAt, boxAt, lineBySize, rowIsLine, boxKeys, rowAtMost, lineRows, OrderedLines, orderAt, areaAt, glyphsAmong, ownGlyphs, ownInk, ownHeights, HoldsGlyphs, glyphCount, HoldsRows}
-use Rattle.grouping.proofs.ListLaws.{Each, each-sort, keep-same, map-table}
-use Rattle.grouping.proofs.CountLaws.{count-length}
-use Rattle.grouping.proofs.OrderLaws.{lineAtMost}
+use Rattle.sorting.specs.rules.Kinds.{glyphKind}
+use Rattle.smoothing.specs.rules.Lines.{LabelledGlyph, labelledGlyphs, firstDot, SmoothedLine, smoothedLine, isLine, keysAtMost, keptLines, lineNumber}
+use Rattle.smoothing.specs.stages.LineWords.{glyphsOf, Filled, kindWord, firstNumber, labelAt, labelsAt, boxAt, lineBySize, rowIsLine, boxKeys, rowAtMost, lineRows, OrderedLines, orderAt, areaAt, glyphsAmong, ownGlyphs, ownInk, ownHeights, HoldsGlyphs, glyphCount, HoldsRows}
+use Rattle.memory.proofs.ListLaws.{Each, each-sort, keep-same, map-table}
+use Rattle.memory.proofs.PlaceLaws.{count-length}
+use Rattle.smoothing.proofs.OrderLaws.{lineAtMost}
 use Rattle.smoothing.proofs.RowLaws.{kept-low, length-sort, row-total, row-trans}
 
 -- Lists
 
-keep-map : {A B : Type 0} (q : B → Bool) (f : A → B) (l : List A) → keep q (map f l) ≡ map f (keep (λ a. q (f a)) l)
+pub keep-map : {A B : Type 0} (q : B → Bool) (f : A → B) (l : List A) → keep q (map f l) ≡ map f (keep (λ a. q (f a)) l)
 unfolding keep
 keep-map q f [] = refl
 keep-map {A} {B} q f (a ∷ l) = go (q (f a)) (keep-map q f l)
@@ -71,7 +71,7 @@ module _ {A B : Type 0} (P : A → Type 0) (f : A → B) (p : B → B → Bool) 
       go true z i = rw (same a b x y, z)
       go false z i = rw (same a b x y, z) (ap (λ (w : List B). f b ∷ w) i)
 
-  sort-map : (l : List A) → Each P l → sortBy p (map f l) ≡ map f (sortBy q l)
+  pub sort-map : (l : List A) → Each P l → sortBy p (map f l) ≡ map f (sortBy q l)
   unfolding sortBy
   sort-map [] e = refl
   sort-map (a ∷ l) (x, e) = ap (insertBy p (f a)) (sort-map l e) ∙ insert-map a (sortBy q l) x (each-sort P q l e)

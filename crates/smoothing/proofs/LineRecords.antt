@@ -1,29 +1,25 @@
--- The records that are written are those of the page's glyphs and lines; a line's block is set afterwards.
+-- The records that are written are those of the page's glyphs and lines, with 0 for the block of each line.
 use mathlib.Core.Path.{_≡_, refl, sym, ap, _∙_, subst}
 use mathlib.Core.Bool.{Bool, true, false, cond}
 use mathlib.Core.List.{List, [], _∷_, _++_, map}
-use Prim.Native.Nat.{ℕ, zero, suc, _+_, _*_, _-_, _≤_, _<_}
+use Prim.Native.Nat.{ℕ, suc, _+_, _-_, _≤_, _<_}
 use native.Mathlib.Nat.{le-refl, not-suc-le-zero}
 use native.Mathlib.Omega.{arith}
 use borrow.Author.Tests.{ltb-true}
 use lib.Ieee.{Float}
-use lib.ListN.{getD, length, set, length-map, List·getD-map}
+use lib.ListN.{getD, length, length-map, List·getD-map}
 use lib.Seq.{ext-getD}
 use lib.Dec.{eqb, ltb}
-use Rattle.memory.specs.Lists.{table, upto}
-use Rattle.memory.specs.Records.{encoded}
-use Rattle.memory.proofs.RecordLaws.{length-encoded, record-at}
-use Rattle.memory.proofs.TableLaws.{length-table, getD-table, getD-default, table-ext}
+use Rattle.memory.specs.rules.Lists.{table, upto}
+use Rattle.memory.specs.rules.Records.{encoded}
+use Rattle.memory.proofs.TableLaws.{length-table, getD-table, getD-default}
 use Rattle.labelling.specs.declared.component.Component.{Component}
 use Rattle.params.specs.declared.LayoutParams.{LayoutParams}
-use Rattle.sorting.specs.Units.{median}
-use Rattle.grouping.specs.Lines.{LabelledGlyph, SmoothedLine, smoothedLine, keptLines, lineNumber}
-use Rattle.grouping.specs.Layouts.{TextLine, textLine, glyphBox}
-use Rattle.grouping.specs.Blocks.{blockNumber}
-use Rattle.grouping.specs.Words.{lineRecord, glyphRecord, lineBox, lineBoxes}
-use Rattle.grouping.specs.Numbering.{withBlocks}
-use Rattle.smoothing.specs.LineWords.{glyphsOf, labelAt, lineRows, orderedRow, glyphsAmong, glyphFields, glyphRecordAt, lineFields, lineRecordAt, HoldsGlyphs, HoldsRows}
-use Rattle.grouping.proofs.ListLaws.{Each, each-at, each-keep, each-table, map-table}
+use Rattle.sorting.specs.rules.Units.{median}
+use Rattle.smoothing.specs.rules.Lines.{LabelledGlyph, SmoothedLine, smoothedLine, keptLines, lineNumber, glyphBox}
+use Rattle.smoothing.specs.rules.LineRecords.{lineRecord, glyphRecord}
+use Rattle.smoothing.specs.stages.LineWords.{glyphsOf, labelAt, lineRows, orderedRow, glyphsAmong, glyphFields, glyphRecordAt, lineFields, lineRecordAt, plainLine, HoldsGlyphs, HoldsRows}
+use Rattle.memory.proofs.ListLaws.{Each, each-at, each-keep, each-table, map-table}
 use Rattle.smoothing.proofs.RowLaws.{kept-low, rows-low}
 use Rattle.smoothing.proofs.LineLaws.{map-map, upto-map, held-area, held-box, label-of, glyphOf, glyphs-are, ink-is, heights-are, lineOf, lines-are}
 
@@ -32,7 +28,7 @@ unfolding encoded
 encoded-map words f [] = refl
 encoded-map words f (a ∷ l) = ap (λ (t : List ℕ). words (f a) ++ t) (encoded-map words f l)
 
-encoded-each : {A : Type 0} (P : A → Type 0) (v w : A → List ℕ) → ((a : A) → P a → v a ≡ w a) → (l : List A) → Each P l → encoded v l ≡ encoded w l
+pub encoded-each : {A : Type 0} (P : A → Type 0) (v w : A → List ℕ) → ((a : A) → P a → v a ≡ w a) → (l : List A) → Each P l → encoded v l ≡ encoded w l
 unfolding encoded
 encoded-each P v w h [] e = refl
 encoded-each P v w h (a ∷ l) (x, e) = λ i. h a x i ++ encoded-each P v w h l e i
@@ -41,16 +37,7 @@ each-both : {A : Type 0} (P Q : A → Type 0) (l : List A) → Each P l → Each
 each-both P Q [] x y = tt
 each-both P Q (a ∷ l) (x, xs) (y, ys) = ((x, y), each-both P Q l xs ys)
 
-last-record : (l : List TextLine) (a : TextLine) (rest : List ℕ) → encoded lineRecord (l ++ (a ∷ [])) ++ rest ≡ encoded lineRecord l ++ (lineRecord a ++ rest)
-unfolding encoded
-last-record [] a rest = refl
-last-record (b ∷ l) a rest = ap (λ (t : List ℕ). lineRecord b ++ t) (last-record l a rest)
-
-no-records : (g k : ℕ → TextLine) (rest : List ℕ) → encoded lineRecord (table g 0) ++ rest ≡ encoded lineRecord (table k 0) ++ rest
-unfolding table
-no-records g k rest = refl
-
-upto-low : (m n : ℕ) → n ≤ m → Each (λ i. i < m) (upto n)
+pub upto-low : (m n : ℕ) → n ≤ m → Each (λ i. i < m) (upto n)
 unfolding upto
 upto-low m n h = each-table (λ i. i < m) (λ i. i) n (λ i l. omega arith)
 
@@ -92,17 +79,8 @@ module _ (cs : List Component) (ks : List ℕ) (labels : ℕ → ℕ) (sizes kin
 
 -- Lines
 
--- a line of the page with this number for its block
-abbrev pub withBlock : TextLine → ℕ → TextLine
-withBlock t b = record { bbox = t .bbox; glyphs = t .glyphs; ink-area = t .ink-area; glyph-height = t .glyph-height; block = b }
-
--- line i with 0 for its block
-abbrev pub plainLine : List SmoothedLine → ℕ → TextLine
-plainLine ls i = withBlock (textLine ls [] i) 0
-
 plain-at : (ls : List SmoothedLine) (i : ℕ) (d : SmoothedLine) → i < length ls
     → lineRecord (plainLine ls i) ≡ lineFields (getD ls i d .bbox) (getD ls i d .glyphs) (getD ls i d .ink-area) (getD ls i d .glyph-height)
-unfolding textLine
 plain-at ls i d h = ap (λ (l : SmoothedLine). lineFields (l .bbox) (l .glyphs) (l .ink-area) (l .glyph-height)) (getD-default ls i _ d h)
 
 module _ (p : LayoutParams) (unit : Float) (cs : List Component) (ks : List ℕ) (labels : ℕ → ℕ) (sizes kinds : ℕ) (s : List ℕ) (h : HoldsGlyphs cs ks labels sizes kinds s)
@@ -147,58 +125,5 @@ module _ (p : LayoutParams) (unit : Float) (cs : List Component) (ks : List ℕ)
           ∙ (line-fields t low
           ∙ (ap (λ (z : SmoothedLine). lineFields (z .bbox) (z .glyphs) (z .ink-area) (z .glyph-height)) (sym there) ∙ sym (plain-at ls i (lineOf gs rows 0) (let m : n ≡ length ls = e in omega arith))))
 
--- Blocks set afterwards
-
-set-behind : (xs ys : List ℕ) (n v : ℕ) → set (xs ++ ys) (length xs + n) v ≡ xs ++ set ys n v
-set-behind [] ys n v = ap (λ k. set ys k v) (let e : 0 + n ≡ n = omega arith in e)
-set-behind (x ∷ xs) ys n v = ap (λ k. set (x ∷ (xs ++ ys)) k v) (let e : suc (length xs) + n ≡ suc (length xs + n) = omega arith in e) ∙ ap (λ (t : List ℕ). x ∷ t) (set-behind xs ys n v)
-
-encoded-last : (g : ℕ → TextLine) (n : ℕ) (rest : List ℕ) → encoded lineRecord (table g (suc n)) ++ rest ≡ encoded lineRecord (table g n) ++ (lineRecord (g n) ++ rest)
-unfolding table
-encoded-last g n rest = go (table g n)
-  where
-    go : (l : List TextLine) → encoded lineRecord (l ++ (g n ∷ [])) ++ rest ≡ encoded lineRecord l ++ (lineRecord (g n) ++ rest)
-    go l = last-record l (g n) rest
-
-pub blocks-set : (g : ℕ → TextLine) (f : ℕ → ℕ) (n : ℕ) (rest : List ℕ)
-    → withBlocks f n (encoded lineRecord (table g n) ++ rest) ≡ encoded lineRecord (table (λ i. withBlock (g i) (f i)) n) ++ rest
-unfolding withBlocks
-blocks-set g f zero rest = none
-  where
-    none : encoded lineRecord (table g 0) ++ rest ≡ encoded lineRecord (table (λ i. withBlock (g i) (f i)) 0) ++ rest
-    none = no-records g (λ i. withBlock (g i) (f i)) rest
-blocks-set g f (suc n) rest =
-    ap (λ (z : List ℕ). set (withBlocks f n z) (n * 8 + 7) (f n)) (encoded-last g n rest)
-    ∙ (ap (λ (z : List ℕ). set z (n * 8 + 7) (f n)) (blocks-set g f n (lineRecord (g n) ++ rest))
-    ∙ (ap (λ k. set (encoded lineRecord (table (λ i. withBlock (g i) (f i)) n) ++ (lineRecord (g n) ++ rest)) (k + 7) (f n)) (sym long)
-    ∙ (set-behind (encoded lineRecord (table (λ i. withBlock (g i) (f i)) n)) (lineRecord (g n) ++ rest) 7 (f n) ∙ sym (encoded-last (λ i. withBlock (g i) (f i)) n rest))))
-  where
-    long : length (encoded lineRecord (table (λ i. withBlock (g i) (f i)) n)) ≡ n * 8
-    long = length-encoded lineRecord 8 (λ t. refl) (table (λ i. withBlock (g i) (f i)) n) ∙ ap (λ k. k * 8) (length-table (λ i. withBlock (g i) (f i)) n)
-
--- with the blocks set they are the lines of a layout
-pub text-lines : (ls : List SmoothedLine) (fs : List ℕ) (n : ℕ) → table (λ i. withBlock (plainLine ls i) (blockNumber fs i)) n ≡ table (textLine ls fs) n
-unfolding textLine
-text-lines ls fs n = table-ext (λ i. withBlock (plainLine ls i) (blockNumber fs i)) (textLine ls fs) n (λ i l. refl)
-
--- and their boxes are those of the lines
-pub record-boxes : (g : ℕ → TextLine) (n : ℕ) (rest : List ℕ) → lineBoxes (encoded lineRecord (table g n) ++ rest) n ≡ table (λ i. g i .bbox) n
-record-boxes g n rest = table-ext (lineBox (encoded lineRecord (table g n) ++ rest)) (λ i. g i .bbox) n (λ i l. one i l)
-  where
-    word : (i : ℕ) → i < n → (j : ℕ) → j < 8 → getD (encoded lineRecord (table g n) ++ rest) (i * 8 + j) 0 ≡ getD (lineRecord (g i)) j 0
-    word i l j h =
-        record-at lineRecord 8 (λ t. refl) (table g n) rest i j (g i) (let e = length-table g n in omega arith) h
-        ∙ ap (λ (t : TextLine). getD (lineRecord t) j 0) (getD-table g n i (g i) l)
-
-    one : (i : ℕ) → i < n → lineBox (encoded lineRecord (table g n) ++ rest) i ≡ g i .bbox
-    one i l =
-        λ k. record {
-          x0 = (ap (λ m. getD (encoded lineRecord (table g n) ++ rest) m 0) (let e : i * 8 ≡ i * 8 + 0 = omega arith in e) ∙ word i l 0 (omega arith)) k;
-          y0 = word i l 1 (omega arith) k;
-          x1 = word i l 2 (omega arith) k;
-          y1 = word i l 3 (omega arith) k;
-        }
-
 pub plain-boxes : (ls : List SmoothedLine) → table (λ i. plainLine ls i .bbox) (length ls) ≡ map (λ (l : SmoothedLine). l .bbox) ls
-unfolding textLine
 plain-boxes ls = sym (map-table (λ (l : SmoothedLine). l .bbox) (λ i. getD ls i _) (length ls)) ∙ ap (map (λ (l : SmoothedLine). l .bbox)) (whole ls _)

@@ -5,15 +5,15 @@ use Prim.Native.Nat.{ℕ, suc, _+_, _*_, _≤_, _<_}
 use native.Mathlib.Omega.{arith}
 use lib.Ieee.{Float}
 use lib.ListN.{getD, length}
-use Rattle.memory.specs.Lists.{table, occurs}
+use Rattle.memory.specs.rules.Lists.{table, occurs}
 use Rattle.memory.proofs.TableLaws.{table-ext}
-use Rattle.labelling.specs.Components.{noDots}
-use Rattle.labelling.specs.Sizes.{HoldsSizes}
+use Rattle.labelling.specs.rules.Components.{noDots}
+use Rattle.labelling.specs.stages.Sizes.{HoldsSizes}
 use Rattle.labelling.specs.declared.component.Component.{Component}
 use Rattle.params.specs.declared.LayoutParams.{LayoutParams}
-use Rattle.grouping.specs.Lines.{LabelledGlyph}
-use Rattle.smoothing.specs.LineWords.{glyphsOf, Filled, labelsAt, lineRows, orderedRow, OrderedLines, areaAt, OwnRoom, LineRoom, KeptFrom, LinesRoom, HoldsGlyphs, HoldsRows}
-use Rattle.grouping.proofs.ListLaws.{each-at, map-table}
+use Rattle.smoothing.specs.rules.Lines.{LabelledGlyph}
+use Rattle.smoothing.specs.stages.LineWords.{glyphsOf, Filled, labelsAt, lineRows, orderedRow, OrderedLines, areaAt, ownGlyphs, KeptFrom, HoldsGlyphs, HoldsRows}
+use Rattle.memory.proofs.ListLaws.{each-at, map-table}
 use Rattle.smoothing.proofs.RowLaws.{rows-low}
 use Rattle.smoothing.proofs.LineLaws.{held-area, held-kept, counts-are, own-count}
 use Rattle.smoothing.proofs.LineRecords.{whole}
@@ -50,31 +50,10 @@ rows-held cs ks labels sizes kinds rows smoothed glyphs s s' h held before room 
       counts = λ t l. r .inside t l ∙ counts-are cs ks labels sizes kinds s h (suc t) (omega arith);
     }
 
--- what `write_lines` asks
-pub lines-room : (cs : List Component) (ks : List ℕ) (labels : ℕ → ℕ) (heights values order n sizes kinds smoothed glyphs out : ℕ) (rows : List Component) (s : List ℕ)
-    → HoldsGlyphs cs ks labels sizes kinds s → HoldsRows (glyphsOf cs ks labels) rows smoothed glyphs s → OwnRoom heights values sizes kinds (length cs) s
-    → heights + values ≤ order → order + n ≤ smoothed → smoothed + 5 * length rows ≤ glyphs → glyphs + length rows ≤ length s
-    → ((i : ℕ) → i < n → (0 < getD s (order + i) 0) × (getD s (order + i) 0 ≤ length rows)) → n * 8 ≤ out
-    → LinesRoom order n heights values sizes kinds (length cs) smoothed glyphs s out
-lines-room cs ks labels heights values order n sizes kinds smoothed glyphs out rows s h g own a b d e labelled room =
-    record {
-      before-order = a;
-      order-room = omega arith;
-      labels = λ i l. labelled i l .0;
-      lines = λ i l. line (orderedRow s order i) (let z = labelled i l in omega arith);
-      room = room;
-    }
-  where
-    line : (t : ℕ) → t < length rows → LineRoom heights values sizes kinds (length cs) smoothed glyphs t s
-    line t l =
-        record {
-          own = own;
-          before-smoothed = omega arith;
-          before-glyphs = omega arith;
-          smoothed-room = omega arith;
-          glyphs-room = omega arith;
-          counted = g .counts t l ∙ sym (own-count cs ks labels sizes kinds s h (suc t) (omega arith));
-        }
+-- the count of each smoothed component is that of the glyphs with its label
+pub rows-counted : (cs : List Component) (ks : List ℕ) (labels : ℕ → ℕ) (sizes kinds smoothed glyphs : ℕ) (rows : List Component) (s : List ℕ) → HoldsGlyphs cs ks labels sizes kinds s
+    → HoldsRows (glyphsOf cs ks labels) rows smoothed glyphs s → (t : ℕ) → t < length rows → getD s (glyphs + t) 0 ≡ length (ownGlyphs s kinds (length cs) (suc t))
+rows-counted cs ks labels sizes kinds smoothed glyphs rows s h g t l = g .counts t l ∙ sym (own-count cs ks labels sizes kinds s h (suc t) (omega arith))
 
 -- what `order_lines` leaves: labels of smoothed components
 module _ (p : LayoutParams) (unit : Float) (smoothed glyphs rows order r : ℕ) (s s' : List ℕ) (o : OrderedLines (lineRows p unit s smoothed glyphs rows) order s s' r) (i : ℕ) (l : i < r) where

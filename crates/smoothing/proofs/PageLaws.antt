@@ -10,30 +10,30 @@ use lib.Ieee.{Float}
 use lib.ListN.{getD, length, take, drop, length-append, length-drop, List·getD-append}
 use lib.Seq.{length-take-le, getD-take, getD-drop, getD-append-add, drop-at, drop-drop}
 use lib.Dec.{eqb}
-use Rattle.memory.specs.Lists.{countIf, occurs, greatest}
-use Rattle.memory.specs.Limits.{maxLines}
+use Rattle.memory.specs.rules.Lists.{countIf, occurs, greatest}
+use Rattle.memory.specs.rules.Limits.{maxLines}
 use Rattle.memory.proofs.PartLaws.{tail-part, tail-put}
-use Rattle.labelling.specs.Labels.{Labelling, labelling}
-use Rattle.memory.specs.Masks.{isInk}
-use Rattle.labelling.specs.InkRuns.{runOf}
-use Rattle.labelling.specs.Sizes.{HoldsSizes, SizesRoom, SizesLeft}
-use Rattle.labelling.specs.declared.rect.Rect.{Rect}
+use Rattle.labelling.specs.rules.Labels.{Labelling, labelling}
+use Rattle.memory.specs.rules.Masks.{isInk}
+use Rattle.labelling.specs.stages.InkRuns.{runOf}
+use Rattle.labelling.specs.stages.Sizes.{HoldsSizes, SizesRoom, SizesLeft}
+use Rattle.memory.specs.declared.rect.Rect.{Rect}
 use Rattle.labelling.proofs.SizeLaws.{component-boxed}
 use Rattle.labelling.proofs.Theorems.{label-within}
 use Rattle.params.specs.declared.LayoutParams.{LayoutParams}
-use Rattle.rounding.specs.Lengths.{_·_, dots}
-use Rattle.sorting.specs.Units.{unitValue}
-use Rattle.sorting.specs.Kinds.{glyphKind}
-use Rattle.sorting.specs.Sorted.{sorted}
-use Rattle.sorting.specs.Scratch.{horizontalAt, verticalAt, sizesAt, kindsAt, smoothedAt, glyphsAt, inkAfterCut}
-use Rattle.sorting.specs.Sortings.{FrameRoom}
+use Rattle.rounding.specs.rules.Lengths.{_·_, dots}
+use Rattle.sorting.specs.rules.Units.{unitValue}
+use Rattle.sorting.specs.rules.Kinds.{glyphKind}
+use Rattle.sorting.specs.rules.Sorted.{sorted}
+use Rattle.sorting.specs.stages.Scratch.{horizontalAt, verticalAt, sizesAt, kindsAt, smoothedAt, glyphsAt, inkAfterCut}
+use Rattle.sorting.specs.stages.Sortings.{FrameRoom}
 use Rattle.sorting.proofs.PlanLaws.{frame-of, plan-dots}
 use Rattle.sorting.proofs.SortLaws.{kept-from, part-kept}
-use Rattle.grouping.specs.Smoothing.{smoothingGap, smoothed}
-use Rattle.grouping.specs.Lines.{firstDot, LabelledGlyph, keptLines}
-use Rattle.smoothing.specs.RowRuns.{glyphDot, glyphRuns, SmoothRoom, SmoothLeft}
-use Rattle.smoothing.specs.LineWords.{Filled, kindWord, firstNumber, LabelRoom, labelAt, labelsAt, CountRoom, boxAt, rowIsLine, RowRoom, HoldsGlyphs, HoldsRows}
-use Rattle.smoothing.specs.Segments.{rowsOf, glyphsIn, linesIn, glyphLabel, HoldsPage, SortedPage, GlyphNumbered, RowsLabelled, RowsHeld}
+use Rattle.smoothing.specs.rules.Smoothing.{smoothingGap, smoothed}
+use Rattle.smoothing.specs.rules.Lines.{firstDot, LabelledGlyph, keptLines}
+use Rattle.smoothing.specs.stages.RowRuns.{glyphDot, glyphRuns, SmoothRoom, SmoothLeft}
+use Rattle.smoothing.specs.stages.LineWords.{Filled, kindWord, firstNumber, LabelRoom, labelAt, labelsAt, CountRoom, boxAt, rowIsLine, RowRoom, HoldsGlyphs, HoldsRows}
+use Rattle.smoothing.specs.stages.Segments.{rowsOf, glyphsIn, linesIn, glyphLabel, HoldsPage, SortedPage, GlyphNumbered, RowsLabelled, RowsHeld}
 use Rattle.smoothing.specs.declared.rows.RowLabels.{RowLabels}
 use Rattle.smoothing.proofs.SmoothedDots.{smoothed-on}
 use Rattle.smoothing.proofs.LineLaws.{held-box, held-kept, glyphs-held, labelled-glyphs, label-of, lines-count}

@@ -11,8 +11,8 @@ use borrow.Rule.Slice.PartMut.{putMid}
 use Rattle.memory.proofs.PartLaws.{tail-part, tail-put}
 use Rattle.memory.proofs.PlaneLaws.{row-end}
 use lib.Dec.{ltb, leb}
-use Rattle.sorting.specs.Kinds.{glyphKind}
-use Rattle.smoothing.specs.RowRuns.{SmoothRoom, Page, startAt, glyphOf, RowWalk, PartWalk, RunAdded}
+use Rattle.sorting.specs.rules.Kinds.{glyphKind}
+use Rattle.smoothing.specs.stages.RowRuns.{SmoothRoom, SmoothingInput, startAt, glyphOf, RowWalk, PartWalk, RunAdded}
 use Rattle.smoothing.specs.declared.smooth.Places.{Places}
 use Rattle.smoothing.specs.declared.smooth.Walk.{Walk}
 use Rattle.smoothing.proofs.RowWordLaws.{read-start, read-end, read-number, read-kind, number, number-range, glyph-kind}
@@ -30,7 +30,7 @@ part-set front part a i k v e q = sym (ap (λ z. set (front ++ part) z v) (let z
 part-get : (front part : List ℕ) (a i k : ℕ) → length front ≡ a → a + i ≡ k → getD part i 0 ≡ getD (front ++ part) k 0
 part-get front part a i k e q = sym (ap (λ z. getD (front ++ part) z 0) (let z : k ≡ length front + i = omega arith in z) ∙ getD-append-add front part i 0)
 
-module _ {g : Page} {front : List ℕ} {first y : ℕ} {part : List ℕ} {places : Places} {walk : Walk} (W : PartWalk g front first y part places walk) where
+module _ {g : SmoothingInput} {front : List ℕ} {first y : ℕ} {part : List ℕ} {places : Places} {walk : Walk} (W : PartWalk g front first y part places walk) where
   part-length : 2 * first + length part ≡ length (g .words)
   part-length = let a = W .front-is in let b = length-append front part in let d = W .walked .kept .len in omega arith
 
@@ -171,18 +171,18 @@ module _ {g : Page} {front : List ℕ} {first y : ℕ} {part : List ℕ} {places
 -- The part is lent for a row, and comes back
 
 -- a page by the demand of smoothing
-abbrev pub pageOf : (w h : ℕ) (m ks plane s : List ℕ) (c kinds firsts gap : ℕ) → SmoothRoom w h m ks plane s c kinds firsts → Page
+abbrev pub pageOf : (w h : ℕ) (m ks plane s : List ℕ) (c kinds firsts gap : ℕ) → SmoothRoom w h m ks plane s c kinds firsts → SmoothingInput
 pageOf w h m ks plane s c kinds firsts gap a = record { w = w; h = h; m = m; ks = ks; plane = plane; words = s; c = c; kinds = kinds; firsts = firsts; gap = gap; asks = a }
 
 -- a row of a page ends within few dots
-pub row-few : (g : Page) (y : ℕ) → y < g .h → y * g .w + g .w ≤ 402595842
+pub row-few : (g : SmoothingInput) (y : ℕ) → y < g .h → y * g .w + g .w ≤ 402595842
 row-few g y l = let a = row-end (g .w) (g .h) y l in let b = dots-few g in omega arith
 
 -- where things stand from run `first` on
 abbrev pub placesFrom : ℕ → ℕ → ℕ → ℕ → Places
 placesFrom c kinds firsts first = record { runs = c - first; numbers = 2 * c - first; smoothed = 3 * c - 2 * first; kinds = kinds - 2 * first; firsts = firsts - 2 * first }
 
-module _ {g : Page} {s : List ℕ} {y first r components : ℕ} (W : RowWalk g s y first r components 0) where
+module _ {g : SmoothingInput} {s : List ℕ} {y first r components : ℕ} (W : RowWalk g s y first r components 0) where
   -- what the differences and the part ask
   pub row-room : (first ≤ g .c) × (g .c ≤ 402595842) × (2 * first ≤ g .kinds) × (2 * first ≤ g .firsts) × (2 * first ≤ length s) × (length s ≡ length (g .words))
   row-room =
@@ -213,7 +213,7 @@ module _ {g : Page} {s : List ℕ} {y first r components : ℕ} (W : RowWalk g s
             (subst (λ k. RowWalk g s y k r components 0) (let q : first ≡ first + 0 = omega arith in q) W);
       }
 
-pub row-leave : {g : Page} (s : List ℕ) {part : List ℕ} {y : ℕ} (first : ℕ) {limit : ℕ} {places : Places} {walk : Walk} → y < g .h → limit ≡ y * g .w + g .w
+pub row-leave : {g : SmoothingInput} (s : List ℕ) {part : List ℕ} {y : ℕ} (first : ℕ) {limit : ℕ} {places : Places} {walk : Walk} → y < g .h → limit ≡ y * g .w + g .w
     → PartWalk g (take (2 * first) s) first y part places walk × (first + walk .passed < g .c → limit ≤ startAt g (first + walk .passed))
     → RowWalk g (putMid (2 * first) (length s - 2 * first) s part) (y + 1) (first + walk .passed) (walk .smoothed) (walk .components) 0
 row-leave {g} s {part} {y} first {limit} {places} {walk} ly e (W, past) =

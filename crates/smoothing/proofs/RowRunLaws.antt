@@ -11,13 +11,13 @@ use borrow.Author.Tests.{le-leb, lt-leb}
 use lib.ListN.{getD}
 use lib.Dec.{eqb}
 use Rattle.memory.proofs.PlaneLaws.{dot-row}
-use Rattle.memory.specs.Masks.{isInk}
-use Rattle.labelling.specs.InkRuns.{inkBefore, turns, runCount, runOf, endOf, Runs}
+use Rattle.memory.specs.rules.Masks.{isInk}
+use Rattle.labelling.specs.stages.InkRuns.{inkBefore, turns, runCount, runOf, endOf, Runs}
 use Rattle.labelling.proofs.CountLaws.{count-low}
 use Rattle.labelling.proofs.TouchLaws.{starts-rise}
 use Rattle.labelling.proofs.RunLabelLaws.{inkBefore-row}
-use Rattle.sorting.specs.Kinds.{glyphKind}
-use Rattle.smoothing.specs.RowRuns.{glyphDot, endedTurns, Page, smoothedPage, startAt, glyphOf, Passed}
+use Rattle.sorting.specs.rules.Kinds.{glyphKind}
+use Rattle.smoothing.specs.stages.RowRuns.{glyphDot, endedTurns, SmoothingInput, smoothedPage, startAt, glyphOf, Passed}
 use Rattle.smoothing.proofs.StretchLaws.{begunTurns, turns-blank, ink-one, ended-ink, ended-run, count-run}
 use Rattle.smoothing.proofs.RunNumberLaws.{runs-are, label-shared}
 use Rattle.smoothing.proofs.SmoothedDots.{glyph-ink, smoothed-on, gap-fresh, gap-row, tail-blank}
@@ -26,7 +26,7 @@ off-of : (t : Bool) → (t ≡ true → ⊥) → t ≡ false
 off-of false h = refl
 off-of true h = absurd (h refl)
 
-module _ (g : Page) where
+module _ (g : SmoothingInput) where
   abbrev pub endAt : ℕ → ℕ
   endAt = endOf (turns (g .w) (g .m) (g .w * g .h)) 0
 

@@ -11,17 +11,17 @@ use borrow.Author.Tests.{lt-ltb, ltb-true, ltb-false, leb-true, leb-false, eq-eq
 use lib.ListN.{getD, length, take, drop, set, length-drop}
 use lib.Seq.{getD-take, getD-set-same, getD-set-other, ext-getD, length-take-le, drop-set-add, take-set-le}
 use lib.Dec.{eqb, ltb, leb}
-use Rattle.memory.specs.Lists.{countIf}
-use Rattle.labelling.specs.Labels.{labelling}
-use Rattle.labelling.specs.InkRuns.{inkBefore, appendIf, turns, runCount, runOf, isRoot}
-use Rattle.labelling.specs.Linking.{firstRun}
+use Rattle.memory.specs.rules.Lists.{countIf}
+use Rattle.labelling.specs.rules.Labels.{labelling}
+use Rattle.labelling.specs.stages.InkRuns.{inkBefore, appendIf, turns, runCount, runOf, isRoot}
+use Rattle.labelling.specs.stages.Linking.{firstRun}
 use Rattle.labelling.proofs.CountLaws.{count-low, count-up, count-one, count-step}
 use Rattle.labelling.proofs.TurnLaws.{snoc-len}
 use Rattle.labelling.proofs.TouchLaws.{and-both}
 use Rattle.labelling.proofs.RunLabelLaws.{turns-even}
-use Rattle.sorting.specs.Kinds.{glyphKind}
-use Rattle.grouping.specs.Lines.{firstDot}
-use Rattle.smoothing.specs.RowRuns.{glyphRun, glyphRuns, SmoothLeft, endedTurns, metBefore, Page, smoothedPage, startAt, glyphOf, PageKept, Passed, RowWalk}
+use Rattle.sorting.specs.rules.Kinds.{glyphKind}
+use Rattle.smoothing.specs.rules.Lines.{firstDot}
+use Rattle.smoothing.specs.stages.RowRuns.{glyphRun, glyphRuns, SmoothLeft, endedTurns, metBefore, SmoothingInput, smoothedPage, startAt, glyphOf, PageKept, Passed, RowWalk}
 use Rattle.smoothing.proofs.StretchLaws.{begunTurns, ended-length}
 use Rattle.smoothing.proofs.RunNumberLaws.{met-all, met-next, first-met}
 use Rattle.smoothing.proofs.RowWordLaws.{words-joined, words-anew, kept-set, kept-first, number, number-range, glyph-kind}
@@ -34,14 +34,14 @@ words-front s a k q v l =
     ∙ (ap (take k) (drop-set-add a s (q - a) v) ∙ take-set-le k (drop a s) (q - a) v (omega arith))
 
 -- a glyph run more is among the smoothed runs; its component is still to come
-pub record Added (g : Page) (s s' : List ℕ) (j r : ℕ) : Type 0 where
+pub record Added (g : SmoothingInput) (s s' : List ℕ) (j r : ℕ) : Type 0 where
   pub kept : PageKept g s'
   pub high : (i : ℕ) → g .kinds ≤ i → getD s' i 0 ≡ getD s i 0
   pub runs : take (2 * r) (drop (3 * g .c) s') ≡ endedTurns (g .w) (smoothedPage g) (endAt g j)
   pub fits : r ≤ countIf (glyphRun (g .w) (g .h) (g .m) (g .ks)) (suc j)
   pub some : 0 < r
 
-module _ (g : Page) where
+module _ (g : SmoothingInput) where
   in-all : {j : ℕ} → j < g .c → j < runCount (g .w) (g .m) (g .w * g .h)
   in-all {j} l = let e = g .asks .numbered .held .count in omega arith
 

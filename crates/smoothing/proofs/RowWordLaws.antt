@@ -6,11 +6,11 @@ use native.Mathlib.Omega.{arith}
 use lib.ListN.{getD, length, take, drop, set, length-set, length-drop}
 use lib.Seq.{getD-take, getD-drop, getD-set-other, length-take-le, take-suc-set, drop-set-add, take-take, take-at}
 use lib.Dec.{eqb}
-use Rattle.labelling.specs.Labels.{labelling}
-use Rattle.labelling.specs.InkRuns.{turns, runCount, endOf}
+use Rattle.labelling.specs.rules.Labels.{labelling}
+use Rattle.labelling.specs.stages.InkRuns.{turns, runCount, endOf}
 use Rattle.labelling.proofs.TurnLaws.{snoc-len}
-use Rattle.sorting.specs.Kinds.{glyphKind}
-use Rattle.smoothing.specs.RowRuns.{glyphDot, glyphRuns, Page, startAt, glyphOf, PageKept}
+use Rattle.sorting.specs.rules.Kinds.{glyphKind}
+use Rattle.smoothing.specs.stages.RowRuns.{glyphDot, glyphRuns, SmoothingInput, startAt, glyphOf, PageKept}
 use Rattle.smoothing.proofs.RunNumberLaws.{number-some, number-high}
 
 -- the last of the words from a on is written anew
@@ -39,7 +39,7 @@ words-anew s a k b e room =
     ∙ (take-suc-set (set (drop a s) k b) (suc k) e (omega arith)
     ∙ ap (λ (l : List ℕ). l ++ (e ∷ [])) (take-suc-set (drop a s) k b (omega arith))))
 
-module _ (g : Page) (s : List ℕ) (K : PageKept g s) where
+module _ (g : SmoothingInput) (s : List ℕ) (K : PageKept g s) where
   pub kept-set : (q v : ℕ) → 3 * g .c ≤ q → q < 3 * g .c + 2 * glyphRuns (g .w) (g .h) (g .m) (g .ks) → PageKept g (set s q v)
   kept-set q v a b =
       record {
@@ -79,10 +79,10 @@ module _ (g : Page) (s : List ℕ) (K : PageKept g s) where
       ∙ (sym (getD-drop (g .kinds) (g .words) k 0) ∙ (sym (getD-take (length (g .ks)) (drop (g .kinds) (g .words)) k 0 l) ∙ ap (λ (z : List ℕ). getD z k 0) (g .asks .kinds-held)))
 
 -- the number of run j's component
-abbrev pub number : Page → ℕ → ℕ
+abbrev pub number : SmoothingInput → ℕ → ℕ
 number g j = getD (labelling (g .w) (g .h) (g .m) .labels) (startAt g j) 0
 
-module _ (g : Page) (j : ℕ) (l : j < g .c) where
+module _ (g : SmoothingInput) (j : ℕ) (l : j < g .c) where
   pub number-range : (0 < number g j) × (number g j ≤ length (g .ks))
   number-range =
       let e = g .asks .numbered .held .count in

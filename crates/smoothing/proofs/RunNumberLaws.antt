@@ -8,19 +8,19 @@ use native.Mathlib.Decide.{ℕ-discrete, decLt}
 use native.Mathlib.Omega.{arith}
 use borrow.Author.Tests.{eq-eqb, ne-eqb}
 use lib.ListN.{getD, length}
-use Rattle.memory.specs.Lists.{table, indexFrom}
+use Rattle.memory.specs.rules.Lists.{table, indexFrom}
 use Rattle.memory.proofs.TableLaws.{getD-table, length-table}
-use Rattle.memory.specs.Masks.{isInk}
-use Rattle.labelling.specs.Labels.{labelling}
-use Rattle.labelling.specs.InkRuns.{turns, runCount, runOf, startOf, endOf, Runs, isRoot, componentNumber, runLabel}
-use Rattle.labelling.specs.Linking.{touching, firstRun}
+use Rattle.memory.specs.rules.Masks.{isInk}
+use Rattle.labelling.specs.rules.Labels.{labelling}
+use Rattle.labelling.specs.stages.InkRuns.{turns, runCount, runOf, startOf, endOf, Runs, isRoot, componentNumber, runLabel}
+use Rattle.labelling.specs.stages.Linking.{touching, firstRun}
 use Rattle.labelling.proofs.CountLaws.{count-up, count-one}
-use Rattle.labelling.proofs.FirstLaws.{firsts-right, along}
+use Rattle.union_find.proofs.FirstLaws.{firsts-right, along}
 use Rattle.labelling.proofs.TransferLaws.{firsts-named}
 use Rattle.labelling.proofs.TouchLaws.{starts-rise}
 use Rattle.labelling.proofs.RunLabelLaws.{turns-runs, labelling-runs, paint-run, number-new, names-new, names-old}
-use Rattle.grouping.specs.Lines.{firstDot}
-use Rattle.smoothing.specs.RowRuns.{metBefore}
+use Rattle.smoothing.specs.rules.Lines.{firstDot}
+use Rattle.smoothing.specs.stages.RowRuns.{metBefore}
 
 index-from : (d o k : ℕ) (l : List ℕ) (i : ℕ) → i < length l → getD l i 0 ≡ k → ((a : ℕ) → a < i → getD l a 0 ≡ k → ⊥) → indexFrom d o k l ≡ o + i
 unfolding indexFrom

@@ -10,13 +10,13 @@ use borrow.Author.Tests.{lt-ltb}
 use lib.ListN.{getD}
 use lib.Dec.{eqb, leb}
 use Rattle.memory.proofs.PlaneLaws.{dot-column, dot-row, dot-inside}
-use Rattle.memory.specs.Masks.{isInk}
-use Rattle.labelling.specs.Labels.{labelling}
-use Rattle.sorting.specs.Kinds.{glyphKind}
+use Rattle.memory.specs.rules.Masks.{isInk}
+use Rattle.labelling.specs.rules.Labels.{labelling}
+use Rattle.sorting.specs.rules.Kinds.{glyphKind}
 use Rattle.extents.proofs.MaskLaws.{isInk-maskOf}
-use Rattle.grouping.specs.Smoothing.{glyphAt, joined, smoothed}
-use Rattle.smoothing.specs.RowRuns.{glyphDot, GlyphPlane}
-use Rattle.grouping.proofs.JoinLaws.{joined-on, joined-between, joined-before, joined-after}
+use Rattle.smoothing.specs.rules.Smoothing.{glyphAt, joined, smoothed}
+use Rattle.smoothing.specs.stages.RowRuns.{glyphDot, GlyphPlane}
+use Rattle.smoothing.proofs.JoinLaws.{joined-on, joined-between, joined-before, joined-after}
 use Rattle.smoothing.proofs.RunNumberLaws.{label-blank}
 
 -- a row before row y ends where that starts, or earlier

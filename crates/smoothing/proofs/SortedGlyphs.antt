@@ -13,33 +13,33 @@ use lib.Ieee.{Float, nan, inf, fin, binary64, up, down, mul, ofBits, ofInt, lt, 
 use lib.Ieee.Bits.{is-true}
 use lib.Ieee.Scale.{finite}
 use lib.Ieee.Positive.{positive, first-pos, mul-mono}
-use Rattle.memory.specs.Lists.{indexFrom}
-use Rattle.memory.specs.Limits.{maxMaskDots}
+use Rattle.memory.specs.rules.Lists.{indexFrom}
+use Rattle.memory.specs.rules.Limits.{maxMaskDots}
 use Rattle.memory.proofs.CountLaws.{count-none}
 use Rattle.memory.proofs.TableLaws.{length-table, getD-table}
-use Rattle.labelling.specs.Rects.{width, height}
-use Rattle.labelling.specs.Components.{noDots, boxOf}
-use Rattle.memory.specs.Masks.{isInk}
-use Rattle.labelling.specs.Labels.{labelling}
-use Rattle.labelling.specs.InkRuns.{turns, runCount, runOf, startOf}
-use Rattle.labelling.specs.Sizes.{HoldsRuns, HoldsNumbers}
+use Rattle.memory.specs.rules.Rects.{width, height}
+use Rattle.labelling.specs.rules.Components.{noDots, boxOf}
+use Rattle.memory.specs.rules.Masks.{isInk}
+use Rattle.labelling.specs.rules.Labels.{labelling}
+use Rattle.labelling.specs.stages.InkRuns.{turns, runCount, runOf, startOf}
+use Rattle.labelling.specs.stages.Sizes.{HoldsRuns, HoldsNumbers}
 use Rattle.labelling.specs.declared.component.Component.{Component}
 use Rattle.labelling.proofs.CountLaws.{count-low}
 use Rattle.labelling.proofs.Theorems.{label-blank, label-occurs}
 use Rattle.labelling.proofs.SizeLaws.{held-runs, held-few, held-dots, held-start, held-end, run-label, component-boxed}
-use Rattle.params.specs.Valid as sheet
-use Rattle.params.specs.Facts.{ValidSheet}
+use Rattle.params.specs.rules.Valid as sheet
+use Rattle.params.specs.rules.Facts.{ValidSheet}
 use Rattle.params.specs.declared.LayoutParams.{LayoutParams}
-use Rattle.rounding.specs.Lengths.{float, _·_}
-use Rattle.rulings.specs.Rulings.{runMin, thickMax, cutHorizontal, cutVertical, afterCut}
-use Rattle.sorting.specs.Units.{sideExtent, unitOf, unitValue}
-use Rattle.sorting.specs.Kinds.{cutKind, glyphKind, isRule, isGraphic, kindOf, kindAt}
-use Rattle.sorting.specs.Sorted.{sorted}
-use Rattle.sorting.specs.Scratch.{inkAfterCut}
+use Rattle.rounding.specs.rules.Lengths.{float, _·_}
+use Rattle.rulings.specs.rules.Rulings.{runMin, thickMax, cutHorizontal, cutVertical, afterCut}
+use Rattle.sorting.specs.rules.Units.{sideExtent, unitOf, unitValue}
+use Rattle.sorting.specs.rules.Kinds.{cutKind, glyphKind, isRule, isGraphic, kindOf, kindAt}
+use Rattle.sorting.specs.rules.Sorted.{sorted}
+use Rattle.sorting.specs.stages.Scratch.{inkAfterCut}
 use Rattle.rulings.proofs.RulingMasks.{afterCut-ink}
-use Rattle.grouping.specs.Lines.{firstDot}
-use Rattle.smoothing.specs.RowRuns.{glyphDot, glyphRun, glyphRuns, GlyphPlane}
-use Rattle.grouping.proofs.BlockLaws.{getD-map}
+use Rattle.smoothing.specs.rules.Lines.{firstDot}
+use Rattle.smoothing.specs.stages.RowRuns.{glyphDot, glyphRun, glyphRuns, GlyphPlane}
+use Rattle.memory.proofs.ListLaws.{getD-map}
 use Rattle.smoothing.proofs.RunNumberLaws.{number-some, number-high}
 
 -- A frame one dot wide
@@ -108,22 +108,27 @@ dot-glyph w h a b m ks wide i l = go (isInk a i || isInk b i) refl
         let u : isInk (afterCut w h a b m) i ≡ false = afterCut-ink w h a b m i wide l ∙ (ap (λ t. isInk m i && not t) f ∙ no-cut (isInk m i)) in
         sym (ap (λ n. eqb (getD (0 ∷ ks) n 0) glyphKind) (label-blank w h (afterCut w h a b m) i l u))
 
--- an entry that is there is found
-index-found : (d o k : ℕ) (l : List ℕ) (i : ℕ) → i < length l → getD l i 0 ≡ k → (j : ℕ) × (indexFrom d o k l ≡ o + j) × (j < length l) × (getD l j 0 ≡ k)
+-- an entry that is there is found, and none before it is it
+pub index-found : (d o k : ℕ) (l : List ℕ) (i : ℕ) → i < length l → getD l i 0 ≡ k
+    → (j : ℕ) × (indexFrom d o k l ≡ o + j) × (j < length l) × (getD l j 0 ≡ k) × ((a : ℕ) → a < j → getD l a 0 ≡ k → ⊥)
 unfolding indexFrom
 index-found d o k [] i h e = absurd (not-suc-le-zero h)
 index-found d o k (x ∷ l) i h e = go (eqb x k) refl i h e (index-found d (suc o) k l)
   where
+    later : (j : ℕ) → eqb x k ≡ false → ((a : ℕ) → a < j → getD l a 0 ≡ k → ⊥) → (a : ℕ) → a < suc j → getD (x ∷ l) a 0 ≡ k → ⊥
+    later j q none zero b f = true≢false (sym (eq-eqb x k f) ∙ q)
+    later j q none (suc a) b f = none a (omega arith) f
+
     go : (t : Bool) → eqb x k ≡ t → (i : ℕ) → i < suc (length l) → getD (x ∷ l) i 0 ≡ k
-        → ((i : ℕ) → i < length l → getD l i 0 ≡ k → (j : ℕ) × (indexFrom d (suc o) k l ≡ suc o + j) × (j < length l) × (getD l j 0 ≡ k))
-        → (j : ℕ) × (cond t o (indexFrom d (suc o) k l) ≡ o + j) × (j < suc (length l)) × (getD (x ∷ l) j 0 ≡ k)
-    go true q i h e ih = (0, (let z : o ≡ o + 0 = omega arith in z), (let z : 0 < suc (length l) = omega arith in z), eqb-true x k q)
+        → ((i : ℕ) → i < length l → getD l i 0 ≡ k → (j : ℕ) × (indexFrom d (suc o) k l ≡ suc o + j) × (j < length l) × (getD l j 0 ≡ k) × ((a : ℕ) → a < j → getD l a 0 ≡ k → ⊥))
+        → (j : ℕ) × (cond t o (indexFrom d (suc o) k l) ≡ o + j) × (j < suc (length l)) × (getD (x ∷ l) j 0 ≡ k) × ((a : ℕ) → a < j → getD (x ∷ l) a 0 ≡ k → ⊥)
+    go true q i h e ih = (0, (let z : o ≡ o + 0 = omega arith in z), (let z : 0 < suc (length l) = omega arith in z), eqb-true x k q, λ a b f. not-suc-le-zero b)
     go false q zero h e ih = absurd (true≢false (sym (eq-eqb x k e) ∙ q))
     go false q (suc i) h e ih =
         let R = ih i (omega arith) e in
-        (suc (R .0), R .1 ∙ (let z : suc o + R .0 ≡ o + suc (R .0) = omega arith in z), (let y = R .2 in let z : suc (R .0) < suc (length l) = omega arith in z), R .3)
+        (suc (R .0), R .1 ∙ (let z : suc o + R .0 ≡ o + suc (R .0) = omega arith in z), (let y = R .2 in let z : suc (R .0) < suc (length l) = omega arith in z), R .3, later (R .0) q (R .4))
 
-labels-long : (w h : ℕ) (m : List ℕ) → length (labelling w h m .labels) ≡ w * h
+pub labels-long : (w h : ℕ) (m : List ℕ) → length (labelling w h m .labels) ≡ w * h
 unfolding labelling
 labels-long w h m = length-table _ (w * h)
 

@@ -9,11 +9,11 @@ use native.Mathlib.Omega.{arith}
 use borrow.Author.Tests.{eq-eqb, ne-eqb}
 use lib.ListN.{length}
 use lib.Dec.{eqb}
-use Rattle.memory.specs.Masks.{isInk}
-use Rattle.labelling.specs.InkRuns.{inkBefore, differ, appendIf, turns, runCount}
+use Rattle.memory.specs.rules.Masks.{isInk}
+use Rattle.labelling.specs.stages.InkRuns.{inkBefore, differ, appendIf, turns, runCount}
 use Rattle.labelling.proofs.TurnLaws.{bit, scanned, snoc-len}
 use Rattle.labelling.proofs.ScanLaws.{turns-inner, inkBefore-inner}
-use Rattle.smoothing.specs.RowRuns.{endedTurns}
+use Rattle.smoothing.specs.stages.RowRuns.{endedTurns}
 
 -- the turns of the first i dots, and the start at i of a run that opens there
 unfoldable pub begunTurns : ℕ → List ℕ → ℕ → List ℕ

@@ -1,6 +1,4 @@
--- what smoothing on the runs of rows asks and leaves
-pub mod RowRuns
--- glyphs, smoothed components and lines in the words of scratch
-pub mod LineWords
--- what the stages up to the counted lines leave in scratch
-pub mod Segments
+-- what a reader must believe
+pub mod rules
+-- what only the code's way needs
+pub mod stages

@@ -3,11 +3,11 @@ ghost use mathlib.Core.Path.{_≡_};
 ghost use Prim.Native.Nat.{ℕ, suc, _+_, _-_, _*_, _/_, _≤_, _<_};
 ghost use lib.ListN.{length, getD, set};
 ghost use lib.Seq.{sets};
-ghost use Rattle.memory.specs.Lists.{occurs};
-ghost use Rattle.memory.specs.Limits.{maxCapacity};
-ghost use Rattle.sorting.specs.Kinds.{glyphKind};
-ghost use Rattle.smoothing.specs.LineWords.{Filled, kindWord, firstNumber, LabelRoom, labelAt, labelsAt, CountRoom, boxAt, glyphFields, glyphRecordAt, GlyphRoom, WrittenGlyph, WrittenGlyphs};
-use labelling::Rect;
+ghost use Rattle.memory.specs.rules.Lists.{occurs};
+ghost use Rattle.memory.specs.rules.Limits.{maxCapacity};
+ghost use Rattle.sorting.specs.rules.Kinds.{glyphKind};
+ghost use Rattle.smoothing.specs.stages.LineWords.{Filled, kindWord, firstNumber, LabelRoom, labelAt, labelsAt, CountRoom, boxAt, glyphFields, glyphRecordAt, GlyphRoom, WrittenGlyph, WrittenGlyphs};
+use memory::Rect;
 use memory::wide;
 
 // The kind of a glyph.

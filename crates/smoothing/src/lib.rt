@@ -6,6 +6,8 @@ mod rows;
 mod smooth;
 
 pub use glyphs::write_glyphs;
+pub use lines::LINE_WORDS;
+pub use lines::LinePlaces;
 pub use lines::NO_LINE;
 pub use lines::number_labels;
 pub use lines::order_lines;

@@ -6,7 +6,7 @@ ghost use mathlib.Core.List.{List};
 ghost use Prim.Native.Nat.{ℕ, _+_, _-_, _*_, _≤_, _<_};
 ghost use lib.ListN.{length, getD, set};
 ghost use lib.Dec.{ltb, leb};
-ghost use Rattle.smoothing.specs.RowRuns.{SmoothRoom, SmoothLeft, Page, startAt, glyphOf, PartWalk, RunAdded};
+ghost use Rattle.smoothing.specs.stages.RowRuns.{SmoothRoom, SmoothLeft, SmoothingInput, startAt, glyphOf, PartWalk, RunAdded};
 use memory::larger;
 use memory::wide;
 
@@ -81,9 +81,9 @@ fn smooth_row(
     smoothed: usize,
     components: usize,
 ) -> Walk
-    requires { ⌜ ((g : Page) × (front : List ℕ) × (first : ℕ) × (y : ℕ) × (gap ≡ g .gap) × (y < g .h) × (limit ≡ y * g .w + g .w)
+    requires { ⌜ ((g : SmoothingInput) × (front : List ℕ) × (first : ℕ) × (y : ℕ) × (gap ≡ g .gap) × (y < g .h) × (limit ≡ y * g .w + g .w)
         × PartWalk g front first y (now part) places (record { passed = 0; smoothed = smoothed; components = components; last = 0 })) ⌝ }
-    ensures { λ r. ⌜ ((g : Page) (front : List ℕ) (first y : ℕ) → gap ≡ g .gap → y < g .h → limit ≡ y * g .w + g .w
+    ensures { λ r. ⌜ ((g : SmoothingInput) (front : List ℕ) (first y : ℕ) → gap ≡ g .gap → y < g .h → limit ≡ y * g .w + g .w
         → PartWalk g front first y (now (part .entry)) places (record { passed = 0; smoothed = smoothed; components = components; last = 0 })
         → PartWalk g front first y (now (part .exit)) places r × (first + r .passed < g .c → limit ≤ startAt g (first + r .passed))) ⌝ }
 {
@@ -106,9 +106,9 @@ fn smooth_row(
 
 // The walk with the next run of the row.
 fn smooth_run(part: &mut [u32], places: Places, gap: usize, walk: Walk) -> Walk
-    requires { ⌜ ((g : Page) × (front : List ℕ) × (first : ℕ) × (y : ℕ) × (gap ≡ g .gap) × PartWalk g front first y (now part) places walk
+    requires { ⌜ ((g : SmoothingInput) × (front : List ℕ) × (first : ℕ) × (y : ℕ) × (gap ≡ g .gap) × PartWalk g front first y (now part) places walk
         × (y < g .h) × (walk .passed < places .runs) × (startAt g (first + walk .passed) < y * g .w + g .w)) ⌝ }
-    ensures { λ r. ⌜ (r .passed ≡ walk .passed + 1) × ((g : Page) (front : List ℕ) (first y : ℕ) → gap ≡ g .gap → PartWalk g front first y (now (part .entry)) places walk
+    ensures { λ r. ⌜ (r .passed ≡ walk .passed + 1) × ((g : SmoothingInput) (front : List ℕ) (first y : ℕ) → gap ≡ g .gap → PartWalk g front first y (now (part .entry)) places walk
         → y < g .h → walk .passed < places .runs → startAt g (first + walk .passed) < y * g .w + g .w → PartWalk g front first y (now (part .exit)) places r) ⌝ }
 {
     let j = walk.passed;
@@ -128,10 +128,10 @@ fn smooth_run(part: &mut [u32], places: Places, gap: usize, walk: Walk) -> Walk
 
 // The walk with the next run of the row, of the glyph with this number.
 fn smooth_glyph(part: &mut [u32], places: Places, gap: usize, walk: Walk, number: usize) -> Walk
-    requires { ⌜ ((g : Page) × (front : List ℕ) × (first : ℕ) × (y : ℕ) × (gap ≡ g .gap) × PartWalk g front first y (now part) places walk
+    requires { ⌜ ((g : SmoothingInput) × (front : List ℕ) × (first : ℕ) × (y : ℕ) × (gap ≡ g .gap) × PartWalk g front first y (now part) places walk
         × (y < g .h) × (walk .passed < places .runs) × (startAt g (first + walk .passed) < y * g .w + g .w)
         × (number ≡ getD (now part) (places .numbers + walk .passed) 0) × (glyphOf g (startAt g (first + walk .passed)) ≡ true)) ⌝ }
-    ensures { λ r. ⌜ (r .passed ≡ walk .passed + 1) × ((g : Page) (front : List ℕ) (first y : ℕ) → gap ≡ g .gap → PartWalk g front first y (now (part .entry)) places walk
+    ensures { λ r. ⌜ (r .passed ≡ walk .passed + 1) × ((g : SmoothingInput) (front : List ℕ) (first y : ℕ) → gap ≡ g .gap → PartWalk g front first y (now (part .entry)) places walk
         → y < g .h → walk .passed < places .runs → startAt g (first + walk .passed) < y * g .w + g .w
         → number ≡ getD (now (part .entry)) (places .numbers + walk .passed) 0 → glyphOf g (startAt g (first + walk .passed)) ≡ true
         → PartWalk g front first y (now (part .exit)) places r) ⌝ }

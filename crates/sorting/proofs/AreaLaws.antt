@@ -7,9 +7,9 @@ use native.Mathlib.Decide.{ℕ-discrete}
 use native.Mathlib.Numerals.{add-one}
 use native.Mathlib.Omega.{arith}
 use lib.ListN.{getD}
-use Rattle.memory.specs.Lists.{table, total}
+use Rattle.memory.specs.rules.Lists.{table, total}
 use Rattle.sorting.proofs.Medians.{total-snoc}
-use Rattle.sorting.specs.Measures.{sizedAt}
+use Rattle.sorting.specs.stages.Measures.{sizedAt}
 
 pub total-more : (f : ℕ → ℕ) (n : ℕ) → total (table f (suc n)) ≡ total (table f n) + f n
 unfolding table

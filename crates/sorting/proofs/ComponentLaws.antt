@@ -1,6 +1,6 @@
 -- The components of a mask: their boxes lie inside it, and their areas add up to its ink.
 use mathlib.Core.Path.{_≡_, refl, sym, ap, _∙_}
-use mathlib.Core.List.{List, map}
+use mathlib.Core.List.{List, [], map}
 use mathlib.Core.Bool.{Bool, true, false, cond}
 use Prim.Native.Nat.{ℕ, zero, suc, _+_, _*_, _≤_, _<_}
 use native.Mathlib.Nat.{le-refl}
@@ -10,15 +10,18 @@ use borrow.Author.Tests.{eq-eqb, ne-eqb}
 use lib.ListN.{getD, length, length-map, List·getD-map}
 use lib.Seq.{ext-getD}
 use lib.Dec.{eqb}
-use Rattle.memory.specs.Lists.{table, countIf, occurs, total}
+use Rattle.memory.specs.rules.Lists.{table, countIf, occurs, total}
+use Rattle.memory.proofs.CountLaws.{count-none}
 use Rattle.memory.proofs.TableLaws.{length-table, getD-table}
-use Rattle.labelling.specs.Components.{noDots}
-use Rattle.memory.specs.Masks.{isInk}
-use Rattle.labelling.specs.Labels.{labelling}
+use Rattle.labelling.specs.rules.Components.{noDots}
+use Rattle.memory.specs.rules.Masks.{isInk}
+use Rattle.labelling.specs.rules.Labels.{labelling, touches, isFirst, labelAt, componentTo}
+use Rattle.union_find.specs.rules.Classes.{firsts}
 use Rattle.labelling.specs.declared.component.Component.{Component}
 use Rattle.labelling.proofs.Theorems.{label, count, label-within, label-blank, records-right}
 use Rattle.labelling.proofs.SizeLaws.{component-boxed}
-use Rattle.sorting.specs.Measures.{BoxInside}
+use Rattle.rulings.specs.stages.Marks.{Blank}
+use Rattle.sorting.specs.stages.Measures.{BoxInside}
 use Rattle.extents.proofs.MaskLaws.{ink-count}
 use Rattle.sorting.proofs.AreaLaws.{total-more}
 
@@ -28,6 +31,14 @@ pub box-inside : (w h : ℕ) (m : List ℕ) → 0 < w → w * h ≤ 1073741824 �
 box-inside w h m wide few k l =
     let B = component-boxed w h m wide few k l in
     record { columns = B .wide; wide = B .right; rows = B .high; high = B .bottom }
+
+-- a mask without ink has none
+pub blank-none : (w h : ℕ) (m : List ℕ) → Blank m (w * h) → labelling w h m .components ≡ []
+unfolding labelling table
+blank-none w h m none =
+    let l = firsts (touches w m) (w * h) in
+    ap (λ (n : ℕ). table (λ k. componentTo w (table (labelAt m l) (w * h)) (suc k) (w * h)) n)
+    (count-none (isFirst m l) (w * h) (λ i b. unfold isFirst in rw (none i b)))
 
 -- Sums
 

@@ -8,16 +8,17 @@ use lib.ListN.{getD, drop}
 use lib.Seq.{getD-drop}
 use lib.Dec.{eqb, ltb}
 use Rattle.memory.proofs.TableLaws.{table-ext}
-use Rattle.memory.specs.Masks.{isInk}
-use Rattle.labelling.specs.Marked.{passes, passing}
+use Rattle.memory.specs.rules.Masks.{isInk}
+use Rattle.labelling.specs.stages.Marked.{passes, passing}
 use Rattle.labelling.specs.declared.marked.Test.{Test}
 use Rattle.labelling.specs.declared.marked.Test.the-variants.{First, Second, Neither}
-use Rattle.extents.specs.Extents.{Plane, maskOf}
-use Rattle.rulings.specs.Rulings.{cutHorizontal, cutVertical, afterCut, cutMark}
-use Rattle.sorting.specs.Scratch.{marksAt, horizontalAt}
+use Rattle.extents.specs.rules.Extents.{Plane, maskOf}
+use Rattle.rulings.specs.rules.Rulings.{cutHorizontal, cutVertical, afterCut}
+use Rattle.rulings.specs.stages.Marks.{cutMark}
+use Rattle.sorting.specs.stages.Scratch.{marksAt, horizontalAt}
 use Rattle.extents.proofs.MaskLaws.{isInk-maskOf}
 use Rattle.rulings.proofs.RulingMasks.{horizontal-blank, vertical-blank, afterCut-ink}
-use Rattle.sorting.specs.Sortings.{passed}
+use Rattle.sorting.specs.stages.Sortings.{passed}
 
 -- the same marks pass the same dots
 pub passed-same : (t : Test) (w h : ℕ) (m s u : List ℕ) → ((i : ℕ) → marksAt (w * h) ≤ i → i < horizontalAt (w * h) → getD u i 0 ≡ getD s i 0) → passed t w h m u ≡ passed t w h m s

@@ -12,17 +12,17 @@ use lib.ListN.{getD, length, take, drop, set, length-take, List·getD-eq-default
 use lib.Seq.{getD-set-same, getD-set-other, getD-take, getD-drop}
 use lib.Dec.{eqb}
 use mir.Val.{boolByte}
-use Rattle.memory.specs.Lists.{table, keep, occurs}
+use Rattle.memory.specs.rules.Lists.{table, keep, occurs}
 use Rattle.memory.proofs.TableLaws.{table-ext}
-use Rattle.labelling.specs.Rects.{height}
-use Rattle.labelling.specs.Components.{boxOf}
+use Rattle.memory.specs.rules.Rects.{height}
+use Rattle.labelling.specs.rules.Components.{boxOf}
 use Rattle.labelling.specs.declared.component.Component.{Component}
 use Rattle.params.specs.declared.LayoutParams.{LayoutParams}
-use Rattle.rounding.specs.Lengths.{float}
-use Rattle.sorting.specs.Units.{measurable, median, unitFrom, unitOf}
-use Rattle.sorting.specs.Counts.{CountsOf, BoxFits}
+use Rattle.rounding.specs.rules.Lengths.{float}
+use Rattle.sorting.specs.rules.Units.{measurable, median, unitFrom, unitOf}
+use Rattle.sorting.specs.stages.Counts.{CountsOf, BoxFits}
 use Rattle.sorting.specs.declared.Unit.the-variants.{Measured, Assumed}
-use Rattle.sorting.specs.Measures.{Within, Stored, sizedAt, sizedFrom, BoxInside, SizesInside, measuredHeights, HeightsCounted}
+use Rattle.sorting.specs.stages.Measures.{Within, Stored, sizedAt, sizedFrom, BoxInside, SizesInside, measuredHeights, HeightsCounted}
 use Rattle.sorting.proofs.StoredLaws.{within-none, within-set, within-trans, within-wider}
 use Rattle.sorting.proofs.SizedLaws.{sized-same, sized-past}
 

@@ -8,19 +8,19 @@ use native.Mathlib.Omega.{arith}
 use lib.ListN.{getD, length}
 use lib.Dec.{eqb, ltb}
 use lib.Ieee.{Float}
-use Rattle.memory.specs.Lists.{table, countIf, occurs, total}
+use Rattle.memory.specs.rules.Lists.{table, countIf, occurs}
 use Rattle.memory.proofs.TableLaws.{length-table, getD-table}
-use Rattle.labelling.specs.Classes.{firsts}
-use Rattle.labelling.specs.Rects.{width, height}
-use Rattle.labelling.specs.Components.{boxOf}
-use Rattle.memory.specs.Masks.{isInk}
-use Rattle.labelling.specs.Labels.{touches, isFirst, labelAt, labelling}
+use Rattle.union_find.specs.rules.Classes.{firsts}
+use Rattle.memory.specs.rules.Rects.{width, height}
+use Rattle.labelling.specs.rules.Components.{boxOf}
+use Rattle.memory.specs.rules.Masks.{isInk}
+use Rattle.labelling.specs.rules.Labels.{touches, isFirst, labelAt, labelling}
 use Rattle.labelling.specs.declared.component.Component.{Component}
 use Rattle.params.specs.declared.LayoutParams.{LayoutParams}
-use Rattle.rulings.specs.Rulings.{cutHorizontal, cutVertical, afterCut, runMin, thickMax}
-use Rattle.sorting.specs.Units.{unitOf, unitValue}
-use Rattle.sorting.specs.Kinds.{kindOf, kindAt, isRule, isGraphic}
-use Rattle.sorting.specs.Sorted.{sorted, kindCounts}
+use Rattle.rulings.specs.rules.Rulings.{cutHorizontal, cutVertical, afterCut, runMin, thickMax}
+use Rattle.sorting.specs.rules.Units.{unitOf, unitValue}
+use Rattle.sorting.specs.rules.Kinds.{kindOf, kindAt, isRule, isGraphic}
+use Rattle.sorting.specs.rules.Sorted.{sorted, kindCounts, sumOfKinds}
 use Rattle.sorting.proofs.LabelFacts.{label-in, label-none}
 use Rattle.memory.proofs.CountLaws.{occurs-by-place}
 use Rattle.extents.proofs.MaskLaws.{ink-count}
@@ -50,7 +50,7 @@ kinds-range f (c ∷ cs) h (suc k) l = kinds-range f cs h k (omega arith)
 
 -- the five counts of n dots
 five : (ℕ → ℕ) → ℕ → ℕ
-five g n = countIf (λ i. eqb (g i) 1) n + (countIf (λ i. eqb (g i) 2) n + (countIf (λ i. eqb (g i) 3) n + (countIf (λ i. eqb (g i) 4) n + (countIf (λ i. eqb (g i) 5) n + 0))))
+five g n = countIf (λ i. eqb (g i) 1) n + countIf (λ i. eqb (g i) 2) n + countIf (λ i. eqb (g i) 3) n + countIf (λ i. eqb (g i) 4) n + countIf (λ i. eqb (g i) 5) n
 
 one-of-five : (b : Bool) (k : ℕ) → KindOfDot b k → cond (eqb k 1) 1 0 + (cond (eqb k 2) 1 0 + (cond (eqb k 3) 1 0 + (cond (eqb k 4) 1 0 + cond (eqb k 5) 1 0))) ≡ cond b 1 0
 one-of-five false zero blank = refl
@@ -122,10 +122,10 @@ module _ (p : LayoutParams) (w h : ℕ) (m : List ℕ) (wide : 0 < w) where
           from (suc k) x y = let r = kinds-range kind cs (kind-range p (unitValue (unitOf p w h cs)) w h) k y in ink (r .0) (r .1)
 
   -- cut, rule, graphic, glyph and speck add up to the ink
-  pub kinds-add-up : length m ≡ w * h → ((i : ℕ) → getD m i 0 ≤ 1) → total (kindCounts (sorted p w h m .plane)) ≡ occurs 1 m
-  unfolding five total kindCounts
+  pub kinds-add-up : length m ≡ w * h → ((i : ℕ) → getD m i 0 ≤ 1) → sumOfKinds (kindCounts (sorted p w h m .plane)) ≡ occurs 1 m
+  unfolding five kindCounts
   kinds-add-up e bits =
-      (λ i. by 1 i + (by 2 i + (by 3 i + (by 4 i + (by 5 i + 0)))))
+      (λ i. by 1 i + by 2 i + by 3 i + by 4 i + by 5 i)
       ∙ (five-count (λ i. getD (sorted p w h m .plane) i 0) (isInk m) (w * h) kind-of-dot
       ∙ ink-count w h m e bits)
     where

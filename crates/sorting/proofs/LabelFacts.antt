@@ -5,13 +5,13 @@ use mathlib.Core.Bool.{true, false}
 use Prim.Native.Nat.{ℕ, suc, _≤_, _<_}
 use native.Mathlib.Omega.{arith}
 use borrow.Author.Tests.{eq-eqb}
-use Rattle.memory.specs.Lists.{countIf}
+use Rattle.memory.specs.rules.Lists.{countIf}
 use Rattle.memory.proofs.BoolLaws.{and-left, and-right}
-use Rattle.labelling.specs.Classes.{firstOf, firsts}
-use Rattle.memory.specs.Masks.{isInk}
-use Rattle.labelling.specs.Labels.{touches, isFirst, labelAt}
-use Rattle.labelling.specs.Chains.{Chain, here, rise, fall, Firsts}
-use Rattle.labelling.proofs.FirstLaws.{firsts-right, along}
+use Rattle.union_find.specs.rules.Classes.{firstOf, firsts}
+use Rattle.memory.specs.rules.Masks.{isInk}
+use Rattle.labelling.specs.rules.Labels.{touches, isFirst, labelAt}
+use Rattle.union_find.specs.rules.Chains.{Chain, here, rise, fall, Firsts}
+use Rattle.union_find.proofs.FirstLaws.{firsts-right, along}
 use Rattle.labelling.proofs.CountLaws.{count-up}
 
 touch-ink : (w : ℕ) (m : List ℕ) (a b : ℕ) → touches w m a b ≡ true → (isInk m a ≡ true) × (isInk m b ≡ true)

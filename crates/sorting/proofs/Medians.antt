@@ -10,9 +10,9 @@ use borrow.Author.Tests.{lt-ltb, le-ltb, le-leb, lt-leb, eq-eqb, ne-eqb}
 use lib.ListN.{getD, length, take, List·getD-eq-default}
 use lib.Dec.{eqb, ltb, leb}
 use lib.Seq.{take-suc}
-use Rattle.memory.specs.Lists.{insertBy, sortBy, occurs, total}
-use Rattle.sorting.specs.Units.{median}
-use Rattle.sorting.specs.Counts.{CountsOf}
+use Rattle.memory.specs.rules.Lists.{insertBy, sortBy, occurs, total}
+use Rattle.sorting.specs.rules.Units.{median}
+use Rattle.sorting.specs.stages.Counts.{CountsOf}
 
 -- how many entries lie below v
 unfoldable pub below : ℕ → List ℕ → ℕ

@@ -7,21 +7,21 @@ use native.Mathlib.Omega.{arith}
 use lib.ListN.{getD, length, take, drop, length-map, List·getD-map}
 use lib.Seq.{ext-getD}
 use lib.Ieee.{Float}
-use Rattle.memory.specs.Lists.{table, keep}
-use Rattle.memory.specs.Records.{encoded}
+use Rattle.memory.specs.rules.Lists.{table, keep}
+use Rattle.memory.specs.rules.Records.{encoded}
 use Rattle.memory.proofs.TableLaws.{length-table, getD-table}
 use Rattle.memory.proofs.RecordLaws.{record-at, length-encoded}
-use Rattle.labelling.specs.Rects.{height}
-use Rattle.labelling.specs.Components.{boxOf, noDots}
-use Rattle.labelling.specs.Sizes.{HoldsSizes}
-use Rattle.labelling.specs.declared.rect.Rect.{Rect}
+use Rattle.memory.specs.rules.Rects.{height}
+use Rattle.labelling.specs.rules.Components.{boxOf, noDots}
+use Rattle.labelling.specs.stages.Sizes.{HoldsSizes}
+use Rattle.memory.specs.declared.rect.Rect.{Rect}
 use Rattle.labelling.specs.declared.component.Component.{Component}
 use Rattle.labelling.proofs.SizeLaws.{size-at}
 use Rattle.params.specs.declared.LayoutParams.{LayoutParams}
-use Rattle.sorting.specs.Scratch.{packed}
-use Rattle.sorting.specs.Units.{measurable, underExtents, unitFrom, unitOf}
-use Rattle.sorting.specs.Kinds.{kindOf}
-use Rattle.sorting.specs.Measures.{Within, Stored, sized, sizedAt, sizedFrom, BoxInside, SizesInside, measuredHeights, boxWord, unpacked}
+use Rattle.sorting.specs.stages.Scratch.{packed}
+use Rattle.sorting.specs.rules.Units.{measurable, underExtents, unitFrom, unitOf}
+use Rattle.sorting.specs.rules.Kinds.{kindOf}
+use Rattle.sorting.specs.stages.Measures.{Within, Stored, sized, sizedAt, sizedFrom, BoxInside, SizesInside, measuredHeights, boxWord, unpacked}
 use Rattle.sorting.proofs.StoredLaws.{stored-part}
 
 -- the same five words give the same component

@@ -1,42 +1,52 @@
 -- Sorting, stage by stage: what each labelling leaves for those after it, up to the plane sorted.
 use mathlib.Core.Path.{_≡_, refl, sym, ap, _∙_, subst}
-use mathlib.Core.List.{List, map}
+use mathlib.Core.Bool.{false}
+use mathlib.Core.List.{List, [], map}
 use Prim.Native.Nat.{ℕ, _+_, _-_, _*_, _≤_, _<_, min}
+use native.Mathlib.Nat.{le-refl}
+use native.Mathlib.Decide.{decLt}
 use native.Mathlib.Omega.{arith}
+use borrow.Rule.Slice.PartMut.{putMid}
 use lib.Ieee.{Float}
 use lib.Dec.{eqb}
 use lib.ListN.{getD, length, take, drop, length-take, length-drop}
 use lib.Seq.{getD-take, getD-drop, ext-getD}
-use Rattle.memory.specs.Lists.{table, occurs, total, greatest}
-use Rattle.memory.specs.Words.{over}
-use Rattle.memory.specs.Records.{encoded}
+use Rattle.memory.specs.rules.Lists.{table, occurs, total, greatest}
+use Rattle.memory.specs.rules.Limits.{scratchWords}
+use Rattle.memory.specs.rules.Words.{over}
+use Rattle.memory.specs.rules.Records.{encoded}
 use Rattle.memory.proofs.CountLaws.{occurs-by-place}
-use Rattle.labelling.specs.Components.{boxOf}
-use Rattle.labelling.specs.Extraction.{Extracted}
-use Rattle.labelling.specs.Marked.{MarkedLeft}
-use Rattle.labelling.specs.Sizes.{HoldsRuns, HoldsNumbers, HoldsSizes, SizesLeft}
+use Rattle.labelling.specs.rules.Components.{boxOf}
+use Rattle.labelling.specs.stages.Extraction.{Extracted}
+use Rattle.labelling.specs.stages.Marked.{MarkedLeft}
+use Rattle.labelling.specs.stages.Sizes.{HoldsRuns, HoldsNumbers, HoldsSizes, SizesLeft}
 use Rattle.labelling.specs.declared.component.Component.{Component}
 use Rattle.labelling.specs.declared.marked.Test.{Test}
 use Rattle.labelling.specs.declared.marked.Test.the-variants.{First, Second, Neither}
 use Rattle.labelling.proofs.CountLaws.{count-low}
 use Rattle.params.specs.declared.LayoutParams.{LayoutParams}
-use Rattle.rulings.specs.Rulings.{runMin, thickMax, cutHorizontal, cutVertical, cutMark}
-use Rattle.sorting.specs.Units.{unitOf, unitValue}
-use Rattle.sorting.specs.Kinds.{kindOf}
-use Rattle.sorting.specs.Sorted.{sorted}
-use Rattle.sorting.specs.Scratch.{marksAt, horizontalAt, verticalAt, sizesAt, kindsAt, packed, inkAfterCut, mostComponents}
+use Rattle.rulings.specs.rules.Rulings.{runMin, thickMax, cutHorizontal, cutVertical, afterCut}
+use Rattle.rulings.specs.stages.Marks.{cutMark, Blank, RulingsMarked}
+use Rattle.sorting.specs.rules.Units.{unitOf, unitValue}
+use Rattle.sorting.specs.rules.Kinds.{kindOf}
+use Rattle.sorting.specs.rules.Sorted.{sorted}
+use Rattle.sorting.specs.stages.Scratch.{SortRoom, marksAt, horizontalAt, verticalAt, sizesAt, kindsAt, packed, inkAfterCut}
+use Rattle.sorting.specs.rules.Capacity.{mostComponents, componentsOf, mostCuts}
 use Rattle.sorting.specs.declared.Unit.{Unit}
-use Rattle.extents.proofs.OverLaws.{over-at}
+use Rattle.extents.proofs.OverLaws.{over-at, over-past, getD-part, length-part, length-put, getD-put}
+use Rattle.rulings.specs.declared.lines.Found.{Found}
+use Rattle.rulings.proofs.RulingMasks.{afterCut-nothing}
 use Rattle.sorting.specs.declared.sort.Cuts.{Cuts}
+use Rattle.sorting.specs.declared.sort.Sorting.{Sorting}
 use Rattle.sorting.specs.declared.sort.SortAnswer.{SortAnswer}
 use Rattle.sorting.specs.declared.sort.SortAnswer.the-variants.{Sorted, TooMany}
-use Rattle.sorting.specs.Measures.{Within, Stored, sizedAt, sizedFrom, SizesInside, boxWord}
-use Rattle.sorting.specs.Sortings.{sortLeft, componentsOf, FrameRoom, passed, CutLabelled, mostCuts, CutsHeld, RestHeld, restLeft}
+use Rattle.sorting.specs.stages.Measures.{Within, Stored, sizedAt, sizedFrom, SizesInside, boxWord}
+use Rattle.sorting.specs.stages.Sortings.{sortLeft, FrameRoom, passed, CutLabelled, CutMarked, InkCut, FirstHeld, CutsHeld, RestHeld, restLeft}
 use Rattle.sorting.proofs.StoredLaws.{within-drop, stored-count}
 use Rattle.sorting.proofs.SizedLaws.{held-table, held-inside, held-unit, held-kinds, held-boxes}
 use Rattle.sorting.proofs.HeightLaws.{inside-past}
-use Rattle.sorting.proofs.ComponentLaws.{box-inside, areas-ink}
-use Rattle.sorting.proofs.PlanLaws.{plan-dots, plan-runs}
+use Rattle.sorting.proofs.ComponentLaws.{box-inside, blank-none, areas-ink}
+use Rattle.sorting.proofs.PlanLaws.{plan-dots, plan-down, plan-runs, frame-of, frame-kept}
 use Rattle.sorting.proofs.CutLaws.{passed-same, passing-first, passing-second, passing-neither}
 
 pub runs-held : {w h c : ℕ} {m s t : List ℕ} → Extracted w h m s t c → HoldsRuns w h m t c
@@ -109,6 +119,18 @@ ink-few m = let a = occurs-by-place 1 m in let b = count-low (λ i. eqb (getD m 
 
 -- The cuts of one direction
 
+-- where no dot passes nothing is labelled
+pub cut-none : (t : Test) {w h P : ℕ} {m s : List ℕ} (to : ℕ) → Blank (passed t w h m s) (w * h) → CutLabelled t w h m P to s s 0
+unfolding encoded
+cut-none t {w} {h} {P} {m} {s} to none =
+    let e : componentsOf w h (passed t w h m s) ≡ [] = blank-none w h (passed t w h m s) none in
+    record {
+      len = refl;
+      count = (let z = ap length e in omega arith);
+      boxes = λ z. subst (λ (cs : List Component). take (2 * length cs) (drop to s) ≡ encoded packed (map boxOf cs)) (sym e) refl;
+      before = λ i a b. refl;
+    }
+
 module _ (t : Test) {w h P : ℕ} {m s s₁ s₂ : List ℕ} {c r : ℕ} (F : FrameRoom w h m P s) (to : ℕ) (high : horizontalAt (w * h) ≤ to) (low : to + 2 * P ≤ sizesAt (w * h) P)
     (M : MarkedLeft t w h m s s₁ (marksAt (w * h)) c) (L : SizesLeft w h (passed t w h m s) s₁ s₂ c P (sizesAt (w * h) P) r) where
   kept : (i : ℕ) → marksAt (w * h) ≤ i → i < to → getD s₂ i 0 ≡ getD s i 0
@@ -131,6 +153,29 @@ module _ (t : Test) {w h P : ℕ} {m s s₁ s₂ : List ℕ} {c r : ℕ} (F : Fr
 
 -- The ink after the cut
 
+-- `rest` labelled and measured in s, and its kinds written; the boxes of cuts are those of s₀
+module _ (p : LayoutParams) {w h P : ℕ} {rest s₀ s : List ℕ} (f : Sorting) (room : scratchWords (w * h) P ≤ length s) (N : HoldsNumbers w h rest s (f .runs)) (few : 3 * f .runs ≤ 3 * (w * h))
+    (Z : HoldsSizes (componentsOf w h rest) s (sizesAt (w * h) P)) (count : f .components ≡ length (componentsOf w h rest)) (most : f .components ≤ P) where
+  pub rest-held : {t : List ℕ} (ink : ℕ) (cuts : Cuts) → f .unit ≡ unitOf p w h (componentsOf w h rest) → f .ink ≡ ink → f .horizontal ≡ cuts .horizontal → f .vertical ≡ cuts .vertical
+      → ((i : ℕ) → horizontalAt (w * h) ≤ i → i < sizesAt (w * h) P → getD s i 0 ≡ getD s₀ i 0)
+      → Stored (λ k. kindOf p (unitValue (f .unit)) w h (sizedAt s (sizesAt (w * h) P) k)) (kindsAt (w * h) P) (f .components) s t → RestHeld p w h rest P ink cuts s₀ t f
+  rest-held {t} ink cuts u ei eh ev kept S =
+      let cs = componentsOf w h rest in
+      record {
+        few = omega arith;
+        numbered = numbers-kept N (S .within) (omega arith);
+        sizes = part-kept (sizesAt (w * h) P) (5 * length cs) s t (S .within .len) (λ i a b. S .within .before i (omega arith)) ∙ Z;
+        kinds =
+            held-kinds p (unitValue (f .unit)) w h cs s t (sizesAt (w * h) P) (kindsAt (w * h) P) Z (omega arith) (stored-count S count)
+            ∙ ap (λ (v : Unit). map (kindOf p (unitValue v) w h) cs) u;
+        kept = λ i a b. S .within .before i (omega arith) ∙ kept i a b;
+        unit-is = u;
+        ink-is = ei;
+        horizontal-is = eh;
+        vertical-is = ev;
+        components-is = count;
+      }
+
 module _ (p : LayoutParams) {w h P : ℕ} {m s s₁ s₂ s₃ : List ℕ} {c r : ℕ} (F : FrameRoom w h m P s) (M : MarkedLeft Neither w h m s s₁ (marksAt (w * h)) c)
     (L : SizesLeft w h (passed Neither w h m s) s₁ s₂ c P (sizesAt (w * h) P) r) (l : r ≤ P) (W : Within (3 * (w * h)) (3 * (w * h) + h + 1) s₂ s₃) where
   pub rest-inside : 3 * (w * h) + h + 1 ≤ sizesAt (w * h) P → SizesInside w h s₃ (sizesAt (w * h) P) r
@@ -142,43 +187,87 @@ module _ (p : LayoutParams) {w h P : ℕ} {m s s₁ s₂ s₃ : List ℕ} {c r :
   rest-done {s₄} unit ink cuts k ue S =
       let len : length s₂ ≡ length s = L .len ∙ M .len in
       let cs = componentsOf w h (passed Neither w h m s) in
-      let e : r ≡ length cs = left-count F L len l in
-      let u : unit ≡ unitOf p w h cs = ue ∙ left-unit F L len p l in
       let held₃ : HoldsSizes cs s₃ (sizesAt (w * h) P) = ap (take (5 * length cs)) (within-drop W (sizesAt (w * h) P) (omega arith)) ∙ L .sizes l in
       let q = F .room in
       let x = plan-runs F (M .held) in
       let y = W .len in
-      record {
-        few = omega arith;
-        numbered = numbers-kept (numbers-kept (L .numbered l) W (omega arith)) (S .within) (omega arith);
-        sizes = part-kept (sizesAt (w * h) P) (5 * length cs) s₃ s₄ (S .within .len) (λ i a b. S .within .before i (omega arith)) ∙ held₃;
-        kinds =
-            held-kinds p (unitValue unit) w h cs s₃ s₄ (sizesAt (w * h) P) (kindsAt (w * h) P) held₃ (omega arith) (stored-count S e)
-            ∙ ap (λ (v : Unit). map (kindOf p (unitValue v) w h) cs) u;
-        kept = λ i a b. S .within .before i (omega arith) ∙ (W .past i (omega arith) ∙ (L .between i (omega arith) b ∙ kept-from (marksAt (w * h)) s s₁ (M .kept) i (omega arith)));
-        unit-is = u;
-        ink-is = refl;
-        horizontal-is = refl;
-        vertical-is = refl;
-        components-is = e;
-      }
+      rest-held p (record { unit = unit; ink = ink; horizontal = cuts .horizontal; vertical = cuts .vertical; runs = c; components = r }) (omega arith) (numbers-kept (L .numbered l) W (omega arith)) x held₃
+      (left-count F L len l) l ink cuts (ue ∙ left-unit F L len p l) refl refl refl
+      (λ i a b. W .past i (omega arith) ∙ (L .between i (omega arith) b ∙ kept-from (marksAt (w * h)) s s₁ (M .kept) i (omega arith))) S
 
 -- Both kinds of cuts, by the marks that thin rulings leave
 
-module _ (run-min thick-max : ℕ) {w h P : ℕ} {m s s₁ : List ℕ} {r₁ : ℕ} (s₀ : List ℕ) (F : FrameRoom w h m P s)
-    (T : drop (marksAt (w * h)) s ≡ over (table (cutMark run-min thick-max w h m) (w * h)) (drop (marksAt (w * h)) s₀))
+pub cut-marked : {run-min thick-max w h : ℕ} {m s₀ s : List ℕ} {found : Found} → RulingsMarked run-min thick-max w h m (marksAt (w * h)) s₀ s found → CutMarked run-min thick-max w h m s found
+cut-marked {run-min} {thick-max} {w} {h} {m} {s₀} R =
+    record {
+      each = λ i b. ap (λ (d : List ℕ). getD d i 0) (R .marked) ∙ over-at (cutMark run-min thick-max w h m) (w * h) (drop (marksAt (w * h)) s₀) i b;
+      no-horizontal = R .no-horizontal;
+      no-vertical = R .no-vertical;
+    }
+
+-- the marks of a part that starts at word `at`, when it is back
+pub ink-cut : {run-min thick-max w h : ℕ} {m : List ℕ} {found : Found} (at : ℕ) (s t : List ℕ) → at ≤ marksAt (w * h) → horizontalAt (w * h) ≤ length s
+    → RulingsMarked run-min thick-max w h m (marksAt (w * h) - at) (take (length s - at) (drop at s)) t found → InkCut run-min thick-max w h m at s (putMid at (length s - at) s t) found
+ink-cut {run-min} {thick-max} {w} {h} {m} at s t low high R =
+    record {
+      marked = record { each = each; no-horizontal = R .no-horizontal; no-vertical = R .no-vertical };
+      within = record { len = length-put at (length s) s t (omega arith) (le-refl _) size; before = λ i a. put i .0 a; past = λ i a. past i a (decLt i (length s)) };
+    }
+  where
+    f : ℕ → ℕ
+    f = cutMark run-min thick-max w h m
+
+    part : List ℕ
+    part = take (length s - at) (drop at s)
+
+    size : length t ≡ length s - at
+    size = R .len ∙ length-part at (length s) s (omega arith) (le-refl _)
+
+    put : (k : ℕ) → (k < at → getD (putMid at (length s - at) s t) k 0 ≡ getD s k 0) × (at ≤ k → k < length s → getD (putMid at (length s - at) s t) k 0 ≡ getD t (k - at) 0) × (length s ≤ k → getD (putMid at (length s - at) s t) k 0 ≡ getD s k 0)
+    put = getD-put at (length s) s t (omega arith) (le-refl _) size
+
+    -- a word from the marks on, by its place behind them
+    behind : (i : ℕ) → marksAt (w * h) + i < length s → getD (putMid at (length s - at) s t) (marksAt (w * h) + i) 0 ≡ getD (over (table f (w * h)) (drop (marksAt (w * h) - at) part)) i 0
+    behind i b =
+        let z : marksAt (w * h) + i - at ≡ marksAt (w * h) - at + i = omega arith in
+        put (marksAt (w * h) + i) .1 (omega arith) b
+        ∙ (ap (λ (k : ℕ). getD t k 0) z ∙ (sym (getD-drop (marksAt (w * h) - at) t i 0) ∙ ap (λ (d : List ℕ). getD d i 0) (R .marked)))
+
+    each : (i : ℕ) → i < w * h → getD (drop (marksAt (w * h)) (putMid at (length s - at) s t)) i 0 ≡ f i
+    each i b = getD-drop (marksAt (w * h)) (putMid at (length s - at) s t) i 0 ∙ (behind i (omega arith) ∙ over-at f (w * h) (drop (marksAt (w * h) - at) part) i b)
+
+    past : (i : ℕ) → horizontalAt (w * h) ≤ i → Dec (i < length s) → getD (putMid at (length s - at) s t) i 0 ≡ getD s i 0
+    past i a (no b) = put i .2 (omega arith)
+    past i a (yes b) =
+        let x : i ≡ marksAt (w * h) + (i - marksAt (w * h)) = omega arith in
+        let y : at + (marksAt (w * h) - at + (i - marksAt (w * h))) ≡ i = omega arith in
+        ap (λ (k : ℕ). getD (putMid at (length s - at) s t) k 0) x
+        ∙ (behind (i - marksAt (w * h)) (omega arith)
+        ∙ (over-past f (w * h) (drop (marksAt (w * h) - at) part) (i - marksAt (w * h)) (omega arith)
+        ∙ (getD-drop (marksAt (w * h) - at) part (i - marksAt (w * h)) 0
+        ∙ (getD-part at (length s - at) s (marksAt (w * h) - at + (i - marksAt (w * h))) (omega arith) ∙ ap (λ (k : ℕ). getD s k 0) y))))
+
+-- labelling the horizontal cuts leaves the marks
+pub still-blank : (t : Test) {w h P r : ℕ} {m s s' : List ℕ} → CutLabelled First w h m P (horizontalAt (w * h)) s s' r → Blank (passed t w h m s) (w * h) → Blank (passed t w h m s') (w * h)
+still-blank t {w} {h} {m = m} {s = s} {s' = s'} A none = subst (λ (b : List ℕ). Blank b (w * h)) (sym (passed-same t w h m s s' (A .before))) none
+
+module _ {run-min thick-max w h : ℕ} {m s : List ℕ} {found : Found} (wide : 0 < w) (T : CutMarked run-min thick-max w h m s found) where
+  pub told-first : found .horizontal ≡ false → Blank (passed First w h m s) (w * h)
+  told-first e = subst (λ (a : List ℕ). Blank a (w * h)) (sym (passing-first run-min thick-max w h m (drop (marksAt (w * h)) s) (T .each) wide)) (T .no-horizontal e)
+
+  pub told-second : found .vertical ≡ false → Blank (passed Second w h m s) (w * h)
+  told-second e = subst (λ (b : List ℕ). Blank b (w * h)) (sym (passing-second run-min thick-max w h m (drop (marksAt (w * h)) s) (T .each) wide)) (T .no-vertical e)
+
+module _ (run-min thick-max : ℕ) {w h P : ℕ} {m s s₁ : List ℕ} {found : Found} {r₁ : ℕ} (F : FrameRoom w h m P s) (T : CutMarked run-min thick-max w h m s found)
     (A : CutLabelled First w h m P (horizontalAt (w * h)) s s₁ r₁) where
   abbrev masks : List ℕ × List ℕ
   masks = (cutHorizontal run-min thick-max w h m, cutVertical run-min thick-max w h m)
-
-  told : (i : ℕ) → i < w * h → getD (drop (marksAt (w * h)) s) i 0 ≡ cutMark run-min thick-max w h m i
-  told i b = ap (λ (d : List ℕ). getD d i 0) T ∙ over-at (cutMark run-min thick-max w h m) (w * h) (drop (marksAt (w * h)) s₀) i b
 
   marks-kept : (t : Test) → passed t w h m s₁ ≡ passed t w h m s
   marks-kept t = passed-same t w h m s s₁ (A .before)
 
   first-mask : passed First w h m s ≡ masks .0
-  first-mask = passing-first run-min thick-max w h m (drop (marksAt (w * h)) s) told (F .wide)
+  first-mask = passing-first run-min thick-max w h m (drop (marksAt (w * h)) s) (T .each) (F .wide)
 
   first-count : r₁ ≡ min (length (componentsOf w h (masks .0))) (P + 1)
   first-count = subst (λ (a : List ℕ). r₁ ≡ min (length (componentsOf w h a)) (P + 1)) first-mask (A .count)
@@ -189,7 +278,7 @@ module _ (run-min thick-max : ℕ) {w h P : ℕ} {m s s₁ : List ℕ} {r₁ : �
 
   module _ {s₂ : List ℕ} {r₂ : ℕ} (B : CutLabelled Second w h m P (verticalAt (w * h) P) s₁ s₂ r₂) where
     second-mask : passed Second w h m s₁ ≡ masks .1
-    second-mask = marks-kept Second ∙ passing-second run-min thick-max w h m (drop (marksAt (w * h)) s) told (F .wide)
+    second-mask = marks-kept Second ∙ passing-second run-min thick-max w h m (drop (marksAt (w * h)) s) (T .each) (F .wide)
 
     second-count : r₂ ≡ min (length (componentsOf w h (masks .1))) (P + 1)
     second-count = subst (λ (b : List ℕ). r₂ ≡ min (length (componentsOf w h b)) (P + 1)) second-mask (B .count)
@@ -213,16 +302,12 @@ module _ (run-min thick-max : ℕ) {w h P : ℕ} {m s s₁ : List ℕ} {r₁ : �
           vertical = subst (λ (z : List ℕ). take (2 * length (componentsOf w h z)) (drop (verticalAt (w * h) P) s₂) ≡ encoded packed (map boxOf (componentsOf w h z))) second-mask (B .boxes l₂);
           rest =
               passed-same Neither w h m s₁ s₂ (λ i c d. B .before i c (omega arith))
-              ∙ (marks-kept Neither ∙ passing-neither run-min thick-max w h m (drop (marksAt (w * h)) s) told (F .wide));
+              ∙ (marks-kept Neither ∙ passing-neither run-min thick-max w h m (drop (marksAt (w * h)) s) (T .each) (F .wide));
           horizontal-is = ea;
           vertical-is = eb;
         }
 
 -- The whole
-
-pub two-least : (p : LayoutParams) (u : Float) → 2 ≤ runMin p u
-unfolding runMin
-two-least p u = omega arith
 
 module _ (p : LayoutParams) (w h : ℕ) (m : List ℕ) (P : ℕ) where
   abbrev firstUnit : Float
@@ -270,6 +355,74 @@ module _ (p : LayoutParams) (w h : ℕ) (m : List ℕ) (P : ℕ) where
             };
           }
 
+      -- where nothing is cut the ink after the cut is the ink
+      pub sort-still : (r : SortAnswer) → inkAfterCut p w h m ≡ m → restLeft r p w h m P ink f s s' → sortLeft r p w h m P s'
+      sort-still r z R = sort-by r (subst (λ (k : List ℕ). restLeft r p w h k P ink f s s') (sym z) R)
+
       pub sort-done : (r : SortAnswer) → restLeft r p w h (passed Neither w h m s) P ink f s s' → sortLeft r p w h m P s'
       unfolding inkAfterCut
       sort-done r R = sort-by r (subst (λ (z : List ℕ). restLeft r p w h z P ink f s s') (held .rest) R)
+
+-- The ink before the cut
+
+module _ (p : LayoutParams) {w h P : ℕ} {m s₀ s t u : List ℕ} {c r : ℕ} (R : SortRoom p w h m P s₀) (H : HoldsRuns w h m s c) (L : SizesLeft w h m s t c P (sizesAt (w * h) P) r) (len : length t ≡ length s₀) (l : r ≤ P)
+    (W : Within (3 * (w * h)) (3 * (w * h) + h + 1) t u) where
+  pub first-held : (unit : Unit) (ink : ℕ) → unit ≡ unitOf p w h (sizedFrom t (sizesAt (w * h) P) r) → ink ≡ total (table (λ k. sizedAt t (sizesAt (w * h) P) k .area) r)
+      → FirstHeld p w h m P u (record { unit = unit; ink = ink; horizontal = 0; vertical = 0; runs = c; components = r })
+  first-held unit ink eu ei =
+      let F = frame-of R in
+      let x = plan-runs F H in
+      let y = plan-down F in
+      record {
+        few = l;
+        numbered = numbers-kept (L .numbered l) W x;
+        sizes = ap (take (5 * length (componentsOf w h m))) (within-drop W (sizesAt (w * h) P) (omega arith)) ∙ L .sizes l;
+        unit-is = eu ∙ left-unit F L len p l;
+        ink-is = ei ∙ left-areas F L len l (R .whole) (R .ones);
+        horizontal-is = refl;
+        vertical-is = refl;
+        components-is = left-count F L len l;
+      }
+
+module _ (p : LayoutParams) {w h P : ℕ} {m s : List ℕ} {f : Sorting} (R : SortRoom p w h m P s) (H : FirstHeld p w h m P s f) where
+  pub first-runs : 3 * f .runs ≤ 3 * (w * h)
+  first-runs = plan-runs (frame-of R) (H .numbered .held)
+
+  module _ {at : ℕ} {s₁ : List ℕ} {found : Found} (u : Float) (eu : u ≡ unitValue (f .unit)) (C : InkCut (runMin p u) (thickMax p u) w h m at s s₁ found) where
+    first-sizes : HoldsSizes (componentsOf w h m) s₁ (sizesAt (w * h) P)
+    first-sizes = ap (take (5 * length (componentsOf w h m))) (within-drop (C .within) (sizesAt (w * h) P) (omega arith)) ∙ H .sizes
+
+    pub first-inside : SizesInside w h s₁ (sizesAt (w * h) P) (f .components)
+    first-inside =
+        let F = frame-of R in
+        subst (SizesInside w h s₁ (sizesAt (w * h) P)) (sym (H .components-is))
+        (held-inside (componentsOf w h m) s₁ (sizesAt (w * h) P) first-sizes w h (let e = H .components-is in let k = H .few in let q = R .room in let z = C .within .len in omega arith)
+        (box-inside w h m (R .wide) (let d = plan-dots F in omega arith)))
+
+    value : u ≡ unitValue (unitOf p w h (componentsOf w h m))
+    value = eu ∙ ap unitValue (H .unit-is)
+
+    pub first-many : P < mostCuts (runMin p u) (thickMax p u) w h m → P < mostComponents (sorted p w h m)
+    first-many = sort-cuts-many p w h m P (runMin p u) (thickMax p u) (ap (runMin p) value) (ap (thickMax p) value)
+
+    -- what was cut is labelled, and the rest anew
+    pub first-done : {s₂ : List ℕ} (cuts : Cuts) → CutsHeld (runMin p u) (thickMax p u) w h m P s₂ cuts → (s₃ : List ℕ) → length s₃ ≡ length s₂ → (r : SortAnswer)
+        → restLeft r p w h (passed Neither w h m s₂) P (f .ink) cuts s₂ s₃ → sortLeft r p w h m P s₃
+    first-done {s₂} cuts K s₃ len r X =
+        sort-done p w h m P (runMin p u) (thickMax p u) (ap (runMin p) value) (ap (thickMax p) value) cuts s₂ K (f .ink) s₃ len (let a = H .few in let b = H .components-is in omega arith) (H .ink-is) r X
+
+    -- nothing is cut, and the first labelling stands
+    pub first-still : {s₂ : List ℕ} → 3 * f .runs ≤ at → found .horizontal ≡ false → found .vertical ≡ false
+        → Stored (λ k. kindOf p (unitValue (f .unit)) w h (sizedAt s₁ (sizesAt (w * h) P) k)) (kindsAt (w * h) P) (f .components) s₁ s₂ → sortLeft (Sorted f) p w h m P s₂
+    unfolding inkAfterCut
+    first-still {s₂} behind none-h none-v S =
+        let F = frame-kept (frame-of R) (C .within .len) in
+        let T = C .marked in
+        let K = cuts-done (runMin p u) (thickMax p u) F T (cut-none First (horizontalAt (w * h)) (told-first (R .wide) T none-h)) (cut-none Second (verticalAt (w * h) P) (told-second (R .wide) T none-v)) (omega arith) (omega arith) in
+        let z : inkAfterCut p w h m ≡ m =
+        subst (λ (v : Float). afterCut w h (cutHorizontal (runMin p v) (thickMax p v) w h m) (cutVertical (runMin p v) (thickMax p v) w h m) m ≡ m) value
+        (afterCut-nothing w h _ _ m (R .wide) (R .whole) (R .ones) (T .no-horizontal none-h) (T .no-vertical none-v)) in
+        let q = R .room in
+        let x = C .within .len in
+        sort-still p w h m P (runMin p u) (thickMax p u) (ap (runMin p) value) (ap (thickMax p) value) _ s₁ K (f .ink) s₂ (S .within .len) (let a = H .few in let b = H .components-is in omega arith) (H .ink-is) (Sorted f) z
+        (rest-held p f (omega arith) (numbers-kept (H .numbered) (C .within) behind) first-runs first-sizes (H .components-is) (H .few) (f .ink) _ (H .unit-is) refl (H .horizontal-is) (H .vertical-is) (λ i a b. refl) S)

@@ -6,10 +6,10 @@ use native.Mathlib.Decide.{ℕ-discrete}
 use native.Mathlib.Omega.{arith}
 use lib.ListN.{length, getD, take, drop, set, length-set, length-drop}
 use lib.Seq.{getD-set-same, getD-set-other, getD-drop, ext-getD}
-use Rattle.memory.specs.Lists.{table}
+use Rattle.memory.specs.rules.Lists.{table}
 use Rattle.memory.proofs.TableLaws.{table-ext}
 use Rattle.memory.proofs.PartLaws.{part-is-table}
-use Rattle.sorting.specs.Measures.{Within, Stored}
+use Rattle.sorting.specs.stages.Measures.{Within, Stored}
 
 pub within-none : (a e : ℕ) (s : List ℕ) → Within a e s s
 within-none a e s = record { len = refl; before = λ i l. refl; past = λ i l. refl }

@@ -1,14 +1,4 @@
--- the median, and the x-height as 01's unit
-pub mod Units
--- the kind of each component and of each dot
-pub mod Kinds
--- a whole ink plane sorted: cuts, components after the cut, kinds, lists and counts
-pub mod Sorted
--- where a segmentation keeps what it has found, in scratch
-pub mod Scratch
--- what sorting an ink plane answers and leaves in scratch, whole and stage by stage
-pub mod Sortings
--- components by the five words of their sizes
-pub mod Measures
--- what the functions hand on to each other
-pub mod Counts
+-- what a reader must believe
+pub mod rules
+-- what only the code's way needs
+pub mod stages

@@ -1,15 +1,12 @@
-// The kind of a component by its size, against the x-height; which components give the x-height, and the limits of a thin ruling.
+// The kind of a component by its size, against the x-height; which components give the x-height.
 ghost use mathlib.Core.Path.{_≡_};
 ghost use mathlib.Core.Bool.{cond};
-ghost use Prim.Native.Nat.{_+_, _≤_};
-ghost use Rattle.sorting.specs.Units.{unitValue, measurable};
-ghost use Rattle.sorting.specs.Kinds.{isRule, isGraphic, kindBySize, kindOf};
-ghost use Rattle.rulings.specs.Rulings.{runMin, thickMax};
-ghost use Rattle.sorting.specs.Counts.{BoxFits};
+ghost use Rattle.sorting.specs.rules.Units.{unitValue, measurable};
+ghost use Rattle.sorting.specs.rules.Kinds.{isRule, isGraphic, kindBySize, kindOf};
+ghost use Rattle.sorting.specs.stages.Counts.{BoxFits};
 use crate::Unit;
 use labelling::Component;
 use params::LayoutParams;
-use rounding::round_to_u32;
 
 const RULE: u32 = 2;
 
@@ -28,7 +25,7 @@ pub fn kind_of(p: LayoutParams, unit: Unit, w: u32, h: u32, c: Component) -> u32
     kind_by_size(p, unit, w, h, c.area, r.width(), r.height())
 }
 
-// Tested in this order: rule, graphic, speck, glyph.
+// The kind by area, width and height: whether the unit was measured does not matter.
 pub fn kind_by_size(
     p: LayoutParams,
     unit: Unit,
@@ -40,7 +37,16 @@ pub fn kind_by_size(
 ) -> u32
     ensures { λ r. ⌜ r ≡ kindBySize p (unitValue unit) w h area width height ⌝ }
 {
-    let u = unit.value();
+    match unit {
+        Unit::Measured(u) => kind_by_value(p, u, w, h, area, width, height),
+        Unit::Assumed(u) => kind_by_value(p, u, w, h, area, width, height),
+    }
+}
+
+// Tested in this order: rule, graphic, speck, glyph.
+fn kind_by_value(p: LayoutParams, u: f64, w: u32, h: u32, area: u32, width: u32, height: u32) -> u32
+    ensures { λ r. ⌜ r ≡ kindBySize p u w h area width height ⌝ }
+{
     let small = choose(area < p.glyph_min_area, SPECK, GLYPH);
     let rest = choose(is_graphic(p, u, w, h, width, height), GRAPHIC, small);
     choose(
@@ -76,22 +82,6 @@ pub fn is_measurable(p: LayoutParams, w: u32, h: u32, c: Component) -> bool
         & (p.xheight_min_area <= c.area)
         & (((width as f64) < p.glyph_max_extent_frac * w as f64)
             & ((height as f64) < p.glyph_max_extent_frac * h as f64))
-}
-
-// The least run of a thin ruling, in dots.
-pub fn run_min(p: LayoutParams, u: f64) -> u32
-    ensures { λ r. ⌜ r ≡ runMin p u ⌝ }
-{
-    let run = round_to_u32(p.rule_run_xh * u);
-    if run < 2 { 2 } else { run }
-}
-
-// Its greatest thickness.
-pub fn thick_max(p: LayoutParams, u: f64) -> u32
-    ensures { λ r. ⌜ r ≡ thickMax p u ⌝ }
-{
-    let thick = round_to_u32(p.rule_max_thick_xh * u);
-    if thick < 1 { 1 } else { thick }
 }
 
 // a where the test passes, else b.

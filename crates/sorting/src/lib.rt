@@ -2,7 +2,7 @@
 // specs/.
 
 ghost use mathlib.Core.Path.{_≡_};
-ghost use Rattle.sorting.specs.Units.{unitValue};
+ghost use Rattle.sorting.specs.rules.Units.{unitValue};
 
 mod kinds;
 mod measure;
@@ -12,8 +12,6 @@ mod sort;
 pub use kinds::is_measurable;
 pub use kinds::kind_by_size;
 pub use kinds::kind_of;
-pub use kinds::run_min;
-pub use kinds::thick_max;
 pub use measure::component_at;
 pub use measure::measure_unit;
 pub use measure::pack_boxes;
@@ -26,6 +24,7 @@ pub use sort::Cuts;
 pub use sort::SortAnswer;
 pub use sort::Sorting;
 pub use sort::cut_ink;
+pub use sort::label_rulings;
 pub use sort::sort_ink;
 
 // The x-height of the page, 01's unit: the length that every threshold is a multiple of, and whether it was measured.

@@ -4,20 +4,20 @@ ghost use mathlib.Core.List.{List};
 ghost use mathlib.Core.Bool.{cond};
 ghost use Prim.Native.Nat.{ℕ, _+_, _*_, _≤_, _<_};
 ghost use lib.ListN.{length, getD, set};
-ghost use Rattle.memory.specs.Lists.{table, total};
-ghost use Rattle.labelling.specs.Rects.{height};
-ghost use Rattle.labelling.specs.Components.{boxOf};
+ghost use Rattle.memory.specs.rules.Lists.{table, total};
+ghost use Rattle.memory.specs.rules.Rects.{height};
+ghost use Rattle.labelling.specs.rules.Components.{boxOf};
 ghost use Rattle.labelling.specs.declared.component.Component.{Component};
-ghost use Rattle.sorting.specs.Units.{unitOf, unitFrom, unitValue, measurable};
-ghost use Rattle.sorting.specs.Kinds.{kindOf};
-ghost use Rattle.sorting.specs.Counts.{CountsOf};
-ghost use Rattle.sorting.specs.Measures.{Within, Stored, sizedAt, sizedFrom, BoxInside, SizesInside, HeightsCounted, boxWord, unpacked};
+ghost use Rattle.sorting.specs.rules.Units.{unitOf, unitFrom, unitValue, measurable};
+ghost use Rattle.sorting.specs.rules.Kinds.{kindOf};
+ghost use Rattle.sorting.specs.stages.Counts.{CountsOf};
+ghost use Rattle.sorting.specs.stages.Measures.{Within, Stored, sizedAt, sizedFrom, BoxInside, SizesInside, HeightsCounted, boxWord, unpacked};
 use crate::Unit;
 use crate::kinds::is_measurable;
 use crate::kinds::kind_of;
 use crate::median::median_of_counts;
 use labelling::Component;
-use labelling::Rect;
+use memory::Rect;
 use params::LayoutParams;
 
 // The columns or rows of a box in one word: no side of a frame reaches this.

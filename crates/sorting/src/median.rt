@@ -3,8 +3,8 @@ ghost use mathlib.Core.Path.{_≡_};
 ghost use mathlib.Core.List.{List};
 ghost use Prim.Native.Nat.{ℕ, _≤_};
 ghost use lib.ListN.{length};
-ghost use Rattle.sorting.specs.Units.{median};
-ghost use Rattle.sorting.specs.Counts.{CountsOf};
+ghost use Rattle.sorting.specs.rules.Units.{median};
+ghost use Rattle.sorting.specs.stages.Counts.{CountsOf};
 
 // The median of the list whose value v occurs counts[v] times, of `total` entries in all; 0 of none.
 pub fn median_of_counts(counts: &[u32], total: u32) -> u32

@@ -8,12 +8,12 @@ use borrow.Author.Tests.{ltb-false, eqb-true, not-false, le-ltb, eq-eqb}
 use lib.Dec.{T, ltb, eqb}
 use lib.Ieee.{fits, binary64}
 use lib.ListN.{length}
-use Rattle.memory.specs.Limits.{scratchWords}
-use Rattle.memory.specs.Refusals.{refuseIf}
+use Rattle.memory.specs.rules.Limits.{scratchWords}
+use Rattle.memory.specs.rules.Refusals.{refuseIf}
 use Rattle.memory.proofs.RefusalLaws.{refusal-passed}
-use Rattle.params.specs.Valid.{valid}
+use Rattle.params.specs.rules.Valid.{valid}
 use Rattle.params.specs.declared.LayoutParams.{LayoutParams}
-use Rattle.memory.specs.Masks.{isMask}
+use Rattle.memory.specs.rules.Masks.{isMask}
 use Rattle.judging.specs.rules.Header.{Held, dotsHeld, storeHeld, emptyState, segmentedState}
 use Rattle.judging.specs.rules.Leaves.{Leaf, levellingOf}
 use Rattle.judging.specs.rules.Spoiled.{sideOk, capacityOk, skewOk, slopeOk, stateSpoiled, limitsOk}

@@ -10,18 +10,18 @@ use lib.Dec.{ltb, leb}
 use lib.Ieee.{Float}
 use lib.ListN.{length, getD, take, drop}
 use lib.Seq.{length-take-le}
-use Rattle.memory.specs.Lists.{countIf, keep, upto}
-use Rattle.memory.specs.Refusals.{refuseIf}
-use Rattle.memory.specs.Words.{over}
+use Rattle.memory.specs.rules.Lists.{countIf, keep, upto}
+use Rattle.memory.specs.rules.Refusals.{refuseIf}
+use Rattle.memory.specs.rules.Words.{over}
 use Rattle.memory.proofs.BoolLaws.{and-right}
-use Rattle.labelling.specs.declared.rect.Rect.{Rect}
-use Rattle.levelling.specs.Frames.{Frame, frame, rowOf, columnOf}
+use Rattle.memory.specs.declared.rect.Rect.{Rect}
+use Rattle.levelling.specs.rules.Frames.{Frame, frame, frameOf, rowOf, columnOf}
 use Rattle.levelling.proofs.FrameLaws.{length-shears, frame-fits, frame-is-frameOf}
 use Rattle.memory.proofs.GreatestLaws.{greatest-bounds}
-use Rattle.grouping.specs.Dots.{frameOf, FrameWords, OneWay}
+use Rattle.grouping.specs.stages.Dots.{FrameWords, OneWay}
 use Rattle.grouping.proofs.SpanLaws.{frame-one-way}
-use Rattle.grouping.specs.Readings.{listed, columnsAndRows, dotList}
-use Rattle.grouping.proofs.CountLaws.{count-length}
+use Rattle.grouping.specs.rules.Readings.{listed, columnsAndRows, dotList}
+use Rattle.memory.proofs.PlaceLaws.{count-length}
 use Rattle.grouping.proofs.DotLaws.{count-few}
 use Rattle.judging.specs.rules.Header.{held, frameHeld, dotsHeld}
 use Rattle.judging.specs.rules.Views.{viewOf, viewWith}
@@ -41,14 +41,14 @@ use Rattle.store.proofs.TellLaws.{sides-are}
 
 abbrev pub cutFrame : List ℕ → Frame
 cutFrame s =
-    frameOf (getD s 1 0) (getD s 2 0) (getD s 3 0) (getD s 4 0) (take (64 + getD s 1 0 - 64) (drop 64 s))
-    (take (64 + getD s 1 0 + getD s 4 0 - (64 + getD s 1 0)) (drop (64 + getD s 1 0) s))
+    frameOf (getD s 1 0) (getD s 2 0) (take (64 + getD s 1 0 - 64) (drop 64 s))
+    (take (64 + getD s 1 0 + getD s 4 0 - (64 + getD s 1 0)) (drop (64 + getD s 1 0) s)) (getD s 3 0) (getD s 4 0)
 
 cut-is : (s : List ℕ) → cutFrame s ≡ wordsFrame s
 cut-is s =
     let a : 64 + getD s 1 0 - 64 ≡ getD s 1 0 = omega arith in
     let b : 64 + getD s 1 0 + getD s 4 0 - (64 + getD s 1 0) ≡ getD s 4 0 = omega arith in
-    λ i. frameOf (getD s 1 0) (getD s 2 0) (getD s 3 0) (getD s 4 0) (take (a i) (drop 64 s)) (take (b i) (drop (64 + getD s 1 0) s))
+    λ i. frameOf (getD s 1 0) (getD s 2 0) (take (a i) (drop 64 s)) (take (b i) (drop (64 + getD s 1 0) s)) (getD s 3 0) (getD s 4 0)
 
 pub cut-words : (s kinds : List ℕ) → FrameHere s kinds → FrameWords (cutFrame s) (wordsKinds s kinds) × OneWay (cutFrame s)
 cut-words s kinds H = subst (λ (f : Frame). FrameWords f (wordsKinds s kinds) × OneWay f) (sym (cut-is s)) (H .frame, H .one-way)
@@ -82,8 +82,8 @@ module _ (s ink kinds : List ℕ) (R : ReadableResults s ink kinds) where
   frame-here : wordsFrame s ≡ frameHeld (held s)
   frame-here =
       let a = sides-are s ink kinds R in
-      (λ i. frameOf (a .4 i) (a .5 i) (a .1 i) (a .2 i) (take (a .4 i) (drop 64 s)) (take (a .2 i) (drop (64 + a .4 i) s)))
-      ∙ ((λ i. frameOf (held s .page-w) (held s .page-h) (frameHeld (held s) .w) (frameHeld (held s) .h) (first-held s (R .limits) (R .sound) i) (second-held s (R .limits) (R .sound) i))
+      (λ i. frameOf (a .4 i) (a .5 i) (take (a .4 i) (drop 64 s)) (take (a .2 i) (drop (64 + a .4 i) s)) (a .1 i) (a .2 i))
+      ∙ ((λ i. frameOf (held s .page-w) (held s .page-h) (first-held s (R .limits) (R .sound) i) (second-held s (R .limits) (R .sound) i) (frameHeld (held s) .w) (frameHeld (held s) .h))
       ∙ sym (frame-is-frameOf (held s .page-w) (held s .page-h) (held s .slope) (lim .sides) (lim .within)))
 
   kinds-here : wordsKinds s kinds ≡ take (dotsHeld (held s)) kinds

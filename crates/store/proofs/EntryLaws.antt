@@ -10,17 +10,17 @@ use lib.Dec.{T, ltb, leb}
 use lib.Ieee.{Float, le, fin}
 use lib.IntN.{pos}
 use lib.ListN.{length, set}
-use Rattle.memory.specs.Limits.{storeWords, maxCapacity}
-use Rattle.memory.specs.Refusals.{refuseIf}
-use Rattle.memory.specs.Words.{wordAt, over}
+use Rattle.memory.specs.rules.Limits.{storeWords, maxCapacity}
+use Rattle.memory.specs.rules.Refusals.{refuseIf}
+use Rattle.memory.specs.rules.Words.{wordAt, over, putAt}
 use Rattle.memory.proofs.BoolLaws.{and-left, and-right}
 use Rattle.memory.proofs.RefusalLaws.{refusal-passed, Passes, passes-none, passes-if}
-use Rattle.rounding.specs.Drift.{WithinOne}
-use Rattle.rounding.specs.Rounding.{positiveZero}
-use Rattle.levelling.specs.Frames.{Frame, PageSides, frame}
-use Rattle.levelling.specs.Planes.{levelling, levelled}
-use Rattle.levelling.specs.Shears.{applied}
-use Rattle.grouping.specs.Words.{putAt}
+use Rattle.rounding.specs.rules.Drift.{WithinOne}
+use Rattle.rounding.specs.rules.Rounding.{positiveZero}
+use Rattle.params.specs.declared.LayoutParams.{LayoutParams}
+use Rattle.levelling.specs.rules.Frames.{Frame, PageSides, frame}
+use Rattle.levelling.specs.rules.Planes.{levelling, levelled}
+use Rattle.levelling.specs.rules.Shears.{applied}
 use Rattle.judging.specs.rules.Leaves.{Leaf, levellingOf}
 use Rattle.store.specs.rules.Written.{headWords, storeLevelled}
 use Rattle.judging.specs.rules.Spoiled.{sideOk, slopeOk}
@@ -83,9 +83,9 @@ leaf-handed a e =
     }
 
 -- the applied slope lies within one
-pub slope-within : (least skew slope t : Float) → slopeOk slope ≡ true → t ≡ applied least skew slope → WithinOne t
+pub slope-within : (sheet : LayoutParams) (skew slope t : Float) → slopeOk slope ≡ true → t ≡ applied sheet skew slope → WithinOne t
 unfolding slopeOk applied
-slope-within least skew slope t e q = subst WithinOne (sym q) (go (le least _) (within slope e) (within positiveZero zero-slope))
+slope-within sheet skew slope t e q = subst WithinOne (sym q) (go (le (sheet .«shear_min_deg») _) (within slope e) (within positiveZero zero-slope))
   where
     to-T : (b : Bool) → b ≡ true → T b
     to-T b e = subst T (sym e) tt
@@ -133,7 +133,7 @@ module _ (a : Leaf) (s ink : List ℕ) where
 -- ---- levelling, as the code goes: the applied skew and slope, then the frame's sides
 
 module _ (a : Leaf) (s ink : List ℕ) (handed : ℕ) (eh : handed ≡ leafRefusal a 0) (gh : handed ≡ 0) (sk t : Float)
-    (es : sk ≡ applied (a .sheet .«shear_min_deg») (a .skew) (a .skew)) (et : t ≡ applied (a .sheet .«shear_min_deg») (a .skew) (a .slope)) where
+    (es : sk ≡ applied (a .sheet) (a .skew) (a .skew)) (et : t ≡ applied (a .sheet) (a .skew) (a .slope)) where
   ok : leafRefusal a 0 ≡ 0
   ok = sym eh ∙ gh
 
@@ -141,7 +141,7 @@ module _ (a : Leaf) (s ink : List ℕ) (handed : ℕ) (eh : handed ≡ leafRefus
   level-sides = leaf-handed a ok .sides
 
   pub level-within : WithinOne t
-  level-within = slope-within (a .sheet .«shear_min_deg») (a .skew) (a .slope) t (leaf-handed a ok .slope-in) et
+  level-within = slope-within (a .sheet) (a .skew) (a .slope) t (leaf-handed a ok .slope-in) et
 
   pub level-few : a .capacity ≤ maxCapacity
   level-few = leaf-handed a ok .few

@@ -15,37 +15,39 @@ use lib.Ieee.Order.{round-mono}
 use lib.Ieee.Positive.{positive, positive-finite, between}
 use lib.Ieee.Scale.{finite}
 use lib.ListN.{length, getD, length-map}
-use Rattle.memory.specs.Limits.{maxMaskDots, noLine}
-use Rattle.memory.specs.Lists.{table, upto, keep, indexFrom}
-use Rattle.memory.specs.Masks.{isInk}
+use Rattle.memory.specs.rules.Limits.{maxMaskDots, noLine}
+use Rattle.memory.specs.rules.Lists.{table, upto, keep, indexFrom}
+use Rattle.memory.specs.rules.Masks.{isInk}
 use Rattle.memory.proofs.BoolLaws.{and-left, and-right}
 use Rattle.memory.proofs.TableLaws.{getD-table}
-use Rattle.labelling.specs.Components.{boxOf, noDots}
-use Rattle.labelling.specs.Labels.{labelling}
-use Rattle.labelling.specs.Rects.{height, union}
+use Rattle.labelling.specs.rules.Components.{boxOf, noDots}
+use Rattle.labelling.specs.rules.Labels.{labelling}
+use Rattle.memory.specs.rules.Rects.{height, union}
 use Rattle.labelling.specs.declared.component.Component.{Component}
-use Rattle.labelling.specs.declared.rect.Rect.{Rect}
+use Rattle.memory.specs.declared.rect.Rect.{Rect}
 use Rattle.labelling.proofs.SizeLaws.{component-boxed}
-use Rattle.params.specs.Valid.{valid, one, lengthOk, lengthsOk, extentOk, fallbackOk, fractionsOk, heightsOk, countsOk}
+use Rattle.params.specs.rules.Valid.{valid, one, lengthOk, lengthsOk, extentOk, fallbackOk, fractionsOk, heightsOk, countsOk}
 use Rattle.params.specs.declared.LayoutParams.{LayoutParams}
-use Rattle.rounding.specs.Lengths.{float}
-use Rattle.levelling.specs.Frames.{Frame}
-use Rattle.sorting.specs.Kinds.{kindOf, ruleKind, graphicKind, glyphKind}
-use Rattle.sorting.specs.Sorted.{sorted, boxesOf, rulesOf, graphicsOf}
-use Rattle.sorting.specs.Units.{median, unitFrom, unitOf, unitValue, measurable}
+use Rattle.rounding.specs.rules.Lengths.{float}
+use Rattle.levelling.specs.rules.Frames.{Frame}
+use Rattle.sorting.specs.rules.Kinds.{kindOf, ruleKind, graphicKind, glyphKind}
+use Rattle.sorting.specs.rules.Sorted.{sorted, boxesOf, rulesOf, graphicsOf}
+use Rattle.sorting.specs.rules.Units.{median, unitFrom, unitOf, unitValue, measurable}
 use Rattle.sorting.specs.declared.Unit.{Unit}
 use Rattle.sorting.specs.declared.Unit.the-variants.{Measured, Assumed}
 use Rattle.sorting.proofs.KindLaws.{KindOfDot, kind-of-dot}
 use Rattle.sorting.proofs.KindLaws.KindOfDot.{blank, ink}
-use Rattle.grouping.specs.Blocks.{Block, noRect, blockFirsts, blockNumber, blocksOf, blockOf, unionAll, opensBlock}
-use Rattle.grouping.specs.Layouts.{Layout, TextLine, GlyphBox, layout, layoutRefusal, textLine, glyphBox}
-use Rattle.grouping.specs.Lines.{LabelledGlyph, labelledGlyphs, SmoothedLine, smoothedLine, isLine, keptLines, keysAtMost, lineKeys, lineNumber}
-use Rattle.grouping.specs.Words.{Inside, lineRecord, blockRecord, glyphRecord}
-use Rattle.grouping.proofs.ListLaws.{Each, each-at, each-sort, each-table, each-append, keep-few}
+use Rattle.grouping.specs.rules.Blocks.{Block, noRect, blockFirsts, blockNumber, blocksOf, blockOf, unionAll, opensBlock}
+use Rattle.segmenting.specs.rules.Layouts.{Layout, layout, layoutRefusal, textLine}
+use Rattle.smoothing.specs.rules.Lines.{TextLine, GlyphBox, glyphBox, LabelledGlyph, labelledGlyphs, SmoothedLine, smoothedLine, isLine, keptLines, keysAtMost, lineKeys, lineNumber}
+use Rattle.grouping.specs.stages.LineBoxes.{Inside}
+use Rattle.smoothing.specs.rules.LineRecords.{lineRecord, glyphRecord}
+use Rattle.grouping.specs.rules.BlockRecords.{blockRecord}
+use Rattle.memory.proofs.ListLaws.{Each, each-at, each-sort, each-table, each-append, keep-few}
 use Rattle.grouping.proofs.Theorems.{block-of-line-exists}
-use Rattle.segmenting.specs.Results.{boxWords}
-use Rattle.segmenting.specs.Figures.{figuresOf, figureWords}
-use Rattle.smoothing.specs.Segments.{rowsOf, glyphsIn, linesIn}
+use Rattle.segmenting.specs.rules.Results.{boxWords}
+use Rattle.segmenting.specs.rules.Figures.{figuresOf, figureWords}
+use Rattle.smoothing.specs.stages.Segments.{rowsOf, glyphsIn, linesIn}
 use Rattle.judging.specs.rules.Header.{lowWord, highWord}
 use Rattle.judging.specs.rules.Views.{viewOfLayout}
 use Rattle.judging.specs.rules.Spoiled.{unitOk, kindOk, kindsOk, resultsOk}

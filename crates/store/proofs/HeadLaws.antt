@@ -7,11 +7,10 @@ use native.Mathlib.Omega.{arith}
 use borrow.Rule.Slice.PartMut.{putMid, same-len-mid}
 use lib.ListN.{length, take, drop, set, length-drop, length-set, take-append-drop}
 use lib.Seq.{take-at, drop-at, take-append-le, drop-append-le, length-take-le}
-use Rattle.memory.specs.Words.{over}
-use Rattle.grouping.specs.Layouts.{Layout}
-use Rattle.grouping.specs.Words.{putAt}
-use Rattle.segmenting.specs.Results.{resultsLeft}
-use Rattle.segmenting.specs.Figures.{figuresOf, figureWords}
+use Rattle.memory.specs.rules.Words.{over, putAt}
+use Rattle.segmenting.specs.rules.Layouts.{Layout}
+use Rattle.segmenting.specs.rules.Results.{resultsLeft}
+use Rattle.segmenting.specs.rules.Figures.{figuresOf, figureWords}
 use Rattle.segmenting.specs.declared.results.Segmentation.{Segmentation}
 use Rattle.segmenting.proofs.PutLaws.{part-length, put-part}
 use Rattle.judging.specs.rules.Header.{listsAt}

@@ -12,17 +12,18 @@ use lib.Ieee.{Float, binary64, toBits, ofBits, fits, le, lt, eq, ofFields, fin}
 use lib.Ieee.Bits.{ofBits-toBits, ofBits-fits}
 use lib.ListN.{length, getD, take, length-append}
 use lib.Seq.{getD-take}
-use Rattle.memory.specs.Words.{wordAt}
+use Rattle.memory.specs.rules.Words.{wordAt}
 use Rattle.memory.proofs.WordLaws.{same-self}
 use Rattle.memory.proofs.BoolLaws.{and-left, and-right}
-use Rattle.rounding.specs.Drift.{WithinOne}
-use Rattle.rounding.specs.Rounding.{positiveZero}
-use Rattle.params.specs.Valid.{valid}
-use Rattle.levelling.specs.Frames.{Frame, PageSides, frame}
-use Rattle.levelling.specs.Planes.{levelling, levelInk}
-use Rattle.levelling.specs.Shears.{applied}
+use Rattle.rounding.specs.rules.Drift.{WithinOne}
+use Rattle.rounding.specs.rules.Rounding.{positiveZero}
+use Rattle.params.specs.declared.LayoutParams.{LayoutParams}
+use Rattle.params.specs.rules.Valid.{valid}
+use Rattle.levelling.specs.rules.Frames.{Frame, PageSides, frame}
+use Rattle.levelling.specs.rules.Planes.{levelling, levelInk}
+use Rattle.levelling.specs.rules.Shears.{applied}
 use Rattle.levelling.proofs.FrameLaws.{length-shears}
-use Rattle.memory.specs.Masks.{isMask}
+use Rattle.memory.specs.rules.Masks.{isMask}
 use Rattle.judging.specs.rules.Header.{Held, held, part, headerWords, frameHeld, lowWord, highWord}
 use Rattle.judging.specs.rules.Leaves.{Leaf, levellingOf, leafHeld}
 use Rattle.store.specs.rules.Written.{levelWords}
@@ -54,9 +55,9 @@ pub zero-fits : T (fits binary64 positiveZero)
 zero-fits = ofBits-fits binary64 0
 
 -- what holds of a value and of 0 holds of the applied value
-applied-holds : (Q : Float → Type 0) (least skew v : Float) → Q v → Q positiveZero → Q (applied least skew v)
+applied-holds : (Q : Float → Type 0) (sheet : LayoutParams) (skew v : Float) → Q v → Q positiveZero → Q (applied sheet skew v)
 unfolding applied
-applied-holds Q least skew v x z = go (le least _)
+applied-holds Q sheet skew v x z = go (le (sheet .«shear_min_deg») _)
   where
     go : (b : Bool) → Q (cond b v positiveZero)
     go true = x

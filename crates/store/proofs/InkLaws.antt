@@ -6,14 +6,14 @@ use Prim.Native.Nat.{ℕ, _*_, _≤_, _<_}
 use native.Mathlib.Nat.{le-trans, mul-le-mul}
 use native.Mathlib.Omega.{arith}
 use lib.ListN.{length, getD, take}
-use Rattle.memory.specs.Limits.{maxMaskDots}
-use Rattle.memory.specs.Lists.{occurs}
-use Rattle.levelling.specs.Frames.{frame}
-use Rattle.levelling.specs.Planes.{levelling}
+use Rattle.memory.specs.rules.Limits.{maxMaskDots}
+use Rattle.memory.specs.rules.Lists.{occurs}
+use Rattle.levelling.specs.rules.Frames.{frame}
+use Rattle.levelling.specs.rules.Planes.{levelling}
 use Rattle.levelling.proofs.FrameLaws.{frame-rows, frame-fits, frame-width}
 use Rattle.levelling.proofs.InverseTheorems.{HoldsPage, frame-holds, levelled-ink-count, levelled-bits, length-levelled}
 use Rattle.memory.proofs.MaskLaws.{mask-ones, ones-mask}
-use Rattle.memory.specs.Masks.{isMask}
+use Rattle.memory.specs.rules.Masks.{isMask}
 use Rattle.judging.specs.rules.Leaves.{Leaf, levellingOf}
 use Rattle.judging.specs.rules.Spoiled.{inkSpoiled}
 use Rattle.store.proofs.HeaderLaws.{Accepted, sides, one, page-wide, page-high, ink-is}

@@ -7,26 +7,26 @@ use native.Mathlib.Omega.{arith}
 use borrow.Author.Tests.{ltb-false}
 use lib.Dec.{eqb}
 use lib.ListN.{length, getD, length-append, length-map}
-use Rattle.memory.specs.Lists.{table, upto, keep, greatest, insertBy, sortBy}
-use Rattle.memory.specs.Limits.{maxLines}
+use Rattle.memory.specs.rules.Lists.{table, upto, keep, greatest, insertBy, sortBy}
+use Rattle.memory.specs.rules.Limits.{maxLines}
 use Rattle.memory.proofs.RefusalLaws.{refusal-passed}
 use Rattle.memory.proofs.TableLaws.{length-table}
-use Rattle.labelling.specs.Components.{boxOf, noDots}
-use Rattle.labelling.specs.declared.rect.Rect.{Rect}
+use Rattle.labelling.specs.rules.Components.{boxOf, noDots}
+use Rattle.memory.specs.declared.rect.Rect.{Rect}
 use Rattle.labelling.specs.declared.component.Component.{Component}
 use Rattle.params.specs.declared.LayoutParams.{LayoutParams}
-use Rattle.rounding.specs.Lengths.{_·_, dots}
-use Rattle.sorting.specs.Kinds.{kindOf, glyphKind, ruleKind, graphicKind}
-use Rattle.sorting.specs.Sorted.{sorted, rulesOf, graphicsOf, boxesOf}
-use Rattle.sorting.specs.Units.{unitValue}
+use Rattle.rounding.specs.rules.Lengths.{_·_, dots}
+use Rattle.sorting.specs.rules.Kinds.{kindOf, glyphKind, ruleKind, graphicKind}
+use Rattle.sorting.specs.rules.Sorted.{sorted, rulesOf, graphicsOf, boxesOf}
+use Rattle.sorting.specs.rules.Units.{unitValue}
 use Rattle.sorting.proofs.KindLaws.{length-plane}
-use Rattle.grouping.specs.Blocks.{blockFirsts, blocksOf, opensBlock, blockOf}
-use Rattle.grouping.specs.Columns.{columnsOf, covered, cover}
-use Rattle.grouping.specs.Layouts.{layout, layoutRefusal, textLine, glyphBox}
-use Rattle.grouping.specs.Lines.{labelledGlyphs, SmoothedLine, smoothedLine, isLine, keptLines, keysAtMost, lineKeys}
+use Rattle.grouping.specs.rules.Blocks.{blockFirsts, blocksOf, opensBlock, blockOf}
+use Rattle.grouping.specs.rules.Columns.{columnsOf, covered, cover}
+use Rattle.segmenting.specs.rules.Layouts.{layout, layoutRefusal, textLine}
+use Rattle.smoothing.specs.rules.Lines.{glyphBox, labelledGlyphs, SmoothedLine, smoothedLine, isLine, keptLines, keysAtMost, lineKeys}
 use Rattle.grouping.proofs.ColumnWords.{runs-few}
-use Rattle.grouping.proofs.ListLaws.{keep-few}
-use Rattle.smoothing.specs.Segments.{rowsOf, glyphsIn, linesIn}
+use Rattle.memory.proofs.ListLaws.{keep-few}
+use Rattle.smoothing.specs.stages.Segments.{rowsOf, glyphsIn, linesIn}
 use Rattle.store.proofs.ListLaws.{Few}
 
 pub keep-shorter : {A : Type 0} (p : A → Bool) (l : List A) → length (keep p l) ≤ length l

@@ -10,15 +10,16 @@ use borrow.Author.Tests.{leb-true, ltb-true}
 use lib.Dec.{ltb, leb}
 use lib.Ieee.{Float}
 use lib.ListN.{length, getD, take, drop, set}
-use Rattle.memory.specs.Floats.{floatAt}
-use Rattle.memory.specs.Refusals.{refuseIf}
+use Rattle.memory.specs.rules.Floats.{floatAt}
+use Rattle.memory.specs.rules.Refusals.{refuseIf}
 use Rattle.memory.proofs.BoolLaws.{and-left, and-right}
-use Rattle.sorting.specs.Units.{median}
-use Rattle.grouping.specs.Pitches.{centreAt, blockAt, pitchesBelow}
-use Rattle.grouping.specs.Readings.{twentyOf, summarized, summaryNumbers}
-use Rattle.grouping.specs.Words.{fields, lineWords}
+use Rattle.sorting.specs.rules.Units.{median}
+use Rattle.grouping.specs.rules.HeldLines.{centreAt, blockAt, pitchesBelow}
+use Rattle.memory.specs.rules.Records.{fields}
+use Rattle.grouping.specs.rules.Readings.{twentyOf, summarized, summaryNumbers}
+use Rattle.smoothing.specs.rules.LineRecords.{lineWords}
 use Rattle.grouping.specs.declared.summary.Summary.{Summary}
-use Rattle.segmenting.specs.Results.{linesAt}
+use Rattle.segmenting.specs.rules.Results.{linesAt}
 use Rattle.judging.specs.rules.Header.{held, frameHeld, listsAt, part}
 use Rattle.judging.specs.rules.Views.{glyphHeightAt, viewOf, viewWith, ruleCount, graphicCount, glyphCount, lineCount, blockCount}
 use Rattle.judging.specs.rules.Spoiled.{every, fieldsOk, boxOk, boxesOk, unitOk, countsOk, resultsSpoiled}

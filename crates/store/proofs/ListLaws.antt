@@ -4,13 +4,14 @@ use mathlib.Core.List.{List, _++_}
 use Prim.Native.Nat.{ℕ, _+_, _-_, _*_, _≤_}
 use native.Mathlib.Omega.{arith}
 use lib.ListN.{length}
-use Rattle.memory.specs.Limits.{maxLines}
-use Rattle.memory.specs.Records.{encoded}
-use Rattle.memory.specs.Words.{over}
+use Rattle.memory.specs.rules.Limits.{maxLines}
+use Rattle.memory.specs.rules.Records.{encoded}
+use Rattle.memory.specs.rules.Words.{over, putAt}
 use Rattle.memory.proofs.RecordLaws.{length-encoded}
-use Rattle.grouping.specs.Layouts.{Layout}
-use Rattle.grouping.specs.Words.{lineRecord, blockRecord, columnRecord, glyphRecord, putAt}
-use Rattle.segmenting.specs.Results.{rulesAt, graphicsAt, glyphRecordsAt, linesAt, blocksAt, resultWords, boxWords, resultsLeft}
+use Rattle.segmenting.specs.rules.Layouts.{Layout}
+use Rattle.smoothing.specs.rules.LineRecords.{lineRecord, glyphRecord}
+use Rattle.grouping.specs.rules.BlockRecords.{blockRecord, columnRecord}
+use Rattle.segmenting.specs.rules.Results.{rulesAt, graphicsAt, glyphRecordsAt, linesAt, blocksAt, resultWords, boxWords, resultsLeft}
 use Rattle.judging.specs.rules.Header.{part}
 use Rattle.judging.proofs.PartLaws.{part-put, part-before, part-past, over-past, length-put, length-over, part-behind, part-seam}
 

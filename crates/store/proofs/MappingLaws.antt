@@ -11,12 +11,12 @@ use lib.ListN.{length, take, drop, set, getD, length-set}
 use mir.Syntax.{w32}
 use mir.Val.{toZ}
 use mir.Facts.{toZ-ofZ}
-use Rattle.memory.specs.Words.{wordAt, over}
+use Rattle.memory.specs.rules.Words.{wordAt, over}
 use Rattle.memory.proofs.BoolLaws.{and-left, and-right}
-use Rattle.labelling.specs.declared.rect.Rect.{Rect}
-use Rattle.levelling.specs.Frames.{Frame, frameOf}
-use Rattle.levelling.specs.Mapping.{rectToPage}
-use Rattle.levelling.specs.Planes.{PlaneFits}
+use Rattle.memory.specs.declared.rect.Rect.{Rect}
+use Rattle.levelling.specs.rules.Frames.{Frame, frameOf}
+use Rattle.levelling.specs.rules.Mapping.{rectToPage}
+use Rattle.levelling.specs.stages.Rooms.{PlaneFits}
 use Rattle.levelling.proofs.FrameLaws.{frame-is-frameOf, frame-plane-fits}
 use Rattle.judging.specs.rules.Header.{held, frameHeld, dotsHeld, part, headerWords, lowWord, highWord}
 use Rattle.store.specs.rules.Readings.{LevelReading, boxInside, lackingLevel, badLevel, fillLevel, lentLevel, frameLength, frameWords}
@@ -26,7 +26,7 @@ use Rattle.judging.proofs.LimitLaws.{Limited, limited}
 use Rattle.store.proofs.HeldFrames.{frame-words, first-held, second-held}
 use Rattle.judging.proofs.LevelLaws.{Readable}
 use lib.Ieee.{Float}
-use Rattle.memory.specs.Floats.{withFloat, floatAt}
+use Rattle.memory.specs.rules.Floats.{withFloat, floatAt}
 use Rattle.memory.proofs.CopyLaws.{stores-over}
 use Rattle.store.specs.stages.Areas.{framePut}
 

@@ -14,8 +14,8 @@ use lib.Seq.{length-take-le}
 use mir.Syntax.{Width, w32, w64}
 use mir.Val.{SFits, toZ, ofZ, hbits}
 use mir.Facts.{toZ-ofZ}
-use Rattle.levelling.specs.Frames.{Frame, frame, frameOf}
-use Rattle.levelling.specs.Mapping.{toPage}
+use Rattle.levelling.specs.rules.Frames.{Frame, frame, frameOf}
+use Rattle.levelling.specs.rules.Mapping.{toPage}
 use Rattle.levelling.specs.declared.Point.{Point}
 use Rattle.levelling.proofs.FrameLaws.{frame-fits, frame-is-frameOf}
 use Rattle.memory.proofs.GreatestLaws.{greatest-bounds}

@@ -9,27 +9,28 @@ use lib.Dec.{eqb}
 use lib.Ieee.{Float}
 use lib.ListN.{length, getD, drop, length-map, List·getD-map}
 use lib.Seq.{ext-getD}
-use Rattle.memory.specs.Floats.{floatAt}
-use Rattle.memory.specs.Lists.{table, upto}
-use Rattle.memory.specs.Records.{encoded}
+use Rattle.memory.specs.rules.Floats.{floatAt}
+use Rattle.memory.specs.rules.Lists.{table, upto}
+use Rattle.memory.specs.rules.Records.{encoded, fields}
 use Rattle.memory.proofs.TableLaws.{length-table, getD-table, table-ext}
-use Rattle.labelling.specs.declared.rect.Rect.{Rect}
+use Rattle.memory.specs.declared.rect.Rect.{Rect}
 use Rattle.params.specs.declared.LayoutParams.{LayoutParams}
-use Rattle.levelling.specs.Frames.{Frame}
-use Rattle.sorting.specs.Units.{median, unitValue}
+use Rattle.levelling.specs.rules.Frames.{Frame}
+use Rattle.sorting.specs.rules.Units.{median, unitValue}
 use Rattle.sorting.specs.declared.Unit.{Unit}
 use Rattle.sorting.specs.declared.Unit.the-variants.{Measured, Assumed}
-use Rattle.grouping.specs.Blocks.{noRect, blockFirsts, blockNumber, blocksOf}
-use Rattle.grouping.specs.Layouts.{Layout, TextLine, layout, textLine}
-use Rattle.grouping.specs.Lines.{SmoothedLine}
-use Rattle.grouping.specs.Pitches.{centreAt, blockAt, linesIn, pitchesBelow}
-use Rattle.grouping.specs.Readings.{differences, pitches, pitchesOf, twentyOf, twentyLineMeasure, summarized, summary, totalsOf}
-use Rattle.grouping.specs.Words.{lineRecord, fields}
-use Rattle.grouping.proofs.ListLaws.{Each, keep-same, map-table}
+use Rattle.grouping.specs.rules.Blocks.{noRect, blockFirsts, blockNumber, blocksOf}
+use Rattle.segmenting.specs.rules.Layouts.{Layout, layout, textLine}
+use Rattle.smoothing.specs.rules.Lines.{TextLine, SmoothedLine}
+use Rattle.grouping.specs.rules.HeldLines.{centreAt, blockAt, linesIn, pitchesBelow}
+use Rattle.grouping.specs.rules.Readings.{differences, pitches, twentyOf, summarized}
+use Rattle.segmenting.specs.rules.LayoutReadings.{pitchesOf, twentyLineMeasure, summary, totalsOf}
+use Rattle.smoothing.specs.rules.LineRecords.{lineRecord}
+use Rattle.memory.proofs.ListLaws.{Each, keep-same, map-table}
 use Rattle.grouping.proofs.PitchLaws.{pitches-by-number}
 use Rattle.grouping.proofs.TogetherLaws.{block-low, block-idem}
-use Rattle.segmenting.specs.Figures.{figuresOf, figureWords, measuredWord}
-use Rattle.smoothing.specs.Segments as segments
+use Rattle.segmenting.specs.rules.Figures.{figuresOf, figureWords, measuredWord}
+use Rattle.smoothing.specs.stages.Segments as segments
 use Rattle.judging.specs.rules.Views.{viewOfLayout}
 use Rattle.store.specs.rules.Readings.{figuresTold, pitchesHeld, summaryHeld, twentyHeld}
 use Rattle.store.proofs.LayoutLaws.{boxesIn, lines-are, blocks-are, lines-long}

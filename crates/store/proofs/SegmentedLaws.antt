@@ -11,20 +11,21 @@ use lib.Dec.{eqb}
 use lib.Ieee.{Float}
 use lib.ListN.{length, getD, take, drop, take-append-drop}
 use lib.Seq.{take-at, drop-at, length-take-le}
-use Rattle.memory.specs.Limits.{scratchWords}
-use Rattle.memory.specs.Words.{wordAt, over}
+use Rattle.memory.specs.rules.Limits.{scratchWords}
+use Rattle.memory.specs.rules.Words.{wordAt, over}
 use Rattle.memory.proofs.PartLaws.{tail-part, tail-put}
-use Rattle.params.specs.Valid.{valid}
+use Rattle.params.specs.rules.Valid.{valid}
 use Rattle.params.specs.declared.LayoutParams.{LayoutParams}
-use Rattle.levelling.specs.Frames.{frame}
+use Rattle.levelling.specs.rules.Frames.{frame}
 use Rattle.levelling.proofs.FrameLaws.{frame-fits}
 use Rattle.memory.proofs.MaskLaws.{mask-ones}
-use Rattle.grouping.specs.Layouts.{Layout, layout, layoutRefusal}
-use Rattle.segmenting.specs.Answers as Answers
-use Rattle.segmenting.specs.Answers.{SegmentRoom, segmented, leftBy, numberOf, pickAnswer}
+use Rattle.segmenting.specs.rules.Layouts.{Layout, layout, layoutRefusal}
+use Rattle.segmenting.specs.rules.Answers as Answers
+use Rattle.segmenting.specs.stages.Rooms.{SegmentRoom}
+use Rattle.segmenting.specs.rules.Answers.{segmentPlane, segmentOutcomeBy, segmentNumber, pickSegment}
 use Rattle.segmenting.proofs.PutLaws.{part-length}
-use Rattle.segmenting.specs.Results.{resultWords, resultsLeft}
-use Rattle.segmenting.specs.Figures.{figuresOf}
+use Rattle.segmenting.specs.rules.Results.{resultWords, resultsLeft}
+use Rattle.segmenting.specs.rules.Figures.{figuresOf}
 use Rattle.segmenting.specs.declared.page.SegmentAnswer.{SegmentAnswer}
 use Rattle.segmenting.specs.declared.page.SegmentAnswer.the-variants.{Segmented, Refused}
 use Rattle.segmenting.specs.declared.results.Segmentation.{Segmentation}
@@ -153,15 +154,15 @@ judged-yes sheet s ink kinds scratch e =
     ap (λ n. settled n s kinds (storeSegmented (g .page-w) (frameHeld g .w) (frameHeld g .h) (g .capacity) l s) (over (l .kinds) kinds))
     (sym (segment-passes sheet (length s) (length ink) (length kinds) scratch g (frameSpoiled s || inkSpoiled (dotsHeld g) ink) .pass e (layoutRefusal (g .capacity) l)))
 
-number-of : (k : ℕ) (f : Segmentation) → numberOf (pickAnswer (eqb k 0) (Segmented f) (Refused k)) ≡ k
+number-of : (k : ℕ) (f : Segmentation) → segmentNumber (pickSegment (eqb k 0) (Segmented f) (Refused k)) ≡ k
 number-of zero f = refl
 number-of (suc k) f = rw (ne-eqb (suc k) 0 (λ (e : suc k ≡ 0). omega arith))
 
 -- the lists written, then the header, or nothing
 page-left : (pw w h P : ℕ) (l : Layout) (s kinds : List ℕ) (r : SegmentAnswer) (k : ℕ) (s' kinds' : List ℕ) → listsAt pw h ≤ length s → take (listsAt pw h) s' ≡ take (listsAt pw h) s
-    → Answers.left r (drop (listsAt pw h) s') kinds' ≡ leftBy k w P l (drop (listsAt pw h) s) kinds
-    → left (numberOf r) (headLeft r s') kinds' ≡ settled k s kinds (storeSegmented pw w h P l s) (over (l .kinds) kinds)
-unfolding leftBy settled
+    → Answers.segmentOutcome r (drop (listsAt pw h) s') kinds' ≡ segmentOutcomeBy k w P l (drop (listsAt pw h) s) kinds
+    → left (segmentNumber r) (headLeft r s') kinds' ≡ settled k s kinds (storeSegmented pw w h P l s) (over (l .kinds) kinds)
+unfolding segmentOutcomeBy settled
 page-left pw w h P l s kinds r k s' kinds' room t e =
     let at = listsAt pw h in
     let b = eqb k 0 in
@@ -170,7 +171,7 @@ page-left pw w h P l s kinds r k s' kinds' room t e =
     (λ i. left (e i .number) (headLeft (e i .answer) (s'-is i)) (e i .kinds))
     ∙ (λ i. left (number-of k (figuresOf l) i) (go b i) (cond b (over (l .kinds) kinds) kinds))
   where
-    go : (b : Bool) → headLeft (pickAnswer b (Segmented (figuresOf l)) (Refused k)) (take (listsAt pw h) s ++ cond b (resultsLeft w P l (drop (listsAt pw h) s)) (drop (listsAt pw h) s))
+    go : (b : Bool) → headLeft (pickSegment b (Segmented (figuresOf l)) (Refused k)) (take (listsAt pw h) s ++ cond b (resultsLeft w P l (drop (listsAt pw h) s)) (drop (listsAt pw h) s))
         ≡ cond b (storeSegmented pw w h P l s) s
     go true = lists-then-head pw w h P l s room
     go false = take-append-drop (listsAt pw h) s
@@ -181,9 +182,9 @@ module _ (sheet : LayoutParams) (s ink kinds : List ℕ) (scratch : ℕ) (J : se
   ok = segmentable sheet s ink (length kinds) scratch J
 
   pub page-done : (r : SegmentAnswer) (n : ℕ) (s' kinds' s'' : List ℕ) → take (64 + pw + h) s' ≡ take (64 + pw + h) s
-      → Answers.left r (drop (64 + pw + h) s') kinds' ≡ segmented sheet w h (take (w * h) ink) P (drop (64 + pw + h) s) kinds
-      → n ≡ numberOf r → s'' ≡ headLeft r s' → left n s'' kinds' ≡ segmentLeft sheet s ink kinds scratch
-  unfolding segmented
+      → Answers.segmentOutcome r (drop (64 + pw + h) s') kinds' ≡ segmentPlane sheet w h (take (w * h) ink) P (drop (64 + pw + h) s) kinds
+      → n ≡ segmentNumber r → s'' ≡ headLeft r s' → left n s'' kinds' ≡ segmentLeft sheet s ink kinds scratch
+  unfolding segmentPlane
   page-done r n s' kinds' s'' t e en es =
       let g = held s in
       let A = lists-by sheet s ink (length kinds) scratch ok pw w h P e₁ e₃ e₄ e₅ in
@@ -195,8 +196,8 @@ module _ (sheet : LayoutParams) (s ink kinds : List ℕ) (scratch : ℕ) (J : se
       (λ i. left (en i) (es i) kinds')
       ∙ (page-left (g .page-w) (frameHeld g .w) (frameHeld g .h) (g .capacity) L s kinds r (layoutRefusal (g .capacity) L) s' kinds' (subst (λ z. z ≤ length s) A F)
       (subst (λ z. take z s' ≡ take z s) A t)
-      ((λ i. Answers.left r (drop (sym A i) s') kinds')
-      ∙ (e ∙ (λ i. leftBy (layoutRefusal (C i) (layout sheet (W i) (H i) (take (W i * H i) ink))) (W i) (C i) (layout sheet (W i) (H i) (take (W i * H i) ink)) (drop (A i) s) kinds)))
+      ((λ i. Answers.segmentOutcome r (drop (sym A i) s') kinds')
+      ∙ (e ∙ (λ i. segmentOutcomeBy (layoutRefusal (C i) (layout sheet (W i) (H i) (take (W i * H i) ink))) (W i) (C i) (layout sheet (W i) (H i) (take (W i * H i) ink)) (drop (A i) s) kinds)))
       ∙ judged-yes sheet s ink kinds scratch J)
 
   pub past-kept : (work work' : List ℕ) → drop (scratchWords (w * h) P) work' ≡ drop (scratchWords (w * h) P) work → drop (scratchHeld (held s)) work' ≡ drop (scratchHeld (held s)) work
@@ -216,17 +217,17 @@ parts-room sheet w h d P start s ink scratch k e r =
 
 pub parts-done : (sheet : LayoutParams) (w h d P start : ℕ) (s ink kinds scratch : List ℕ) (r : SegmentAnswer) (part kinds' work : List ℕ) → d ≡ w * h → start ≤ length s
     → scratchWords (w * h) P ≤ length scratch → length work ≡ length (take (4 * d + 16 * P + 64) scratch)
-    → Answers.left r part kinds' ≡ segmented sheet w h (take d ink) P (take (length s - start) (drop start s)) kinds
+    → Answers.segmentOutcome r part kinds' ≡ segmentPlane sheet w h (take d ink) P (take (length s - start) (drop start s)) kinds
     → (take start (putMid start (length s - start) s part) ≡ take start s)
-    × (Answers.left r (drop start (putMid start (length s - start) s part)) kinds' ≡ segmented sheet w h (take (w * h) ink) P (drop start s) kinds)
+    × (Answers.segmentOutcome r (drop start (putMid start (length s - start) s part)) kinds' ≡ segmentPlane sheet w h (take (w * h) ink) P (drop start s) kinds)
     × (drop (scratchWords (w * h) P) (work ++ drop (4 * d + 16 * P + 64) scratch) ≡ drop (scratchWords (w * h) P) scratch)
 parts-done sheet w h d P start s ink kinds scratch r part kinds' work ed room l lw e =
     let n : length (take start s) ≡ start = length-take-le start s room in
     let q : putMid start (length s - start) s part ≡ take start s ++ part = tail-put start s part in
     let m : scratchWords (w * h) P ≡ 4 * d + 16 * P + 64 = (λ i. scratchWords (sym ed i) P) in (
       ap (take start) q ∙ take-at (take start s) part start n,
-      ap (λ (z : List ℕ). Answers.left r z kinds') (ap (drop start) q ∙ drop-at (take start s) part start n)
-          ∙ (e ∙ (λ i. segmented sheet w h (take (ed i) ink) P (tail-part start s i) kinds)),
+      ap (λ (z : List ℕ). Answers.segmentOutcome r z kinds') (ap (drop start) q ∙ drop-at (take start s) part start n)
+          ∙ (e ∙ (λ i. segmentPlane sheet w h (take (ed i) ink) P (tail-part start s i) kinds)),
       ap (λ z. drop z (work ++ drop (4 * d + 16 * P + 64) scratch)) m
           ∙ (drop-at work (drop (4 * d + 16 * P + 64) scratch) (4 * d + 16 * P + 64) (lw ∙ length-take-le (4 * d + 16 * P + 64) scratch (subst (λ z. z ≤ length scratch) m l))
           ∙ ap (λ z. drop z scratch) (sym m)),

@@ -6,9 +6,9 @@ use Prim.Native.Nat.{ℕ, _+_, _*_, _≤_, _<_}
 use native.Mathlib.Omega.{arith}
 use borrow.Author.Tests.{lt-ltb, le-ltb}
 use lib.ListN.{length, getD}
-use Rattle.memory.specs.Refusals.{refuseIf}
-use Rattle.memory.specs.Words.{over}
-use Rattle.levelling.specs.Frames.{frame}
+use Rattle.memory.specs.rules.Refusals.{refuseIf}
+use Rattle.memory.specs.rules.Words.{over}
+use Rattle.levelling.specs.rules.Frames.{frame}
 use Rattle.judging.specs.rules.Header.{held, part}
 use Rattle.judging.specs.rules.Refusals.{resultRefusal}
 use Rattle.judging.specs.rules.Spoiled.{resultsSpoiled}

@@ -6,12 +6,11 @@ use native.Mathlib.Nat.{le-trans}
 use native.Mathlib.Omega.{arith}
 use lib.ListN.{length, getD, take, drop, length-append, length-drop}
 use lib.Seq.{length-take-le}
-use Rattle.memory.specs.Limits.{storeWords}
-use Rattle.memory.specs.Words.{wordAt, over}
-use Rattle.grouping.specs.Layouts.{Layout}
-use Rattle.grouping.specs.Words.{putAt}
-use Rattle.segmenting.specs.Results.{rulesAt, graphicsAt, glyphRecordsAt, linesAt, blocksAt, resultWords, resultsLeft}
-use Rattle.segmenting.specs.Figures.{figuresOf, figureWords}
+use Rattle.memory.specs.rules.Limits.{storeWords}
+use Rattle.memory.specs.rules.Words.{wordAt, over, putAt}
+use Rattle.segmenting.specs.rules.Layouts.{Layout}
+use Rattle.segmenting.specs.rules.Results.{rulesAt, graphicsAt, glyphRecordsAt, linesAt, blocksAt, resultWords, resultsLeft}
+use Rattle.segmenting.specs.rules.Figures.{figuresOf, figureWords}
 use Rattle.judging.specs.rules.Header.{held, part, headerWords, figuresAt, listsAt, frameHeld}
 use Rattle.judging.specs.rules.Leaves.{Leaf, levellingOf, leafHeld}
 use Rattle.store.specs.rules.Written.{levelWords, storeLevelled, storeSegmented}

@@ -7,13 +7,13 @@ use native.Mathlib.Omega.{arith}
 use borrow.Author.Tests.{lt-ltb, le-ltb, eq-eqb, ne-eqb, ltb-false}
 use lib.Dec.{ltb}
 use lib.ListN.{length, getD, take, drop, set}
-use Rattle.memory.specs.Limits.{maxPageSide, maxFrameWidth, maxFrameHeight, maxCapacity}
-use Rattle.memory.specs.Refusals.{refuseIf}
-use Rattle.memory.specs.Words.{over}
+use Rattle.memory.specs.rules.Limits.{maxPageSide, maxFrameWidth, maxFrameHeight, maxCapacity}
+use Rattle.memory.specs.rules.Refusals.{refuseIf}
+use Rattle.memory.specs.rules.Words.{over}
 use Rattle.memory.proofs.BoolLaws.{and-left, and-right}
-use Rattle.levelling.specs.Frames.{frame}
+use Rattle.levelling.specs.rules.Frames.{frame}
 use Rattle.levelling.proofs.FrameLaws.{frame-fits}
-use Rattle.segmenting.specs.Figures.{figuresLength}
+use Rattle.segmenting.specs.rules.Figures.{figuresLength}
 use Rattle.judging.specs.rules.Header.{Held, held, frameHeld, storeHeld, dotsHeld, listsAt, part, figuresAt}
 use Rattle.judging.specs.rules.Views.{viewOf, viewWith}
 use Rattle.judging.specs.rules.Spoiled.{kindsOk, unitOk, countsOk, inkHeld, resultsSpoiled}

@@ -7,13 +7,13 @@ use native.Mathlib.Omega.{arith}
 use borrow.Author.Tests.{le-leb, lt-ltb}
 use lib.Dec.{leb}
 use lib.ListN.{length, getD}
-use Rattle.memory.specs.Lists.{keep, upto, sortBy}
-use Rattle.memory.specs.Records.{encoded}
+use Rattle.memory.specs.rules.Lists.{keep, upto, sortBy}
+use Rattle.memory.specs.rules.Records.{encoded}
 use Rattle.memory.proofs.RecordLaws.{record-at}
-use Rattle.labelling.specs.declared.rect.Rect.{Rect}
-use Rattle.sorting.specs.Units.{median}
-use Rattle.grouping.specs.Words.{Inside}
-use Rattle.grouping.proofs.ListLaws.{Each, each-at, each-sort, each-table}
+use Rattle.memory.specs.declared.rect.Rect.{Rect}
+use Rattle.sorting.specs.rules.Units.{median}
+use Rattle.grouping.specs.stages.LineBoxes.{Inside}
+use Rattle.memory.proofs.ListLaws.{Each, each-at, each-sort, each-table}
 use Rattle.judging.specs.rules.Spoiled.{every, fieldsOk, boxOk, boxesOk}
 use Rattle.store.proofs.LayoutLaws.{sort-long}
 

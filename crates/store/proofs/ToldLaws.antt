@@ -5,8 +5,8 @@ use mathlib.Core.List.{List}
 use Prim.Native.Nat.{ℕ}
 use borrow.Author.Tests.{ne-eqb}
 use lib.ListN.{length}
-use Rattle.memory.specs.Refusals.{refuseIf}
-use Rattle.levelling.specs.Frames.{frame}
+use Rattle.memory.specs.rules.Refusals.{refuseIf}
+use Rattle.levelling.specs.rules.Frames.{frame}
 use Rattle.judging.specs.rules.Header.{held}
 use Rattle.judging.specs.rules.Views.{viewOf}
 use Rattle.judging.specs.rules.Refusals.{resultRefusal}

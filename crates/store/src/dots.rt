@@ -4,9 +4,9 @@ ghost use mathlib.Core.Path.{_≡_};
 ghost use Prim.Native.Nat.{_+_, _*_, _≤_};
 ghost use lib.Dec.{ltb, leb};
 ghost use lib.ListN.{length, getD};
-ghost use Rattle.memory.specs.Lists.{countIf};
-ghost use Rattle.memory.specs.Words.{over};
-ghost use Rattle.grouping.specs.Readings.{listed, dotList};
+ghost use Rattle.memory.specs.rules.Lists.{countIf};
+ghost use Rattle.memory.specs.rules.Words.{over};
+ghost use Rattle.grouping.specs.rules.Readings.{listed, dotList};
 ghost use Rattle.store.specs.stages.Areas.{wordsFrame, wordsKinds, FrameHere};
 ghost use Rattle.store.specs.rules.Readings.{ResultReading};
 ghost use Rattle.store.specs.rules.Readings.Output.{none, words};
@@ -20,7 +20,7 @@ use judging::HEADER;
 use judging::PAGE_HEIGHT;
 use judging::PAGE_WIDTH;
 use judging::judge_reading;
-use labelling::Rect;
+use memory::Rect;
 
 // A kind outside 1 to 5, or a box with a corner outside the frame or reversed.
 fn bad_dots(kind: u32, r: Rect, w: u32, h: u32) -> bool

@@ -2,8 +2,8 @@
 ghost use mathlib.Core.Path.{_≡_};
 ghost use Prim.Native.Nat.{_≤_};
 ghost use lib.ListN.{length};
-ghost use Rattle.memory.specs.Words.{over};
-ghost use Rattle.segmenting.specs.Figures.{figuresLength};
+ghost use Rattle.memory.specs.rules.Words.{over};
+ghost use Rattle.segmenting.specs.rules.Figures.{figuresLength};
 ghost use Rattle.judging.specs.rules.Header.{part, figuresAt};
 ghost use Rattle.store.specs.rules.Readings.{figuresTold, ResultReading};
 ghost use Rattle.store.specs.rules.Readings.Output.{words};

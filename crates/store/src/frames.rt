@@ -4,7 +4,7 @@ ghost use mathlib.Core.Path.{_≡_};
 ghost use Prim.Native.Nat.{_≤_};
 ghost use lib.Dec.{ltb};
 ghost use lib.ListN.{length};
-ghost use Rattle.memory.specs.Words.{over};
+ghost use Rattle.memory.specs.rules.Words.{over};
 ghost use Rattle.judging.specs.rules.Header.{headerWords};
 ghost use Rattle.judging.specs.stages.Judged.{levelJudged};
 ghost use Rattle.store.specs.rules.Answers.{outcomeNumber};

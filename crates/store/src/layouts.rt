@@ -2,9 +2,10 @@
 ghost use mathlib.Core.Path.{_≡_};
 ghost use Prim.Native.Nat.{_+_, _-_, _*_, _≤_};
 ghost use lib.ListN.{length, take, drop};
-ghost use Rattle.memory.specs.Limits.{scratchWords};
-ghost use Rattle.segmenting.specs.Answers as Answers;
-ghost use Rattle.segmenting.specs.Answers.{SegmentRoom, segmented, numberOf};
+ghost use Rattle.memory.specs.rules.Limits.{scratchWords};
+ghost use Rattle.segmenting.specs.rules.Answers as Answers;
+ghost use Rattle.segmenting.specs.stages.Rooms.{SegmentRoom};
+ghost use Rattle.segmenting.specs.rules.Answers.{segmentPlane, segmentNumber};
 ghost use Rattle.judging.specs.rules.Header.{held, headerWords, scratchHeld};
 ghost use Rattle.judging.specs.stages.Judged.{segmentJudged};
 ghost use Rattle.store.specs.stages.Heads.{headSegmented, headLeft};
@@ -39,7 +40,7 @@ fn write_head(found: Segmentation, store: &mut [u32])
 // What an answer is to the caller; its figures are written.
 fn tell(answer: SegmentAnswer, store: &mut [u32]) -> Outcome
     requires { ⌜ headerWords ≤ length (now store) ⌝ }
-    ensures { λ r. ⌜ (outcomeNumber r ≡ numberOf answer) × (now (store .exit) ≡ headLeft answer (now (store .entry))) ⌝ }
+    ensures { λ r. ⌜ (outcomeNumber r ≡ segmentNumber answer) × (now (store .exit) ≡ headLeft answer (now (store .entry))) ⌝ }
 {
     match answer {
         SegmentAnswer::Segmented(found) => {
@@ -63,7 +64,7 @@ fn segment_parts(
     scratch: &mut [u32],
 ) -> SegmentAnswer
     requires { ⌜ SegmentRoom sheet w h (take (w * h) (now ink)) capacity (take (scratchWords (w * h) capacity) (now scratch)) (length (now store) - start) (length (now kinds)) ⌝ ∗ ⌜ (w * h ≤ length (now ink)) × (scratchWords (w * h) capacity ≤ length (now scratch)) × (start ≤ length (now store)) ⌝ }
-    ensures { λ r. ⌜ (take start (now (store .exit)) ≡ take start (now (store .entry))) × (Answers.left r (drop start (now (store .exit))) (now (kinds .exit)) ≡ segmented sheet w h (take (w * h) (now (ink .entry))) capacity (drop start (now (store .entry))) (now (kinds .entry))) × (drop (scratchWords (w * h) capacity) (now (scratch .exit)) ≡ drop (scratchWords (w * h) capacity) (now (scratch .entry))) ⌝ }
+    ensures { λ r. ⌜ (take start (now (store .exit)) ≡ take start (now (store .entry))) × (Answers.segmentOutcome r (drop start (now (store .exit))) (now (kinds .exit)) ≡ segmentPlane sheet w h (take (w * h) (now (ink .entry))) capacity (drop start (now (store .entry))) (now (kinds .entry))) × (drop (scratchWords (w * h) capacity) (now (scratch .exit)) ≡ drop (scratchWords (w * h) capacity) (now (scratch .entry))) ⌝ }
 {
     let dots = area(w, h);
     let need = 4 * dots + 16 * capacity + 64;

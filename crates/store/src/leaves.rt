@@ -3,11 +3,10 @@ ghost use mathlib.Core.Path.{_≡_};
 ghost use mathlib.Core.List.{_∷_, _++_};
 ghost use Prim.Native.Nat.{_+_, _*_, _≤_};
 ghost use lib.ListN.{length};
-ghost use Rattle.memory.specs.Words.{over};
-ghost use Rattle.rounding.specs.Drift.{WithinOne};
-ghost use Rattle.levelling.specs.Frames.{PageSides, frame};
-ghost use Rattle.levelling.specs.Planes.{levelled};
-ghost use Rattle.grouping.specs.Words.{putAt};
+ghost use Rattle.memory.specs.rules.Words.{over, putAt};
+ghost use Rattle.rounding.specs.rules.Drift.{WithinOne};
+ghost use Rattle.levelling.specs.rules.Frames.{PageSides, frame};
+ghost use Rattle.levelling.specs.rules.Planes.{levelled};
 ghost use Rattle.judging.specs.rules.Leaves.{leafOf};
 ghost use Rattle.store.specs.rules.Written.{headWords};
 ghost use Rattle.store.specs.rules.Outcomes.{left, levelLeft};
@@ -142,9 +141,8 @@ pub fn level(
     if handed != 0 {
         return Outcome::Refused(handed);
     }
-    let least = sheet.shear_min_deg;
-    let applied_skew = levelling::applied(least, skew, skew);
-    let applied_slope = levelling::applied(least, skew, slope);
+    let applied_skew = levelling::applied(sheet, skew, skew);
+    let applied_slope = levelling::applied(sheet, skew, slope);
     let size = levelling::frame_size(width, height, applied_slope);
     let w = size.w;
     let h = size.h;

@@ -1,7 +1,7 @@
 // The lists of a segmentation, out of a store.
 ghost use mathlib.Core.Path.{_≡_};
 ghost use Prim.Native.Nat.{_+_, _*_, _≤_};
-ghost use Rattle.memory.specs.Limits.{maxPageSide, maxFrameWidth, maxFrameHeight, maxCapacity};
+ghost use Rattle.memory.specs.rules.Limits.{maxPageSide, maxFrameWidth, maxFrameHeight, maxCapacity};
 ghost use Rattle.judging.specs.rules.Header.{listsAt};
 ghost use Rattle.store.specs.stages.Areas.{whichOf, areaAt, recordWords, countAt, listStart, listSize, listRead, ListsAt};
 ghost use Rattle.store.specs.rules.Readings.{ResultReading, Which};

@@ -4,10 +4,10 @@ ghost use mathlib.Core.Path.{_≡_};
 ghost use Prim.Native.Nat.{ℕ, _+_, _*_, _≤_, _<_};
 ghost use lib.Dec.{eqb, ltb};
 ghost use lib.ListN.{length, take, drop};
-ghost use Rattle.memory.specs.Words.{over};
-ghost use Rattle.levelling.specs.Frames.{frameOf};
-ghost use Rattle.levelling.specs.Mapping.{rectToPage};
-ghost use Rattle.levelling.specs.Planes.{levelGray};
+ghost use Rattle.memory.specs.rules.Words.{over};
+ghost use Rattle.levelling.specs.rules.Frames.{frameOf};
+ghost use Rattle.levelling.specs.rules.Mapping.{rectToPage};
+ghost use Rattle.levelling.specs.rules.Planes.{levelGray};
 ghost use Rattle.judging.specs.rules.Header.{held, frameHeld, dotsHeld};
 ghost use Rattle.judging.specs.stages.Judged.{levelJudged};
 ghost use Rattle.store.specs.rules.Readings.{LevelReading, boxInside, filled, rectNumbers};
@@ -24,7 +24,7 @@ use judging::PAGE_WIDTH;
 use judging::frame_held;
 use judging::judge_frame;
 use judging::level_head;
-use labelling::Rect;
+use memory::Rect;
 use memory::word_at;
 
 // All that can refuse a gray plane of so many bytes: the number, or 0.

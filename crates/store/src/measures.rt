@@ -2,7 +2,7 @@
 ghost use mathlib.Core.Path.{_≡_};
 ghost use Prim.Native.Nat.{_*_, _≤_};
 ghost use lib.ListN.{length, getD};
-ghost use Rattle.grouping.specs.Readings.{summaryNumbers};
+ghost use Rattle.grouping.specs.rules.Readings.{summaryNumbers};
 ghost use Rattle.store.specs.stages.Areas.{LinesAt, summaryWords};
 ghost use Rattle.store.specs.rules.Readings.{ResultReading, filled};
 ghost use Rattle.store.specs.rules.Readings.Output.{none, floats};

@@ -1,7 +1,6 @@
 // Medians over the lines of a store: counted in a table of the function's own, since a reading is lent no scratch.
 ghost use mathlib.Core.Path.{_≡_};
 ghost use Rattle.store.specs.stages.Areas.{linesStart, LinesAt, pitchRead, twentyRead, heightRead};
-use grouping::LINE_WORDS;
 use judging::BLOCKS;
 use judging::CAPACITY;
 use judging::FRAME_HEIGHT;
@@ -9,6 +8,7 @@ use judging::FRAME_WIDTH;
 use judging::HEADER;
 use judging::LINES;
 use judging::PAGE_WIDTH;
+use smoothing::LINE_WORDS;
 
 // The words of the table: a count for each value below twice the greatest frame height, then a word for each of the most blocks.
 const TABLE: usize = 98301;

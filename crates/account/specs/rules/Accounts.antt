@@ -4,17 +4,19 @@ use mathlib.Core.List.{List, [], _∷_}
 use Prim.Native.Nat.{ℕ}
 use lib.Dec.{eqb, ltb}
 use lib.ListN.{length}
-use Rattle.memory.specs.Records.{encoded}
-use Rattle.memory.specs.Words.{over}
-use Rattle.rounding.specs.Rounding.{positiveZero}
+use Rattle.memory.specs.rules.Records.{encoded}
+use Rattle.memory.specs.rules.Words.{over}
+use Rattle.rounding.specs.rules.Rounding.{positiveZero}
 use Rattle.params.specs.declared.LayoutParams.{LayoutParams}
-use Rattle.levelling.specs.Planes.{Levelling}
-use Rattle.grouping.specs.Layouts.{Layout, layoutRefusal}
-use Rattle.grouping.specs.Readings as readings
-use Rattle.grouping.specs.Readings.{twentyLineMeasure, summaryNumbers, dotList}
-use Rattle.grouping.specs.Words.{lineRecord, blockRecord, columnRecord, glyphRecord}
-use Rattle.segmenting.specs.Results.{boxWords}
-use Rattle.segmenting.specs.Figures.{figuresOf, figureWords}
+use Rattle.levelling.specs.rules.Planes.{Levelling}
+use Rattle.segmenting.specs.rules.Layouts.{Layout, layoutRefusal}
+use Rattle.segmenting.specs.rules.LayoutReadings as readings
+use Rattle.segmenting.specs.rules.LayoutReadings.{twentyLineMeasure}
+use Rattle.grouping.specs.rules.Readings.{summaryNumbers, dotList}
+use Rattle.smoothing.specs.rules.LineRecords.{lineRecord, glyphRecord}
+use Rattle.grouping.specs.rules.BlockRecords.{blockRecord, columnRecord}
+use Rattle.segmenting.specs.rules.Results.{boxWords}
+use Rattle.segmenting.specs.rules.Figures.{figuresOf, figureWords}
 use Rattle.judging.specs.rules.Header.{Held, frameHeld, emptyState, levelledState, segmentedState}
 use Rattle.judging.specs.rules.Leaves.{Leaf, levellingOf, leafHeld, layoutOf}
 use Rattle.judging.specs.rules.Refusals.{levelRefusal, segmentRefusal, resultRefusal, levelReadingRefusal, clearRefusal}

@@ -4,7 +4,7 @@ use Prim.Native.Nat.{ℕ, _≤_}
 use lib.Dec.{T}
 use lib.Ieee.{fits, binary64}
 use lib.ListN.{length, take}
-use Rattle.memory.specs.Words.{over}
+use Rattle.memory.specs.rules.Words.{over}
 use Rattle.params.specs.declared.LayoutParams.{LayoutParams}
 use Rattle.judging.specs.rules.Leaves.{Leaf}
 use Rattle.store.specs.rules.Readings.{LevelReading, ResultReading}

@@ -3,11 +3,11 @@ use mathlib.Core.Path.{_≡_}
 use mathlib.Core.List.{List, [], _∷_}
 use Prim.Native.Nat.{ℕ, _+_, _*_, _≤_, _<_}
 use lib.ListN.{getD, take}
-use Rattle.memory.specs.Limits.{storeWords, scratchWords}
-use Rattle.memory.specs.Lists.{occurs}
-use Rattle.memory.specs.Words.{wordAt}
+use Rattle.memory.specs.rules.Limits.{storeWords, scratchWords}
+use Rattle.memory.specs.rules.Lists.{occurs}
+use Rattle.memory.specs.rules.Words.{wordAt}
 use Rattle.params.specs.declared.LayoutParams.{LayoutParams}
-use Rattle.levelling.specs.Pairs.{InkPairs}
+use Rattle.levelling.specs.rules.Pairs.{InkPairs}
 use Rattle.judging.specs.rules.Header.{emptyState, figuresAt}
 use Rattle.judging.specs.rules.Leaves.{Leaf, levellingOf, layoutOf}
 use Rattle.judging.specs.rules.Views.{inkDotsAt, viewOf, viewOfLayout}

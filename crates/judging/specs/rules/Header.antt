@@ -3,10 +3,10 @@ use mathlib.Core.List.{List}
 use Prim.Native.Nat.{ℕ, _+_, _*_, _/_, _%_, _^_}
 use lib.Ieee.{Float, binary64, toBits}
 use lib.ListN.{take, drop}
-use Rattle.memory.specs.Floats.{floatAt}
-use Rattle.memory.specs.Limits.{storeWords, scratchWords}
-use Rattle.memory.specs.Words.{wordAt}
-use Rattle.levelling.specs.Frames.{Frame, frame}
+use Rattle.memory.specs.rules.Floats.{floatAt}
+use Rattle.memory.specs.rules.Limits.{storeWords, scratchWords}
+use Rattle.memory.specs.rules.Words.{wordAt}
+use Rattle.levelling.specs.rules.Frames.{Frame, frame}
 
 -- 0 empty, 1 levelled, 2 segmented
 abbrev pub emptyState : ℕ

@@ -3,8 +3,8 @@ use mathlib.Core.List.{List}
 use Prim.Native.Nat.{ℕ}
 use lib.Ieee.{Float}
 use Rattle.params.specs.declared.LayoutParams.{LayoutParams}
-use Rattle.levelling.specs.Planes.{Levelling, levelling}
-use Rattle.grouping.specs.Layouts.{Layout, layout}
+use Rattle.levelling.specs.rules.Planes.{Levelling, levelling}
+use Rattle.segmenting.specs.rules.Layouts.{Layout, layout}
 use Rattle.judging.specs.rules.Header.{Held}
 
 -- what levelling is handed

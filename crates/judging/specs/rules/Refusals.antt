@@ -4,11 +4,11 @@ use mathlib.Core.Bool.{Bool, not, _||_}
 use Prim.Native.Nat.{ℕ, _*_}
 use lib.Dec.{eqb, ltb}
 use lib.ListN.{length}
-use Rattle.memory.specs.Limits.{storeWords}
-use Rattle.memory.specs.Refusals.{refuseIf}
-use Rattle.params.specs.Valid.{valid}
+use Rattle.memory.specs.rules.Limits.{storeWords}
+use Rattle.memory.specs.rules.Refusals.{refuseIf}
+use Rattle.params.specs.rules.Valid.{valid}
 use Rattle.params.specs.declared.LayoutParams.{LayoutParams}
-use Rattle.memory.specs.Masks.{isMask}
+use Rattle.memory.specs.rules.Masks.{isMask}
 use Rattle.judging.specs.rules.Header.{scratchHeld, emptyState, segmentedState, headerWords, Held, dotsHeld, storeHeld}
 use Rattle.judging.specs.rules.Spoiled.{sideOk, capacityOk, skewOk, slopeOk, stateSpoiled, limitsOk}
 use Rattle.judging.specs.rules.Leaves.{Leaf, levellingOf}

@@ -7,13 +7,14 @@ use lib.IntN.{pos}
 use lib.Ieee.{Float, fin, le, lt}
 use lib.Ieee.Scale.{finite}
 use lib.ListN.{take, getD}
-use Rattle.memory.specs.Limits.{maxPageSide, maxCapacity, maxLines, noLine}
-use Rattle.memory.specs.Words.{wordAt, sameWords}
-use Rattle.params.specs.Valid.{one, lengthOk}
-use Rattle.levelling.specs.Frames.{Frame}
-use Rattle.sorting.specs.Kinds.{speckKind}
-use Rattle.grouping.specs.Words.{lineWords, blockWords, glyphWords}
-use Rattle.memory.specs.Masks.{isMask}
+use Rattle.memory.specs.rules.Limits.{maxPageSide, maxCapacity, maxLines, noLine}
+use Rattle.memory.specs.rules.Words.{wordAt, sameWords}
+use Rattle.params.specs.rules.Valid.{one, lengthOk}
+use Rattle.levelling.specs.rules.Frames.{Frame}
+use Rattle.sorting.specs.rules.Kinds.{speckKind}
+use Rattle.smoothing.specs.rules.LineRecords.{lineWords, glyphWords}
+use Rattle.grouping.specs.rules.BlockRecords.{blockWords}
+use Rattle.memory.specs.rules.Masks.{isMask}
 use Rattle.judging.specs.rules.Header.{segmentedState, headerWords, part, Held, held, frameHeld, dotsHeld}
 use Rattle.judging.specs.rules.Views.{viewOf, glyphHeightAt, blockLinesAt, glyphLineAt, lineBlockAt, View, rectWords, unitCase, unitHeld, ruleCount, graphicCount, glyphCount, lineCount, blockCount, columnCount}
 

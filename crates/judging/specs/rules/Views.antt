@@ -3,14 +3,15 @@ use mathlib.Core.List.{List}
 use Prim.Native.Nat.{ℕ, _+_, _*_}
 use lib.Ieee.{Float}
 use lib.ListN.{take}
-use Rattle.memory.specs.Floats.{floatAt}
-use Rattle.memory.specs.Records.{encoded}
-use Rattle.memory.specs.Words.{wordAt}
-use Rattle.levelling.specs.Frames.{Frame}
-use Rattle.grouping.specs.Layouts.{Layout}
-use Rattle.grouping.specs.Words.{lineWords, blockWords, columnWords, glyphWords, lineRecord, blockRecord, columnRecord, glyphRecord}
-use Rattle.segmenting.specs.Results.{rulesAt, graphicsAt, glyphRecordsAt, linesAt, blocksAt, boxWords}
-use Rattle.segmenting.specs.Figures.{figuresOf, figuresLength, figureWords}
+use Rattle.memory.specs.rules.Floats.{floatAt}
+use Rattle.memory.specs.rules.Records.{encoded}
+use Rattle.memory.specs.rules.Words.{wordAt}
+use Rattle.levelling.specs.rules.Frames.{Frame}
+use Rattle.segmenting.specs.rules.Layouts.{Layout}
+use Rattle.smoothing.specs.rules.LineRecords.{lineWords, glyphWords, lineRecord, glyphRecord}
+use Rattle.grouping.specs.rules.BlockRecords.{blockWords, columnWords, blockRecord, columnRecord}
+use Rattle.segmenting.specs.rules.Results.{rulesAt, graphicsAt, glyphRecordsAt, linesAt, blocksAt, boxWords}
+use Rattle.segmenting.specs.rules.Figures.{figuresOf, figuresLength, figureWords}
 use Rattle.judging.specs.rules.Header.{held, frameHeld, figuresAt, listsAt, part}
 
 -- the words of a box

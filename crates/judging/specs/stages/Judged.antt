@@ -4,11 +4,12 @@ use mathlib.Core.List.{List}
 use Prim.Native.Nat.{ℕ, _+_, _*_}
 use lib.Dec.{eqb, ltb, leb}
 use lib.ListN.{length}
-use Rattle.memory.specs.Limits.{noLine, scratchWords}
-use Rattle.memory.specs.Refusals.{refuseIf}
+use Rattle.memory.specs.rules.Limits.{noLine, scratchWords}
+use Rattle.memory.specs.rules.Refusals.{refuseIf}
 use Rattle.params.specs.declared.LayoutParams.{LayoutParams}
-use Rattle.grouping.specs.Words.{lineWords, blockWords, glyphWords}
-use Rattle.segmenting.specs.Results.{rulesAt, graphicsAt, glyphRecordsAt, linesAt, blocksAt}
+use Rattle.smoothing.specs.rules.LineRecords.{lineWords, glyphWords}
+use Rattle.grouping.specs.rules.BlockRecords.{blockWords}
+use Rattle.segmenting.specs.rules.Results.{rulesAt, graphicsAt, glyphRecordsAt, linesAt, blocksAt}
 use Rattle.judging.specs.rules.Header.{held, part, dotsHeld, storeHeld}
 use Rattle.judging.specs.rules.Views.{rectWords, glyphLineAt, glyphHeightAt, lineBlockAt, blockLinesAt, ruleCount, graphicCount, glyphCount, lineCount, blockCount}
 use Rattle.judging.specs.rules.Spoiled.{frameSpoiled, inkSpoiled, unitOk, countsOk, boxesOk, fieldsOk, resultsSpoiled}

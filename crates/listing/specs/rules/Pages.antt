@@ -3,10 +3,12 @@ use Prim.Native.Nat.{ℕ}
 use mathlib.Core.List.{List, [], _∷_, _++_, map}
 use lib.Ieee.{binary64, toBits}
 use lib.ListN.{getD, length}
-use Rattle.labelling.specs.declared.rect.Rect.{Rect}
-use Rattle.sorting.specs.Units.{unitValue}
-use Rattle.grouping.specs.Blocks.{Block}
-use Rattle.grouping.specs.Layouts.{TextLine, GlyphBox, Page}
+use Rattle.memory.specs.declared.rect.Rect.{Rect}
+use Rattle.sorting.specs.rules.Units.{unitValue}
+use Rattle.grouping.specs.rules.Blocks.{Block}
+use Rattle.sorting.specs.rules.Sorted.{KindCounts}
+use Rattle.smoothing.specs.rules.Lines.{TextLine, GlyphBox}
+use Rattle.segmenting.specs.rules.Layouts.{Page}
 use Rattle.grouping.specs.declared.column.Column.{Column}
 use Rattle.listing.specs.rules.Digits.{hex, lineFeed}
 
@@ -67,7 +69,11 @@ glyphFigures g = 5 ∷ corners (g .bbox) ++ (g .area ∷ g .line ∷ [])
 unfoldable pub columnFigures : Column → List ℕ
 columnFigures c = 6 ∷ c .x0 ∷ c .x1 ∷ []
 
--- kinds in order, entries of a kind by their number; 3 rule and 4 graphic: box; 7: ink, cut, rule, graphic, glyph, speck
+-- 7: ink, cut, rule, graphic, glyph, speck
+unfoldable pub dotFigures : ℕ → KindCounts → List ℕ
+dotFigures ink c = 7 ∷ ink ∷ c .cut ∷ c .rule ∷ c .graphic ∷ c .glyph ∷ c .speck ∷ []
+
+-- kinds in order, entries of a kind by their number; 3 rule and 4 graphic: box
 unfoldable pub figures : Page → List (List ℕ)
 figures p =
     let l = p .layout in
@@ -78,7 +84,7 @@ figures p =
     ++ map (λ (r : Rect). 4 ∷ corners r) (l .graphics)
     ++ map glyphFigures (l .glyphs)
     ++ map columnFigures (l .columns)
-    ++ ((7 ∷ l .ink-pixels ∷ l .counts) ∷ [])
+    ++ (dotFigures (l .ink-pixels) (l .counts) ∷ [])
 
 -- In digits
 

@@ -5,7 +5,7 @@ use mathlib.Core.Bool.{cond}
 use mathlib.Core.List.{List, [], _∷_, _++_}
 use lib.Dec.{ltb}
 use lib.ListN.{getD, length}
-use Rattle.memory.specs.Words.{wordAt}
+use Rattle.memory.specs.rules.Words.{wordAt}
 use Rattle.judging.specs.rules.Views.{View, ruleCount, graphicCount, glyphCount, lineCount, blockCount, columnCount, inkDotsAt}
 use Rattle.listing.specs.rules.Digits.{hex, joined, lineFeed}
 use Rattle.listing.specs.rules.Pages.{edition, formats}

@@ -2,7 +2,7 @@
 use Prim.Native.Nat.{ℕ, _*_, _≤_}
 use mathlib.Core.List.{List}
 use lib.ListN.{length}
-use Rattle.segmenting.specs.Figures.{figuresLength}
+use Rattle.segmenting.specs.rules.Figures.{figuresLength}
 use Rattle.judging.specs.rules.Views.{ruleCount, graphicCount, glyphCount, lineCount, blockCount, columnCount}
 use Rattle.listing.specs.rules.Sheets.{fieldCount}
 use Rattle.listing.specs.stages.Parts.{sheetLength}

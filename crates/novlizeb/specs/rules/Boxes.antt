@@ -1,6 +1,6 @@
 -- A box of its four numbers.
 use Prim.Native.Nat.{ℕ}
-use Rattle.labelling.specs.declared.rect.Rect.{Rect}
+use Rattle.memory.specs.declared.rect.Rect.{Rect}
 
 abbrev pub boxOf : ℕ → ℕ → ℕ → ℕ → Rect
 boxOf a b c d = record { x0 = a; y0 = b; x1 = c; y1 = d }

@@ -2,7 +2,7 @@
 use mathlib.Core.Bool.{cond, _&&_}
 use Prim.Native.Nat.{ℕ}
 use lib.Ieee.{Float}
-use Rattle.levelling.specs.Frames.{frame}
+use Rattle.levelling.specs.rules.Frames.{frame}
 use Rattle.judging.specs.rules.Spoiled.{sideOk, slopeOk}
 use Rattle.novlizeb.specs.rules.Answers.{wordOf}
 

@@ -2,7 +2,7 @@ use mathlib.Core.Path.{_≡_, refl, ap}
 use mathlib.Core.Bool.{Bool, true, false, not, _&&_, _||_}
 use lib.Ieee.{Float, nan, inf, fin, ofBits, neg, div, lt}
 use lib.Ieee.Scale.{finite}
-use Rattle.params.specs.Valid.{zero, tenThousand}
+use Rattle.params.specs.rules.Valid.{zero, tenThousand}
 use Rattle.params.proofs.length_ok.Statement.{statement}
 use Rattle.params.proofs.length_ok.Tie as tie
 

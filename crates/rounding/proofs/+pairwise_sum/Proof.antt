@@ -10,7 +10,7 @@ use native.Mathlib.Omega.{arith}
 use lib.ListN.{length, take, drop, length-take, length-drop}
 use lib.Seq.{take-length}
 use lib.Ieee.{Float, add, binary64}
-use Rattle.rounding.specs.Sums.{half, pairwiseSum}
+use Rattle.rounding.specs.rules.Sums.{half, pairwiseSum}
 use Rattle.rounding.proofs.SumLaws.{pairwiseSum-short, pairwiseSum-split}
 use Rattle.rounding.proofs.block_sum.Reads as block-sum
 use Rattle.rounding.proofs.pairwise_sum.Reads as pairwise-sum

@@ -2,7 +2,7 @@ use borrow.Author.Needs.{needs, scaled-fits}
 use mathlib.Core.Path.{_≡_, refl, sym, _∙_}
 use Prim.Native.Nat.{_≤_, _-_, zero-le}
 use lib.ListN.{length, drop}
-use Rattle.rounding.specs.Sums.{sumFrom, blockSum}
+use Rattle.rounding.specs.rules.Sums.{sumFrom, blockSum}
 use Rattle.rounding.proofs.SumLaws.{sumFrom-next, sumFrom-end}
 use Rattle.rounding.proofs.block_sum.Statement.{statement}
 use Rattle.rounding.proofs.block_sum.Tie as tie

@@ -2,7 +2,7 @@ use borrow.Author.Needs.{needs}
 use mathlib.Core.Path.{_≡_, sym, ap, _∙_}
 use mathlib.Core.Bool.{Bool, cond}
 use lib.Ieee.{Float, binary64, div}
-use Rattle.rounding.specs.Rounding.{roundOutput, outputScale, unlessZero, positiveZero}
+use Rattle.rounding.specs.rules.Rounding.{roundOutput, outputScale, unlessZero, positiveZero}
 use Rattle.rounding.proofs.round_output.Statement.{statement}
 use Rattle.rounding.proofs.round_output.Tie as tie
 

@@ -7,11 +7,11 @@ use lib.Dec.{eqb, leb}
 use lib.IntN.{ℤ}
 use lib.Ieee.{Float, nan}
 use lib.ListN.{length, getD, take, drop}
-use Rattle.memory.specs.Records.{encoded}
-use Rattle.memory.specs.Words.{wordAt, over}
-use Rattle.params.specs.Sheets.{sheetOf}
+use Rattle.memory.specs.rules.Records.{encoded}
+use Rattle.memory.specs.rules.Words.{wordAt, over}
+use Rattle.params.specs.rules.Sheets.{sheetOf}
 use Rattle.params.specs.declared.LayoutParams.{LayoutParams}
-use Rattle.labelling.specs.declared.rect.Rect.{Rect}
+use Rattle.memory.specs.declared.rect.Rect.{Rect}
 use Rattle.judging.specs.rules.Header.{emptyState}
 use Rattle.judging.specs.rules.Leaves.{Leaf, leafOf}
 use Rattle.store.specs.rules.Readings.{Output, filled, LevelReading, Which, ResultReading}

@@ -4,7 +4,7 @@ use mathlib.Core.Bool.{Bool}
 use mathlib.Core.List.{List}
 use Prim.Native.Nat.{ℕ}
 use lib.Ieee.{Float}
-use Rattle.memory.specs.Words.{over}
+use Rattle.memory.specs.rules.Words.{over}
 use Rattle.store.specs.rules.Outcomes.{Left, left, Told}
 use Rattle.account.specs.rules.Calls.{says}
 use Rattle.scripts.specs.rules.Scripts.{Outputs, Memory, callOf, putBack, stepped}

@@ -5,7 +5,7 @@ use mathlib.Core.Bool.{Bool, cond, _&&_, _||_}
 use mathlib.Core.List.{List, [], _∷_, _++_}
 use lib.Dec.{eqb, leb}
 use lib.ListN.{getD, length}
-use Rattle.memory.specs.Lists.{table}
+use Rattle.memory.specs.rules.Lists.{table}
 use Rattle.judging.specs.rules.Spoiled.{every}
 use Rattle.listing.specs.rules.Digits.{lineFeed, hex, joined}
 use Rattle.showing.specs.declared.input.Parsed.{Parsed}

@@ -5,10 +5,10 @@ use mathlib.Core.List.{List}
 use lib.Dec.{eqb, ltb}
 use lib.Ieee.{binary64, ofBits}
 use lib.ListN.{length}
-use Rattle.memory.specs.Refusals.{refuseIf}
-use Rattle.memory.specs.Words.{over}
-use Rattle.params.specs.ShowSheets.{showSheet}
-use Rattle.grouping.specs.Layouts.{layoutRefusal}
+use Rattle.memory.specs.rules.Refusals.{refuseIf}
+use Rattle.memory.specs.rules.Words.{over}
+use Rattle.params.specs.rules.ShowSheets.{showSheet}
+use Rattle.segmenting.specs.rules.Layouts.{layoutRefusal}
 use Rattle.judging.specs.rules.Leaves.{Leaf, leafOf, levellingOf, layoutOf}
 use Rattle.judging.specs.rules.Refusals.{leafRefusal}
 use Rattle.listing.specs.rules.Digits.{refusalText}

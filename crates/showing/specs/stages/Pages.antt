@@ -2,7 +2,7 @@
 use Prim.Native.Nat.{ℕ}
 use mathlib.Core.List.{List}
 use lib.Ieee.{binary64, ofBits}
-use Rattle.params.specs.ShowSheets.{showSheet}
+use Rattle.params.specs.rules.ShowSheets.{showSheet}
 use Rattle.judging.specs.rules.Leaves.{Leaf, leafOf}
 use Rattle.showing.specs.rules.Shows.{showCapacity}
 

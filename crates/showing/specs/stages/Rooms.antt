@@ -3,7 +3,7 @@ use Prim.Native.Nat.{ℕ, _*_, _≤_}
 use mathlib.Core.Path.{_≡_}
 use mathlib.Core.List.{List}
 use lib.ListN.{length}
-use Rattle.memory.specs.Words.{wordAt}
+use Rattle.memory.specs.rules.Words.{wordAt}
 use Rattle.showing.specs.rules.Inputs.{maxShownSide}
 
 -- the longest input that is well made: 16 rows of 4 digits

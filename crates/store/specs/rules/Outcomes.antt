@@ -4,9 +4,9 @@ use mathlib.Core.List.{List, []}
 use Prim.Native.Nat.{ℕ}
 use lib.Dec.{eqb}
 use lib.ListN.{length}
-use Rattle.memory.specs.Words.{wordAt, over}
+use Rattle.memory.specs.rules.Words.{wordAt, over}
 use Rattle.params.specs.declared.LayoutParams.{LayoutParams}
-use Rattle.grouping.specs.Layouts.{Layout, layout, layoutRefusal}
+use Rattle.segmenting.specs.rules.Layouts.{Layout, layout, layoutRefusal}
 use Rattle.judging.specs.rules.Header.{Held, held, frameHeld, dotsHeld}
 use Rattle.judging.specs.rules.Leaves.{Leaf, levellingOf}
 use Rattle.store.specs.rules.Written.{storeLevelled, storeSegmented, storeCleared}

@@ -6,21 +6,22 @@ use lib.Dec.{eqb, ltb, leb}
 use lib.IntN.{ℤ, pos}
 use lib.Ieee.{Float}
 use lib.ListN.{length, drop}
-use Rattle.memory.specs.Lists.{upto, keep}
-use Rattle.memory.specs.Words.{wordAt, over}
-use Rattle.labelling.specs.declared.rect.Rect.{Rect}
-use Rattle.levelling.specs.Frames.{Frame}
-use Rattle.levelling.specs.Mapping.{toPage, rectToPage}
-use Rattle.levelling.specs.Planes.{levelGray}
+use Rattle.memory.specs.rules.Lists.{upto, keep}
+use Rattle.memory.specs.rules.Words.{wordAt, over}
+use Rattle.memory.specs.declared.rect.Rect.{Rect}
+use Rattle.levelling.specs.rules.Frames.{Frame}
+use Rattle.levelling.specs.rules.Mapping.{toPage, rectToPage}
+use Rattle.levelling.specs.rules.Planes.{levelGray}
 use Rattle.levelling.specs.declared.Point.{Point}
-use Rattle.sorting.specs.Kinds.{glyphKind, speckKind}
-use Rattle.sorting.specs.Units.{median}
-use Rattle.grouping.specs.Pitches.{centreAt, blockAt, pitchesBelow}
-use Rattle.grouping.specs.Readings.{twentyOf, summarized, summaryNumbers, listed, dotList}
-use Rattle.grouping.specs.Words.{lineWords, fields}
+use Rattle.sorting.specs.rules.Kinds.{glyphKind, speckKind}
+use Rattle.sorting.specs.rules.Units.{median}
+use Rattle.grouping.specs.rules.HeldLines.{centreAt, blockAt, pitchesBelow}
+use Rattle.memory.specs.rules.Records.{fields}
+use Rattle.grouping.specs.rules.Readings.{twentyOf, summarized, summaryNumbers, listed, dotList}
+use Rattle.smoothing.specs.rules.LineRecords.{lineWords}
 use Rattle.grouping.specs.declared.summary.Summary.{Summary}
 use Rattle.grouping.specs.declared.summary.Totals.{Totals}
-use Rattle.segmenting.specs.Figures.{figuresLength}
+use Rattle.segmenting.specs.rules.Figures.{figuresLength}
 use Rattle.judging.specs.rules.Header.{Held, frameHeld, dotsHeld, lowWord, highWord}
 use Rattle.judging.specs.rules.Views.{glyphHeightAt, View, unitCase, unitHeld, inkDotsAt, dotsOfKind, ruleCount, graphicCount, glyphCount, lineCount, blockCount, columnCount}
 use Rattle.listing.specs.rules.Sheets.{sheetHeld}

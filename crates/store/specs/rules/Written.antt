@@ -3,11 +3,10 @@ use mathlib.Core.List.{List, [], _∷_, _++_}
 use Prim.Native.Nat.{ℕ}
 use lib.Ieee.{Float}
 use lib.ListN.{take, drop}
-use Rattle.memory.specs.Words.{over}
-use Rattle.grouping.specs.Layouts.{Layout}
-use Rattle.grouping.specs.Words.{putAt}
-use Rattle.segmenting.specs.Figures.{figuresOf, figureWords}
-use Rattle.segmenting.specs.Results.{resultsLeft}
+use Rattle.memory.specs.rules.Words.{over, putAt}
+use Rattle.segmenting.specs.rules.Layouts.{Layout}
+use Rattle.segmenting.specs.rules.Figures.{figuresOf, figureWords}
+use Rattle.segmenting.specs.rules.Results.{resultsLeft}
 use Rattle.judging.specs.rules.Header.{emptyState, levelledState, segmentedState, headerWords, figuresAt, listsAt, lowWord, highWord}
 use Rattle.judging.specs.rules.Leaves.{Leaf, levellingOf}
 

@@ -4,17 +4,20 @@ use mathlib.Core.List.{List, [], _∷_}
 use Prim.Native.Nat.{ℕ, _+_, _*_, _≤_, _<_}
 use lib.Dec.{eqb}
 use lib.ListN.{length, getD, take, drop}
-use Rattle.memory.specs.Floats.{floatAt}
-use Rattle.memory.specs.Limits.{maxPageSide, maxFrameWidth, maxFrameHeight, maxCapacity}
-use Rattle.levelling.specs.Frames.{Frame}
-use Rattle.grouping.specs.Dots.{frameOf, FrameWords, OneWay}
-use Rattle.sorting.specs.Units.{median}
-use Rattle.grouping.specs.Readings.{twentyOf, summarized}
+use Rattle.memory.specs.rules.Floats.{floatAt}
+use Rattle.memory.specs.rules.Limits.{maxPageSide, maxFrameWidth, maxFrameHeight, maxCapacity}
+use Rattle.levelling.specs.rules.Frames.{Frame, frameOf}
+use Rattle.grouping.specs.stages.Dots.{FrameWords, OneWay}
+use Rattle.sorting.specs.rules.Units.{median}
+use Rattle.grouping.specs.rules.Readings.{twentyOf, summarized}
 use Rattle.grouping.specs.declared.summary.Summary.{Summary}
-use Rattle.grouping.specs.Pitches.{centreAt, blockAt, pitchesBelow, BlockedLines}
-use Rattle.grouping.specs.Words.{fields, lineWords, blockWords, columnWords, glyphWords}
-use Rattle.segmenting.specs.Figures.{figuresLength}
-use Rattle.segmenting.specs.Results.{rulesAt, graphicsAt, glyphRecordsAt, linesAt, blocksAt}
+use Rattle.grouping.specs.rules.HeldLines.{centreAt, blockAt, pitchesBelow}
+use Rattle.memory.specs.rules.Records.{fields}
+use Rattle.grouping.specs.stages.Pitches.{BlockedLines}
+use Rattle.smoothing.specs.rules.LineRecords.{lineWords, glyphWords}
+use Rattle.grouping.specs.rules.BlockRecords.{blockWords, columnWords}
+use Rattle.segmenting.specs.rules.Figures.{figuresLength}
+use Rattle.segmenting.specs.rules.Results.{rulesAt, graphicsAt, glyphRecordsAt, linesAt, blocksAt}
 use Rattle.judging.specs.rules.Header.{lowWord, highWord, part, figuresAt, listsAt}
 use Rattle.judging.specs.rules.Views.{glyphHeightAt, rectWords}
 use Rattle.listing.specs.rules.Pages.{edition}
@@ -80,7 +83,7 @@ sheetRead s =
 -- the frame that the words of a store say, with their shears
 abbrev pub wordsFrame : List ℕ → Frame
 wordsFrame s =
-    frameOf (getD s 1 0) (getD s 2 0) (getD s 3 0) (getD s 4 0) (take (getD s 1 0) (drop 64 s)) (take (getD s 4 0) (drop (64 + getD s 1 0) s))
+    frameOf (getD s 1 0) (getD s 2 0) (take (getD s 1 0) (drop 64 s)) (take (getD s 4 0) (drop (64 + getD s 1 0) s)) (getD s 3 0) (getD s 4 0)
 
 -- the frame's figures by its words
 abbrev pub framePut : List ℕ → List ℕ

@@ -1,9 +1,8 @@
 -- A header that tells of a segmentation, as it is written.
 use mathlib.Core.List.{List, [], _∷_}
 use Prim.Native.Nat.{ℕ}
-use Rattle.memory.specs.Words.{over}
-use Rattle.grouping.specs.Words.{putAt}
-use Rattle.segmenting.specs.Figures.{figureWords}
+use Rattle.memory.specs.rules.Words.{over, putAt}
+use Rattle.segmenting.specs.rules.Figures.{figureWords}
 use Rattle.segmenting.specs.declared.page.SegmentAnswer.{SegmentAnswer}
 use Rattle.segmenting.specs.declared.page.SegmentAnswer.the-variants.{Segmented, Refused}
 use Rattle.segmenting.specs.declared.results.Segmentation.{Segmentation}

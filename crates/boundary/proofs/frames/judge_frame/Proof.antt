@@ -2,7 +2,7 @@
 use borrow.Author.Needs.{needs}
 use native.Mathlib.Omega.{arith}
 use Rattle.labelling.proofs.EntryLaws.{area-fits}
-use Rattle.boundary.specs.Frames.{frameRefusal}
+use Rattle.boundary.specs.rules.Frames.{frameRefusal}
 use Rattle.boundary.proofs.frames.judge_frame.Statement.{statement}
 use Rattle.boundary.proofs.frames.judge_frame.Tie as tie
 

@@ -1,6 +1,6 @@
 -- `boundary::frames::judge_room` meets its contract, test by test. Assumes nothing.
 use borrow.Author.Needs.{needs}
-use Rattle.boundary.specs.Frames.{roomRefusal}
+use Rattle.boundary.specs.rules.Frames.{roomRefusal}
 use Rattle.boundary.proofs.frames.judge_room.Statement.{statement}
 use Rattle.boundary.proofs.frames.judge_room.Tie as tie
 

@@ -1,6 +1,6 @@
 -- `boundary::levels::holds_row` meets its contract, test by test. Assumes nothing.
 use mathlib.Core.Path.{refl}
-use Rattle.boundary.specs.Levels.{holdsRow}
+use Rattle.boundary.specs.rules.Levels.{holdsRow}
 use borrow.Author.Needs.{needs}
 use Rattle.boundary.proofs.levels.holds_row.Statement.{statement}
 use Rattle.boundary.proofs.levels.holds_row.Tie as tie

@@ -1,7 +1,7 @@
 -- `boundary::levels::in_limits` meets its contract, test by test. Assumes nothing.
 use mathlib.Core.Path.{refl}
 use lib.Ieee.{ofBits, neg}
-use Rattle.boundary.specs.Levels.{inLimits}
+use Rattle.boundary.specs.rules.Levels.{inLimits}
 use Rattle.boundary.proofs.levels.in_limits.Statement.{statement}
 use Rattle.boundary.proofs.levels.in_limits.Tie as tie
 

@@ -3,7 +3,7 @@ use mathlib.Core.Path.{refl}
 use Prim.Native.Nat.{_≤_, _*_}
 use native.Mathlib.Nat.{mul-le-mul}
 use native.Mathlib.Omega.{arith}
-use Rattle.boundary.specs.Levels.{lentFits}
+use Rattle.boundary.specs.rules.Levels.{lentFits}
 use borrow.Author.Needs.{needs}
 use Rattle.boundary.proofs.levels.lent_fits.Statement.{statement}
 use Rattle.boundary.proofs.levels.lent_fits.Tie as tie

@@ -2,9 +2,9 @@
 use mathlib.Core.Path.{ap, _∙_}
 use mathlib.Core.List.{List}
 use native.Mathlib.Omega.{arith}
-use Rattle.memory.specs.Words.{over}
-use Rattle.levelling.specs.Frames.{Frame}
-use Rattle.levelling.specs.Planes.{levelled}
+use Rattle.memory.specs.rules.Words.{over}
+use Rattle.levelling.specs.rules.Frames.{Frame}
+use Rattle.levelling.specs.rules.Planes.{levelled}
 use Rattle.levelling.proofs.ShearParts.{parts-are, parts-fit}
 use borrow.Author.Needs.{needs}
 use Rattle.boundary.proofs.levels.level.Statement.{statement}

@@ -1,7 +1,7 @@
 -- `boundary::levels::novlizeb_rect_to_page_start` promises a corner of what `page_rect` does. Assumes nothing.
 use mathlib.Core.Path.{ap, _∙_}
-use Rattle.labelling.specs.declared.rect.Rect.{Rect}
-use Rattle.boundary.specs.Levels.{cornerWord}
+use Rattle.memory.specs.declared.rect.Rect.{Rect}
+use Rattle.boundary.specs.rules.Levels.{cornerWord}
 use borrow.Author.Needs.{needs}
 use Rattle.boundary.proofs.levels.novlizeb_rect_to_page_start.Statement.{statement}
 use Rattle.boundary.proofs.levels.novlizeb_rect_to_page_start.Tie as tie

@@ -1,7 +1,7 @@
 -- `boundary::masks::extents_word` meets its contract, case by case. Assumes nothing.
 use mathlib.Core.Path.{sym, ap}
 use borrow.Author.Needs.{needs}
-use Rattle.boundary.specs.ExtentAnswers.{extentsWord}
+use Rattle.boundary.specs.rules.ExtentAnswers.{extentsWord}
 use Rattle.boundary.proofs.masks.extents_word.Statement.{statement}
 use Rattle.boundary.proofs.masks.extents_word.Tie as tie
 

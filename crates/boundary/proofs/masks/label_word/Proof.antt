@@ -1,7 +1,7 @@
 -- `boundary::masks::label_word` meets its contract, case by case. Assumes nothing.
 use mathlib.Core.Path.{sym, ap}
 use borrow.Author.Needs.{needs}
-use Rattle.boundary.specs.LabelAnswers.{labelWord}
+use Rattle.boundary.specs.rules.LabelAnswers.{labelWord}
 use Rattle.boundary.proofs.masks.label_word.Statement.{statement}
 use Rattle.boundary.proofs.masks.label_word.Tie as tie
 

@@ -3,10 +3,10 @@ use borrow.Author.Needs.{needs}
 use mathlib.Core.Path.{ap, _∙_}
 use mathlib.Core.Bool.{not}
 use lib.Dec.{ltb}
-use Rattle.memory.specs.Refusals.{refuseIf}
-use Rattle.segmenting.specs.Results.{resultWords}
-use Rattle.boundary.specs.Frames.{roomRefusal}
-use Rattle.boundary.specs.Pages.{lentRefusal}
+use Rattle.memory.specs.rules.Refusals.{refuseIf}
+use Rattle.segmenting.specs.rules.Results.{resultWords}
+use Rattle.boundary.specs.rules.Frames.{roomRefusal}
+use Rattle.boundary.specs.rules.Pages.{lentRefusal}
 use Rattle.boundary.proofs.pages.judge_lent.Statement.{statement}
 use Rattle.boundary.proofs.pages.judge_lent.Tie as tie
 

@@ -1,6 +1,6 @@
 -- `boundary::pages::judge_plane` meets its contract, test by test. Assumes nothing.
 use borrow.Author.Needs.{needs}
-use Rattle.boundary.specs.Pages.{planeRefusal}
+use Rattle.boundary.specs.rules.Pages.{planeRefusal}
 use Rattle.boundary.proofs.pages.judge_plane.Statement.{statement}
 use Rattle.boundary.proofs.pages.judge_plane.Tie as tie
 

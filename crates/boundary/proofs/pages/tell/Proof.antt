@@ -1,9 +1,9 @@
 -- `boundary::pages::tell` meets its contract, case by case. Assumes nothing.
 use borrow.Author.Needs.{needs}
 use mathlib.Core.Path.{sym, ap, _∙_}
-use Rattle.segmenting.specs.Answers.{numberOf}
+use Rattle.segmenting.specs.rules.Answers.{segmentNumber}
 use Rattle.segmenting.specs.declared.page.SegmentAnswer.{SegmentAnswer}
-use Rattle.boundary.specs.Pages.{figuresLeft}
+use Rattle.boundary.specs.rules.Pages.{figuresLeft}
 use Rattle.boundary.proofs.pages.tell.Statement.{statement}
 use Rattle.boundary.proofs.pages.tell.Tie as tie
 
@@ -22,7 +22,7 @@ same-length c = search needs
 returns : tie.Need-returns
 returns c =
     let e = c .before .before .before .before .before .answer .given .1 in
-    (ap numberOf (sym e), c .before .before .write-figures .ensures ∙ ap (λ (z : SegmentAnswer). figuresLeft z (c .before .before .before .before .before .before .before .before .args .figures .now)) (sym e))
+    (ap segmentNumber (sym e), c .before .before .write-figures .ensures ∙ ap (λ (z : SegmentAnswer). figuresLeft z (c .before .before .before .before .before .before .before .before .args .figures .now)) (sym e))
 
 returns-2 : tie.Need-returns-2
 returns-2 c = search needs

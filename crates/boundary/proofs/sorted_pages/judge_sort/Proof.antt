@@ -2,9 +2,9 @@
 use borrow.Author.Needs.{needs}
 use mathlib.Core.Path.{ap, _∙_}
 use mathlib.Core.Bool.{not}
-use Rattle.memory.specs.Refusals.{refuseIf}
-use Rattle.boundary.specs.Frames.{roomRefusal}
-use Rattle.boundary.specs.SortedPages.{sortLent}
+use Rattle.memory.specs.rules.Refusals.{refuseIf}
+use Rattle.boundary.specs.rules.Frames.{roomRefusal}
+use Rattle.boundary.specs.rules.SortedPages.{sortLent}
 use Rattle.boundary.proofs.sorted_pages.judge_sort.Statement.{statement}
 use Rattle.boundary.proofs.sorted_pages.judge_sort.Tie as tie
 

@@ -4,7 +4,7 @@ use native.Mathlib.Omega.{arith}
 use mathlib.Core.Path.{sym, subst}
 use Prim.Native.Nat.{_+_, _*_}
 use lib.Seq.{length-take-le, length-front}
-use Rattle.sorting.specs.Sortings.{sortLeft}
+use Rattle.sorting.specs.stages.Sortings.{sortLeft}
 use Rattle.sorting.specs.declared.sort.SortAnswer.{SortAnswer}
 use Rattle.boundary.proofs.SortedPageLaws.{few-sorted, sort-plane, sort-frame, sort-refused, sort-lent, sort-room, sort-many, sort-done}
 use Rattle.boundary.proofs.sorted_pages.sort_page.Statement.{statement}

@@ -1,7 +1,7 @@
--- `boundary::sorting_parts::novlizeb_run_min` promises what `sorting::run_min` does. Assumes nothing.
+-- `boundary::sorting_parts::novlizeb_run_min` promises what `rulings::run_min` does. Assumes nothing.
 use mathlib.Core.Path.{ap, _∙_}
 use Rattle.params.specs.declared.LayoutParams.{LayoutParams}
-use Rattle.rulings.specs.Rulings.{runMin}
+use Rattle.rulings.specs.rules.Rulings.{runMin}
 use borrow.Author.Needs.{needs}
 use Rattle.boundary.proofs.sorting_parts.novlizeb_run_min.Statement.{statement}
 use Rattle.boundary.proofs.sorting_parts.novlizeb_run_min.Tie as tie

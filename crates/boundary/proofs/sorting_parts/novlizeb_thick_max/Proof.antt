@@ -1,7 +1,7 @@
--- `boundary::sorting_parts::novlizeb_thick_max` promises what `sorting::thick_max` does. Assumes nothing.
+-- `boundary::sorting_parts::novlizeb_thick_max` promises what `rulings::thick_max` does. Assumes nothing.
 use mathlib.Core.Path.{ap, _∙_}
 use Rattle.params.specs.declared.LayoutParams.{LayoutParams}
-use Rattle.rulings.specs.Rulings.{thickMax}
+use Rattle.rulings.specs.rules.Rulings.{thickMax}
 use borrow.Author.Needs.{needs}
 use Rattle.boundary.proofs.sorting_parts.novlizeb_thick_max.Statement.{statement}
 use Rattle.boundary.proofs.sorting_parts.novlizeb_thick_max.Tie as tie

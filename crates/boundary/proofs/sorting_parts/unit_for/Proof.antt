@@ -1,7 +1,7 @@
 -- `boundary::sorting_parts::unit_for` meets its contract, case by case. Assumes nothing.
 use mathlib.Core.Path.{ap, sym}
 use mathlib.Core.Bool.{Bool}
-use Rattle.boundary.specs.Sorting.{unitFor}
+use Rattle.boundary.specs.rules.Sorting.{unitFor}
 use Rattle.boundary.proofs.sorting_parts.unit_for.Statement.{statement}
 use Rattle.boundary.proofs.sorting_parts.unit_for.Tie as tie
 

@@ -1,7 +1,7 @@
 use native.Mathlib.Omega.{arith}
 use mathlib.Core.Path.{_≡_, refl}
 use Prim.Native.Nat.{_≤_, _-_, _%_}
-use Rattle.extents.specs.Bands.{BandsCounted}
+use Rattle.extents.specs.stages.Bands.{BandsCounted}
 use Rattle.extents.proofs.BandLaws.{bands-none, bands-counts, bands-more, bands-last}
 use Rattle.extents.proofs.bands.count_bands.Statement.{statement}
 use Rattle.extents.proofs.bands.count_bands.Tie as tie

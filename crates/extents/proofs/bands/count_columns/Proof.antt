@@ -2,8 +2,8 @@ use native.Mathlib.Omega.{arith}
 use mathlib.Core.Path.{_≡_, refl, ap, _∙_}
 use Prim.Native.Nat.{ℕ, _≤_, _<_, _+_, _-_, _*_}
 use lib.ListN.{length, getD}
-use Rattle.extents.specs.Extents.{inkAt, behind}
-use Rattle.extents.specs.Bands.{countFrom}
+use Rattle.extents.specs.rules.Extents.{inkAt, behind}
+use Rattle.extents.specs.stages.Bands.{countFrom}
 use Rattle.extents.proofs.OverLaws.{length-part}
 use Rattle.extents.proofs.RunLaws.{behind-le}
 use Rattle.extents.proofs.ExtentLaws.{row-upto}

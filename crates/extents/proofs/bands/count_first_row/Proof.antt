@@ -1,8 +1,8 @@
 use native.Mathlib.Omega.{arith}
 use mathlib.Core.Path.{refl}
 use Prim.Native.Nat.{_≤_, _-_}
-use Rattle.extents.specs.Scans.{cappedCount}
-use Rattle.extents.specs.Bands.{Put}
+use Rattle.extents.specs.stages.Scans.{cappedCount}
+use Rattle.extents.specs.stages.Bands.{Put}
 use Rattle.extents.proofs.PutLaws.{put-none, put-up, put-ends}
 use Rattle.extents.proofs.BandLaws.{count-first}
 use Rattle.extents.proofs.bands.count_first_row.Statement.{statement}

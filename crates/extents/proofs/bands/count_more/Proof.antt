@@ -5,8 +5,8 @@ use Prim.Native.Nat.{_≤_, _+_, _-_}
 use lib.ListN.{length, getD}
 use lib.Dec.{ltb}
 use borrow.Author.Needs.{needs}
-use Rattle.memory.specs.Masks.{isInk}
-use Rattle.extents.specs.Bands.{Put}
+use Rattle.memory.specs.rules.Masks.{isInk}
+use Rattle.extents.specs.stages.Bands.{Put}
 use Rattle.extents.proofs.ExtentLaws.{bit-times, bit-times-le}
 use Rattle.extents.proofs.PutLaws.{put-none, put-up, put-ends}
 use Rattle.extents.proofs.bands.count_more.Statement.{statement}

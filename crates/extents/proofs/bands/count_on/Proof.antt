@@ -4,7 +4,7 @@ use mathlib.Core.Bool.{cond}
 use Prim.Native.Nat.{_+_}
 use mir.Val.{boolByte}
 use lib.Dec.{ltb}
-use Rattle.memory.specs.Limits.{maxExtent}
+use Rattle.memory.specs.rules.Limits.{maxExtent}
 use Rattle.extents.proofs.ExtentLaws.{bit-times, bit-times-le, bit-le}
 use Rattle.extents.proofs.BandLaws.{capped-more}
 use borrow.Author.Needs.{needs}

@@ -2,8 +2,8 @@ use native.Mathlib.Omega.{arith}
 use mathlib.Core.Path.{_≡_, sym, ap, _∙_}
 use Prim.Native.Nat.{_≤_, _+_, _-_, _*_}
 use native.Mathlib.Nat.{le-refl, zero-mul}
-use Rattle.extents.specs.Scans.{cappedCount}
-use Rattle.extents.specs.Bands.{Put}
+use Rattle.extents.specs.stages.Scans.{cappedCount}
+use Rattle.extents.specs.stages.Bands.{Put}
 use Rattle.extents.proofs.ExtentLaws.{row-from}
 use Rattle.extents.proofs.PutLaws.{put-none, put-ends, put-more}
 use Rattle.extents.proofs.BandLaws.{counts-next}

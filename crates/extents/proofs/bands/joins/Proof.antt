@@ -3,7 +3,7 @@ use mathlib.Core.Path.{_≡_}
 use mathlib.Core.Bool.{false, _&&_}
 use Prim.Native.Nat.{ℕ, _≤_, _<_, _-_}
 use lib.ListN.{length}
-use Rattle.memory.specs.Masks.{isInk}
+use Rattle.memory.specs.rules.Masks.{isInk}
 use Rattle.extents.proofs.BandLaws.{joins-more}
 use Rattle.extents.proofs.bands.joins.Statement.{statement}
 use Rattle.extents.proofs.bands.joins.Tie as tie

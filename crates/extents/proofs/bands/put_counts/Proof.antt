@@ -2,7 +2,7 @@ use native.Mathlib.Omega.{arith}
 use mathlib.Core.Path.{_≡_, refl, ap}
 use Prim.Native.Nat.{_≤_, _+_, _-_}
 use lib.ListN.{getD}
-use Rattle.extents.specs.Bands.{Put}
+use Rattle.extents.specs.stages.Bands.{Put}
 use Rattle.extents.proofs.PutLaws.{put-none, put-up, put-ends}
 use Rattle.extents.proofs.bands.put_counts.Statement.{statement}
 use Rattle.extents.proofs.bands.put_counts.Tie as tie

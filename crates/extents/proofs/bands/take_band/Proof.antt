@@ -2,8 +2,8 @@ use native.Mathlib.Omega.{arith}
 use mathlib.Core.Path.{_≡_, refl, ap}
 use Prim.Native.Nat.{_≤_, _-_, _*_}
 use native.Mathlib.Nat.{le-refl, mul-le-mul-right}
-use Rattle.extents.specs.Scans.{columnExtent}
-use Rattle.extents.specs.Bands.{Put}
+use Rattle.extents.specs.stages.Scans.{columnExtent}
+use Rattle.extents.specs.stages.Bands.{Put}
 use Rattle.extents.proofs.ExtentLaws.{row-before}
 use Rattle.extents.proofs.PutLaws.{put-none, put-ends, put-more-down}
 use Rattle.extents.proofs.BandLaws.{takes-row}

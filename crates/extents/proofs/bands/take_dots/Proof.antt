@@ -2,8 +2,8 @@ use native.Mathlib.Omega.{arith}
 use mathlib.Core.Path.{refl}
 use Prim.Native.Nat.{_≤_, _-_}
 use native.Mathlib.Nat.{le-refl}
-use Rattle.extents.specs.Scans.{columnExtent}
-use Rattle.extents.specs.Bands.{Put}
+use Rattle.extents.specs.stages.Scans.{columnExtent}
+use Rattle.extents.specs.stages.Bands.{Put}
 use Rattle.extents.proofs.PutLaws.{put-none, put-down, put-ends}
 use Rattle.extents.proofs.BandLaws.{takes-next, take-bounds, take-above}
 use Rattle.extents.proofs.bands.take_dots.Statement.{statement}

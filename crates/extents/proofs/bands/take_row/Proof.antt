@@ -2,8 +2,8 @@ use native.Mathlib.Omega.{arith}
 use mathlib.Core.Path.{_≡_, refl, _∙_}
 use Prim.Native.Nat.{_≤_, _+_, _-_, _*_}
 use native.Mathlib.Nat.{le-refl}
-use Rattle.extents.specs.Scans.{columnExtent}
-use Rattle.extents.specs.Bands.{Put}
+use Rattle.extents.specs.stages.Scans.{columnExtent}
+use Rattle.extents.specs.stages.Bands.{Put}
 use Rattle.extents.proofs.PutLaws.{put-none, put-ends, put-more-down}
 use Rattle.extents.proofs.BandLaws.{rows-fit, last-row-ends, row-below, takes-next, take-last}
 use Rattle.extents.proofs.bands.take_row.Statement.{statement}

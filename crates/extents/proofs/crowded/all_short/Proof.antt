@@ -2,7 +2,7 @@ use Rattle.extents.proofs.CrowdedLaws.{short-more}
 use mathlib.Core.Path.{_≡_}
 use mathlib.Core.Bool.{true}
 use Prim.Native.Nat.{ℕ, _-_, _≤_, _<_}
-use Rattle.extents.specs.Scans.{noFour}
+use Rattle.extents.specs.stages.Scans.{noFour}
 use native.Mathlib.Omega.{arith}
 use Rattle.extents.proofs.crowded.all_short.Statement.{statement}
 use Rattle.extents.proofs.crowded.all_short.Tie as tie

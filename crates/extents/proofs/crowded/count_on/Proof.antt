@@ -5,9 +5,9 @@ use Rattle.extents.proofs.CrowdedLaws.{parts-none, parts-more, parts-ot
 use mathlib.Core.Bool.{true}
 use Prim.Native.Nat.{suc, _+_, _-_, _≤_}
 use lib.ListN.{length}
-use Rattle.memory.specs.Masks.{isInk}
-use Rattle.extents.specs.Extents.{behind, extent}
-use Rattle.extents.specs.Scans.{RowParts, singleDot}
+use Rattle.memory.specs.rules.Masks.{isInk}
+use Rattle.extents.specs.rules.Extents.{behind, extent}
+use Rattle.extents.specs.stages.Scans.{RowParts, singleDot}
 use native.Mathlib.Omega.{arith}
 use borrow.Author.Needs.{needs}
 use Rattle.extents.proofs.crowded.count_on.Statement.{statement}

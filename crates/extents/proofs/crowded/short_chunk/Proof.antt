@@ -2,7 +2,7 @@ use mathlib.Core.Path.{_≡_, ap, _∙_}
 use Prim.Native.Nat.{_+_, _-_}
 use native.Mathlib.Omega.{arith}
 use borrow.Author.Needs.{needs}
-use Rattle.extents.specs.Scans.{shortExtentAt}
+use Rattle.extents.specs.stages.Scans.{shortExtentAt}
 use Rattle.extents.proofs.PutLaws.{put-as}
 use Rattle.extents.proofs.crowded.short_chunk.Statement.{statement}
 use Rattle.extents.proofs.crowded.short_chunk.Tie as tie

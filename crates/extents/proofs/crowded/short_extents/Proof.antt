@@ -2,8 +2,8 @@ use mathlib.Core.Path.{_≡_, refl, _∙_}
 use Prim.Native.Nat.{_+_, _-_, _≤_}
 use native.Mathlib.Nat.{le-refl}
 use native.Mathlib.Omega.{arith}
-use Rattle.extents.specs.Scans.{shortExtentAt}
-use Rattle.extents.specs.Bands.{Put}
+use Rattle.extents.specs.stages.Scans.{shortExtentAt}
+use Rattle.extents.specs.stages.Bands.{Put}
 use Rattle.extents.proofs.CrowdedLaws.{row-put, short-bytes}
 use Rattle.extents.proofs.ExtentLaws.{row-size}
 use Rattle.extents.proofs.PutLaws.{put-none, put-as, put-ends, put-more, put-over}

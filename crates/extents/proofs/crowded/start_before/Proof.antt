@@ -1,8 +1,8 @@
 use mathlib.Core.Path.{subst, _≡_}
-use Rattle.extents.specs.Scans.{Starts}
+use Rattle.extents.specs.stages.Scans.{Starts}
 use Rattle.extents.proofs.CrowdedLaws.{starts-here, starts-after}
 use Prim.Native.Nat.{_-_, _≤_}
-use Rattle.memory.specs.Masks.{isInk}
+use Rattle.memory.specs.rules.Masks.{isInk}
 use native.Mathlib.Omega.{arith}
 use Rattle.extents.proofs.crowded.start_before.Statement.{statement}
 use Rattle.extents.proofs.crowded.start_before.Tie as tie

@@ -2,9 +2,9 @@ use mathlib.Core.Path.{sym, _∙_, subst, _≡_}
 use Rattle.extents.proofs.CrowdedLaws.{parts-less, parts-second, back-at}
 use Prim.Native.Nat.{suc, _+_, _-_, _≤_, _<_}
 use lib.ListN.{length}
-use Rattle.memory.specs.Masks.{isInk}
-use Rattle.extents.specs.Extents.{behind, extent}
-use Rattle.extents.specs.Scans.{RowCounted}
+use Rattle.memory.specs.rules.Masks.{isInk}
+use Rattle.extents.specs.rules.Extents.{behind, extent}
+use Rattle.extents.specs.stages.Scans.{RowCounted}
 use native.Mathlib.Omega.{arith}
 use borrow.Author.Needs.{needs}
 use Rattle.extents.proofs.crowded.take_back.Statement.{statement}

@@ -2,8 +2,8 @@ use mathlib.Core.Path.{_∙_}
 use Prim.Native.Nat.{_+_, _-_, _≤_}
 use native.Mathlib.Omega.{arith}
 use borrow.Author.Needs.{needs}
-use Rattle.extents.specs.Scans.{shortExtentAt}
-use Rattle.extents.specs.Bands.{Put}
+use Rattle.extents.specs.stages.Scans.{shortExtentAt}
+use Rattle.extents.specs.stages.Bands.{Put}
 use Rattle.extents.proofs.CrowdedLaws.{short-around}
 use Rattle.extents.proofs.PutLaws.{put-none, put-up}
 use Rattle.extents.proofs.crowded.tell_short.Statement.{statement}

@@ -3,7 +3,7 @@ use Prim.Native.Nat.{_+_, _-_, _≤_}
 use native.Mathlib.Omega.{arith}
 use borrow.Author.Needs.{needs}
 use lib.ListN.{getD, length}
-use Rattle.extents.specs.Bands.{Put}
+use Rattle.extents.specs.stages.Bands.{Put}
 use Rattle.extents.proofs.PutLaws.{put-none, put-up, put-ends}
 use Rattle.extents.proofs.crowded.widen.Statement.{statement}
 use Rattle.extents.proofs.crowded.widen.Tie as tie

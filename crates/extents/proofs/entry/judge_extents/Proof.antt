@@ -1,4 +1,4 @@
-use Rattle.extents.specs.Answers.{extentsRefusal}
+use Rattle.extents.specs.rules.Answers.{extentsRefusal}
 use borrow.Author.Needs.{needs}
 use Rattle.extents.proofs.entry.judge_extents.Statement.{statement}
 use Rattle.extents.proofs.entry.judge_extents.Tie as tie

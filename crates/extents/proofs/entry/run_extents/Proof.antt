@@ -1,6 +1,6 @@
 use mathlib.Core.Path.{sym, ap, _∙_}
-use Rattle.memory.specs.Words.{over}
-use Rattle.extents.specs.Answers.{extentsAlong}
+use Rattle.memory.specs.rules.Words.{over}
+use Rattle.extents.specs.rules.Answers.{extentsAlong}
 use Rattle.extents.proofs.AnswerLaws.{extents-refused, extents-fit, extents-done}
 use lib.ListN.{length}
 use borrow.Author.Needs.{needs}

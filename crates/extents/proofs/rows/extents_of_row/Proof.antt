@@ -3,7 +3,7 @@ use mathlib.Core.Path.{_≡_, refl, ap, _∙_}
 use Prim.Native.Nat.{_-_}
 use lib.ListN.{length}
 use Rattle.memory.proofs.TableLaws.{length-table}
-use Rattle.extents.specs.Scans.{RowTo, singleDot}
+use Rattle.extents.specs.stages.Scans.{RowTo, singleDot}
 use Rattle.extents.proofs.ExtentLaws.{row-begun, row-done}
 use borrow.Author.Needs.{needs}
 use Rattle.extents.proofs.rows.extents_of_row.Statement.{statement}

@@ -3,7 +3,7 @@ use native.Mathlib.Nat.{le-refl}
 use mathlib.Core.Path.{_≡_, refl}
 use Prim.Native.Nat.{_≤_, _-_}
 use lib.ListN.{length}
-use Rattle.extents.specs.Scans.{RowTo}
+use Rattle.extents.specs.stages.Scans.{RowTo}
 use Rattle.extents.proofs.rows.extents_of_runs.Statement.{statement}
 use Rattle.extents.proofs.rows.extents_of_runs.Tie as tie
 

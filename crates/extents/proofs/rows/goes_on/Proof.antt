@@ -3,7 +3,7 @@ use native.Mathlib.Nat.{le-refl}
 use mathlib.Core.Path.{_≡_}
 use mathlib.Core.Bool.{false, _&&_}
 use Prim.Native.Nat.{ℕ, _≤_, _<_, _+_, _-_}
-use Rattle.memory.specs.Masks.{isInk}
+use Rattle.memory.specs.rules.Masks.{isInk}
 use Rattle.extents.proofs.ExtentLaws.{scan-none, goes-on-more}
 use Rattle.extents.proofs.rows.goes_on.Statement.{statement}
 use Rattle.extents.proofs.rows.goes_on.Tie as tie

@@ -4,7 +4,7 @@ use mathlib.Core.Path.{_≡_}
 use mathlib.Core.Bool.{true}
 use native.Mathlib.Nat.{le-refl}
 use lib.ListN.{length}
-use Rattle.memory.specs.Masks.{isInk}
+use Rattle.memory.specs.rules.Masks.{isInk}
 use Rattle.extents.proofs.ExtentLaws.{ink-zero, ink-nonzero, scan-none, scan-more}
 use Rattle.extents.proofs.rows.ink_end.Statement.{statement}
 use Rattle.extents.proofs.rows.ink_end.Tie as tie

@@ -3,10 +3,10 @@ use native.Mathlib.Omega.{arith}
 use mathlib.Core.Path.{_≡_, refl, sym, ap, _∙_}
 use native.Mathlib.Nat.{zero-mul, mul-comm}
 use lib.ListN.{length, getD}
-use Rattle.memory.specs.Lists.{table}
-use Rattle.memory.specs.Words.{over}
-use Rattle.extents.specs.Scans.{rowExtent, until}
-use Rattle.extents.specs.Extents.{rowExtents}
+use Rattle.memory.specs.rules.Lists.{table}
+use Rattle.memory.specs.rules.Words.{over}
+use Rattle.extents.specs.stages.Scans.{rowExtent, until}
+use Rattle.extents.specs.rules.Extents.{rowExtents}
 use Rattle.extents.proofs.OverLaws.{over-none, over-all, length-over, length-part}
 use Rattle.extents.proofs.ExtentLaws.{row-inside, rows-loop}
 use Rattle.extents.proofs.rows.row_extents.Statement.{statement}

@@ -3,9 +3,9 @@ use mathlib.Core.Path.{_≡_, refl, sym, ap, _∙_}
 use mathlib.Core.List.{_++_}
 use Prim.Native.Nat.{_≤_, _-_}
 use lib.ListN.{length, drop, length-set}
-use Rattle.memory.specs.Lists.{table}
+use Rattle.memory.specs.rules.Lists.{table}
 use Rattle.memory.proofs.TableLaws.{table-more, table-whole}
-use Rattle.extents.specs.Scans.{singleDot}
+use Rattle.extents.specs.stages.Scans.{singleDot}
 use Rattle.extents.proofs.ExtentLaws.{single-bit, table-begun}
 use borrow.Author.Needs.{needs}
 use Rattle.extents.proofs.rows.single_dots.Statement.{statement}

@@ -1,10 +1,12 @@
 use mathlib.Core.Path.{_∙_, ap}
 use mathlib.Core.List.{List}
 use Prim.Native.Nat.{ℕ}
-use Rattle.memory.specs.Records.{encoded}
-use Rattle.grouping.specs.Blocks.{blockNumber, blockFirsts, blocksOf}
-use Rattle.grouping.specs.Numbering.{withBlocks}
-use Rattle.grouping.specs.Words.{lineBoxes, blockRecord, putAt}
+use Rattle.memory.specs.rules.Records.{encoded}
+use Rattle.grouping.specs.rules.Blocks.{blockNumber, blockFirsts, blocksOf}
+use Rattle.grouping.specs.stages.Numbering.{withBlocks}
+use Rattle.grouping.specs.stages.LineBoxes.{lineBoxes}
+use Rattle.grouping.specs.rules.BlockRecords.{blockRecord}
+use Rattle.memory.specs.rules.Words.{putAt}
 use Rattle.grouping.proofs.NumberLaws.{blocks-same}
 use Rattle.grouping.proofs.TogetherLaws.{block-low, block-idem}
 use native.Mathlib.Omega.{arith}

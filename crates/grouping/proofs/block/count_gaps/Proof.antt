@@ -2,8 +2,8 @@ use Prim.Native.Nat.{ℕ, _+_, _-_, _≤_, _<_, zero-le}
 use mathlib.Core.Path.{_≡_, refl, sym, ap, _∙_}
 use mathlib.Core.List.{List}
 use lib.ListN.{length}
-use Rattle.memory.specs.Words.{over}
-use Rattle.grouping.specs.Counts.{counts}
+use Rattle.memory.specs.rules.Words.{over}
+use Rattle.grouping.specs.stages.Counts.{counts}
 use Rattle.grouping.proofs.TableWords.{counts-start, counts-done, counted-few}
 use Rattle.grouping.proofs.GapLaws.{gapsBefore, before-none, before-few, before-all, gaps-counted}
 use native.Mathlib.Omega.{arith}

@@ -2,9 +2,9 @@ use Prim.Native.Nat.{ℕ, _+_, _-_, _≤_, _<_, zero-le}
 use mathlib.Core.Path.{_≡_, refl, sym, ap, _∙_}
 use mathlib.Core.List.{List}
 use lib.ListN.{length, length-set}
-use Rattle.memory.specs.Words.{over}
-use Rattle.labelling.specs.Rects.{height}
-use Rattle.grouping.specs.Counts.{counts}
+use Rattle.memory.specs.rules.Words.{over}
+use Rattle.memory.specs.rules.Rects.{height}
+use Rattle.grouping.specs.stages.Counts.{counts}
 use Rattle.grouping.proofs.TableWords.{counts-start, counts-done}
 use Rattle.grouping.proofs.MedianWords.{heights, heights-none, height-few, height-counted}
 use native.Mathlib.Omega.{arith}

@@ -1,4 +1,4 @@
-use Rattle.grouping.specs.Words.{lineBoxes}
+use Rattle.grouping.specs.stages.LineBoxes.{lineBoxes}
 use Rattle.grouping.proofs.MedianWords.{limits-right}
 use native.Mathlib.Omega.{arith}
 use borrow.Author.Needs.{needs}

@@ -2,9 +2,10 @@ use Prim.Native.Nat.{ℕ, _+_, _-_, _≤_, _<_}
 use mathlib.Core.Path.{_≡_, refl, sym, ap, _∙_, subst}
 use mathlib.Core.Logic.{⊎-elim}
 use lib.ListN.{length}
-use Rattle.labelling.specs.declared.rect.Rect.{Rect}
-use Rattle.grouping.specs.Joining.{joins}
-use Rattle.grouping.specs.Words.{Inside, lineBox}
+use Rattle.memory.specs.declared.rect.Rect.{Rect}
+use Rattle.grouping.specs.stages.Joining.{joins}
+use Rattle.grouping.specs.stages.LineBoxes.{Inside}
+use Rattle.grouping.specs.rules.HeldLines.{lineBox}
 use Rattle.grouping.proofs.GapLaws.{too-far, near, pair-fits}
 use Rattle.grouping.proofs.PairLaws.{Rooted, rooted-found, rooted-skip, rooted-join, rooted-stop}
 use native.Mathlib.Omega.{arith}

@@ -1,7 +1,7 @@
 use Prim.Native.Nat.{ℕ, _+_, _-_, _≤_, _<_, zero-le}
 use mathlib.Core.Path.{_≡_, refl, sym, ap, _∙_, subst}
 use lib.ListN.{length}
-use Rattle.grouping.specs.Joining.{joins, Joined}
+use Rattle.grouping.specs.stages.Joining.{joins, Joined}
 use Rattle.grouping.proofs.PairLaws.{joined-none, joined-all}
 use native.Mathlib.Omega.{arith}
 use borrow.Author.Needs.{needs}

@@ -2,7 +2,7 @@ use Prim.Native.Nat.{_+_}
 use mathlib.Core.Path.{sym, subst}
 use lib.ListN.{take, length-take}
 use lib.Seq.{length-take-le}
-use Rattle.sorting.specs.Counts.{CountsOf}
+use Rattle.sorting.specs.stages.Counts.{CountsOf}
 use Rattle.grouping.proofs.MedianWords.{counts-of, heights, heights-length, heights-below}
 use native.Mathlib.Omega.{arith}
 use borrow.Author.Needs.{needs}

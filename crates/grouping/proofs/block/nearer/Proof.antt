@@ -1,4 +1,4 @@
-use Rattle.grouping.specs.Blocks.{overlapping}
+use Rattle.grouping.specs.rules.Blocks.{overlapping}
 use mathlib.Core.Path.{sym, _∙_}
 use Rattle.grouping.proofs.GapLaws.{nearest-kept, nearest-found, nearest-not}
 use native.Mathlib.Omega.{arith}

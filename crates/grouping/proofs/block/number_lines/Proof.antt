@@ -1,5 +1,5 @@
-use Rattle.grouping.specs.Blocks.{blockNumber}
-use Rattle.grouping.specs.Words.{lineBoxes}
+use Rattle.grouping.specs.rules.Blocks.{blockNumber}
+use Rattle.grouping.specs.stages.LineBoxes.{lineBoxes}
 use Rattle.grouping.proofs.CoverWords.{filled-at}
 use Rattle.grouping.proofs.TogetherLaws.{joins-firsts, numbers-right}
 use native.Mathlib.Omega.{arith}

@@ -1,8 +1,8 @@
 use mathlib.Core.Path.{sym}
 use lib.ListN.{length-take}
 use lib.Seq.{length-take-le}
-use Rattle.grouping.specs.Blocks.{nearestGaps}
-use Rattle.grouping.specs.Words.{lineBoxes}
+use Rattle.grouping.specs.rules.Blocks.{nearestGaps}
+use Rattle.grouping.specs.stages.LineBoxes.{lineBoxes}
 use Rattle.grouping.proofs.MedianWords.{counts-of, gaps-below}
 use native.Mathlib.Omega.{arith}
 use borrow.Author.Needs.{needs}

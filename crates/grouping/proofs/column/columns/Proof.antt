@@ -2,8 +2,8 @@ use mathlib.Core.Path.{sym, subst, ap, _∙_}
 use mathlib.Core.List.{List}
 use Prim.Native.Nat.{ℕ}
 use Rattle.memory.proofs.PartLaws.{tail-part}
-use Rattle.grouping.specs.Columns.{columnsOf}
-use Rattle.grouping.specs.Words.{Lines, lineBoxes}
+use Rattle.grouping.specs.rules.Columns.{columnsOf}
+use Rattle.grouping.specs.stages.LineBoxes.{Lines, lineBoxes}
 use Rattle.grouping.proofs.CoverWords.{columns-right, columns-written}
 use native.Mathlib.Omega.{arith}
 use borrow.Author.Needs.{needs}

@@ -1,7 +1,7 @@
 use mathlib.Core.Path.{_≡_, sym}
 use lib.Seq.{length-take-le}
-use Rattle.grouping.specs.Columns.{cover}
-use Rattle.grouping.specs.Words.{lineBoxes}
+use Rattle.grouping.specs.rules.Columns.{cover}
+use Rattle.grouping.specs.stages.LineBoxes.{lineBoxes}
 use Rattle.grouping.proofs.CoverWords.{tail-room, start-below, end-below, filled-steps, filled-at}
 use native.Mathlib.Omega.{arith}
 use borrow.Author.Needs.{needs}

@@ -1,7 +1,7 @@
 use Prim.Native.Nat.{ℕ, _+_, _-_, _≤_, _<_, zero-le}
 use mathlib.Core.Path.{_≡_, refl}
 use lib.ListN.{length, length-set}
-use Rattle.grouping.specs.Columns.{CoverSteps}
+use Rattle.grouping.specs.stages.Covers.{CoverSteps}
 use Rattle.grouping.proofs.CoverSums.{Summed, summed-none, summed-here, summed-ended, summed-more, summed-all}
 use native.Mathlib.Omega.{arith}
 use borrow.Author.Needs.{needs}

@@ -1,9 +1,8 @@
-use mathlib.Core.Path.{sym, _∙_}
+use mathlib.Core.Path.{sym, _∙_, _≡_, refl}
 use Prim.Native.Nat.{ℕ, _+_, _-_, _≤_, _<_, zero-le}
-use mathlib.Core.Path.{_≡_, refl}
 use mathlib.Core.Logic.{⊎-elim}
 use lib.ListN.{length, getD}
-use Rattle.grouping.specs.Columns.{enoughCover}
+use Rattle.grouping.specs.rules.Columns.{enoughCover}
 use Rattle.grouping.proofs.ColumnWords.{Written, written-none, written-few, written-last, written-no, written-yes, written-all}
 use native.Mathlib.Omega.{arith}
 use borrow.Author.Needs.{needs}

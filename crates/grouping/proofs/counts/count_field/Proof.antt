@@ -1,11 +1,11 @@
-use Rattle.grouping.proofs.TableWords.{counts-done}
+use Rattle.grouping.proofs.TableWords.{counts-done, field-none, field-more, field-fits}
 use Prim.Native.Nat.{ℕ, _+_, _-_, _*_, _≤_, _<_, zero-le}
 use mathlib.Core.Path.{_≡_, refl, sym, ap, _∙_}
 use lib.ListN.{length, getD, length-set}
-use Rattle.memory.specs.Words.{over}
-use Rattle.grouping.specs.Words.{lineWords, fields}
-use Rattle.grouping.specs.Counts.{counts}
-use Rattle.grouping.proofs.TableWords.{field-none, field-more, field-fits}
+use Rattle.memory.specs.rules.Words.{over}
+use Rattle.smoothing.specs.rules.LineRecords.{lineWords}
+use Rattle.memory.specs.rules.Records.{fields}
+use Rattle.grouping.specs.stages.Counts.{counts}
 use native.Mathlib.Omega.{arith}
 use borrow.Author.Needs.{needs}
 use Rattle.grouping.proofs.counts.count_field.Statement.{statement}

@@ -1,12 +1,12 @@
 use Prim.Native.Nat.{ℕ, _-_, _*_, _≤_}
 use mathlib.Core.Path.{_≡_}
 use mathlib.Core.Bool.{Bool}
-use Rattle.memory.specs.Lists.{countIf}
-use Rattle.levelling.specs.Frames.{Frame}
-use Rattle.grouping.specs.Readings.{listed}
-use Rattle.grouping.specs.Dots.{frameOf}
+use Rattle.memory.specs.rules.Lists.{countIf}
+use Rattle.levelling.specs.rules.Frames.{Frame}
+use Rattle.grouping.specs.rules.Readings.{listed}
+use Rattle.grouping.specs.stages.Dots.{frameBy}
 use Rattle.grouping.proofs.DotLaws.{count-none, rows-start, rows-end}
-use Rattle.grouping.proofs.CountLaws.{count-gap}
+use Rattle.memory.proofs.PlaceLaws.{count-gap}
 use Rattle.grouping.proofs.SpanLaws.{sheared}
 use native.Mathlib.Omega.{arith}
 use borrow.Author.Needs.{needs}
@@ -14,14 +14,14 @@ use Rattle.grouping.proofs.dots.count_dots.Statement.{statement}
 use Rattle.grouping.proofs.dots.count_dots.Tie as tie
 
 abbrev Inv-loop : tie.InvT-loop
-Inv-loop shear shear-x kinds sides kind r end n₀ y₀ n y = (y ≤ sides .«page_h») × (n ≡ countIf (listed (frameOf (sides .«page_w») (sides .«page_h») (sides .w) (sides .h) shear shear-x) kinds kind r) (y * sides .«page_w»))
+Inv-loop shear shear-x kinds sides kind r end n₀ y₀ n y = (y ≤ sides .«page_h») × (n ≡ countIf (listed (frameBy sides shear shear-x) kinds kind r) (y * sides .«page_w»))
 
 abbrev μ-loop : tie.MeasureT-loop
 μ-loop shear shear-x kinds sides kind r end n₀ y₀ n y = end - y
 
 -- the frame, and the test of its page dots
 abbrev here : tie.Start Inv-loop μ-loop → Frame
-here s = frameOf (s .args .sides .«page_w») (s .args .sides .«page_h») (s .args .sides .w) (s .args .sides .h) (s .args .shear .now) (s .args .shear-x .now)
+here s = frameBy (s .args .sides) (s .args .shear .now) (s .args .shear-x .now)
 
 abbrev passes : tie.Start Inv-loop μ-loop → ℕ → Bool
 passes s = listed (here s) (s .args .kinds .now) (s .args .kind) (s .args .r)

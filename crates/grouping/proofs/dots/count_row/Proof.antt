@@ -1,12 +1,12 @@
 use Prim.Native.Nat.{ℕ, _+_, _-_, _*_, _≤_}
 use mathlib.Core.Path.{_≡_, ap, _∙_}
 use mathlib.Core.Bool.{Bool, cond}
-use Rattle.memory.specs.Lists.{countIf}
-use Rattle.levelling.specs.Frames.{Frame}
-use Rattle.grouping.specs.Readings.{listed}
-use Rattle.grouping.specs.Dots.{frameOf}
+use Rattle.memory.specs.rules.Lists.{countIf}
+use Rattle.levelling.specs.rules.Frames.{Frame}
+use Rattle.grouping.specs.rules.Readings.{listed}
+use Rattle.grouping.specs.stages.Dots.{frameBy}
 use Rattle.grouping.proofs.DotLaws.{count-dot, count-few, dot-below, bit-at-most, row-start, row-end}
-use Rattle.grouping.proofs.CountLaws.{count-gap}
+use Rattle.memory.proofs.PlaceLaws.{count-gap}
 use Rattle.grouping.proofs.SpanLaws.{sheared}
 use native.Mathlib.Omega.{arith}
 use borrow.Author.Needs.{needs}
@@ -14,14 +14,14 @@ use Rattle.grouping.proofs.dots.count_row.Statement.{statement}
 use Rattle.grouping.proofs.dots.count_row.Tie as tie
 
 abbrev Inv-loop : tie.InvT-loop
-Inv-loop shear shear-x kinds sides kind r y n end m₀ c₀ m c = (c ≤ sides .«page_w») × (m ≡ countIf (listed (frameOf (sides .«page_w») (sides .«page_h») (sides .w) (sides .h) shear shear-x) kinds kind r) (y * sides .«page_w» + c))
+Inv-loop shear shear-x kinds sides kind r y n end m₀ c₀ m c = (c ≤ sides .«page_w») × (m ≡ countIf (listed (frameBy sides shear shear-x) kinds kind r) (y * sides .«page_w» + c))
 
 abbrev μ-loop : tie.MeasureT-loop
 μ-loop shear shear-x kinds sides kind r y n end m₀ c₀ m c = end - c
 
 -- the frame, and the test of its page dots
 abbrev here : tie.Start Inv-loop μ-loop → Frame
-here s = frameOf (s .args .sides .«page_w») (s .args .sides .«page_h») (s .args .sides .w) (s .args .sides .h) (s .args .shear .now) (s .args .shear-x .now)
+here s = frameBy (s .args .sides) (s .args .shear .now) (s .args .shear-x .now)
 
 abbrev passes : tie.Start Inv-loop μ-loop → ℕ → Bool
 passes s = listed (here s) (s .args .kinds .now) (s .args .kind) (s .args .r)

@@ -4,13 +4,13 @@ use mathlib.Core.Bool.{Bool}
 use mathlib.Core.List.{List}
 use mathlib.Core.Logic.{⊎-elim}
 use lib.ListN.{length}
-use Rattle.memory.specs.Lists.{countIf, keep, upto}
-use Rattle.memory.specs.Words.{over}
-use Rattle.levelling.specs.Frames.{Frame}
-use Rattle.grouping.specs.Readings.{listed, columnsAndRows}
-use Rattle.grouping.specs.Dots.{frameOf}
+use Rattle.memory.specs.rules.Lists.{countIf, keep, upto}
+use Rattle.memory.specs.rules.Words.{over}
+use Rattle.levelling.specs.rules.Frames.{Frame}
+use Rattle.grouping.specs.rules.Readings.{listed, columnsAndRows}
+use Rattle.grouping.specs.stages.Dots.{frameBy}
 use Rattle.grouping.proofs.DotLaws.{count-few, dot-below, dot-room, dots-yes, dots-no, count-dot-yes, count-dot-no, row-start, row-end, dots-gap}
-use Rattle.grouping.proofs.CountLaws.{count-gap}
+use Rattle.memory.proofs.PlaceLaws.{count-gap}
 use Rattle.grouping.proofs.SpanLaws.{sheared}
 use native.Mathlib.Omega.{arith}
 use borrow.Author.Needs.{needs}
@@ -18,14 +18,14 @@ use Rattle.grouping.proofs.dots.write_row.Statement.{statement}
 use Rattle.grouping.proofs.dots.write_row.Tie as tie
 
 abbrev Inv-loop : tie.InvT-loop
-Inv-loop shear shear-x kinds sides kind r y n out₀ end m₀ c₀ out m c = (c ≤ sides .«page_w») × (length out ≡ length out₀) × (m ≡ countIf (listed (frameOf (sides .«page_w») (sides .«page_h») (sides .w) (sides .h) shear shear-x) kinds kind r) (y * sides .«page_w» + c)) × ((s : List ℕ) → out₀ ≡ over (columnsAndRows (sides .«page_w») (keep (listed (frameOf (sides .«page_w») (sides .«page_h») (sides .w) (sides .h) shear shear-x) kinds kind r) (upto (y * sides .«page_w»)))) s → out ≡ over (columnsAndRows (sides .«page_w») (keep (listed (frameOf (sides .«page_w») (sides .«page_h») (sides .w) (sides .h) shear shear-x) kinds kind r) (upto (y * sides .«page_w» + c)))) s)
+Inv-loop shear shear-x kinds sides kind r y n out₀ end m₀ c₀ out m c = (c ≤ sides .«page_w») × (length out ≡ length out₀) × (m ≡ countIf (listed (frameBy sides shear shear-x) kinds kind r) (y * sides .«page_w» + c)) × ((s : List ℕ) → out₀ ≡ over (columnsAndRows (sides .«page_w») (keep (listed (frameBy sides shear shear-x) kinds kind r) (upto (y * sides .«page_w»)))) s → out ≡ over (columnsAndRows (sides .«page_w») (keep (listed (frameBy sides shear shear-x) kinds kind r) (upto (y * sides .«page_w» + c)))) s)
 
 abbrev μ-loop : tie.MeasureT-loop
 μ-loop shear shear-x kinds sides kind r y n out₀ end m₀ c₀ out m c = end - c
 
 -- the frame, and the test of its page dots
 abbrev here : tie.Start Inv-loop μ-loop → Frame
-here s = frameOf (s .args .sides .«page_w») (s .args .sides .«page_h») (s .args .sides .w) (s .args .sides .h) (s .args .shear .now) (s .args .shear-x .now)
+here s = frameBy (s .args .sides) (s .args .shear .now) (s .args .shear-x .now)
 
 abbrev passes : tie.Start Inv-loop μ-loop → ℕ → Bool
 passes s = listed (here s) (s .args .kinds .now) (s .args .kind) (s .args .r)

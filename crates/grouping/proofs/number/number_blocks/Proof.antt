@@ -2,8 +2,8 @@ use Prim.Native.Nat.{ℕ, _+_, _-_, _≤_, _<_, zero-le}
 use mathlib.Core.Path.{_≡_, refl, sym, ap, _∙_}
 use mathlib.Core.List.{List}
 use lib.ListN.{length, drop}
-use Rattle.labelling.specs.Classes.{firstOf}
-use Rattle.labelling.specs.Forests.{Forest}
+use Rattle.union_find.specs.rules.Classes.{firstOf}
+use Rattle.union_find.specs.stages.Forests.{Forest}
 use Rattle.grouping.proofs.NumberLaws.{rest-at, number-rest, Numbered, numbered-none, numbered-more, numbered-all}
 use native.Mathlib.Omega.{arith}
 use borrow.Author.Needs.{needs}

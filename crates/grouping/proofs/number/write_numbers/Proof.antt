@@ -1,7 +1,7 @@
 use Prim.Native.Nat.{ℕ, _+_, _-_, _≤_, _<_, zero-le}
 use mathlib.Core.Path.{_≡_, refl, sym, ap, _∙_}
 use lib.ListN.{length, getD, length-set}
-use Rattle.grouping.specs.Numbering.{withBlocks}
+use Rattle.grouping.specs.stages.Numbering.{withBlocks}
 use Rattle.grouping.proofs.NumberLaws.{blocks-none, blocks-more}
 use native.Mathlib.Omega.{arith}
 use borrow.Author.Needs.{needs}

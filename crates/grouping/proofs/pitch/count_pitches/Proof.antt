@@ -1,10 +1,10 @@
-use Rattle.memory.specs.Lists.{occurs}
-use Rattle.grouping.specs.Pitches.{walkedPitches}
-use Rattle.grouping.proofs.TableWords.{occurs-length}
+use Rattle.memory.specs.rules.Lists.{occurs}
+use Rattle.grouping.specs.stages.Pitches.{walkedPitches, PitchAdded}
+use Rattle.memory.proofs.PlaceLaws.{occurs-length}
 use Prim.Native.Nat.{ℕ, _+_, _-_, _*_, _≤_, _<_, zero-le}
 use mathlib.Core.Path.{_≡_, refl, sym, ap, _∙_, subst}
 use lib.ListN.{length, getD}
-use Rattle.grouping.specs.Pitches.{centreAt, blockAt, PitchAdded}
+use Rattle.grouping.specs.rules.HeldLines.{centreAt, blockAt}
 use Rattle.grouping.proofs.PitchLaws.{Walked, walked-none, walked-more, walked-few}
 use native.Mathlib.Omega.{arith}
 use borrow.Author.Needs.{needs}

@@ -2,7 +2,7 @@ use Prim.Native.Nat.{ℕ, _+_, _*_}
 use mathlib.Core.Path.{refl, sym}
 use lib.ListN.{length-take}
 use lib.Seq.{length-take-le}
-use Rattle.grouping.specs.Pitches.{centreAt, blockAt, pitchesBelow}
+use Rattle.grouping.specs.rules.HeldLines.{centreAt, blockAt, pitchesBelow}
 use Rattle.grouping.proofs.CoverWords.{filled-at}
 use Rattle.grouping.proofs.PitchLaws.{pitch-counts, below-bound, median-at-most}
 use native.Mathlib.Omega.{arith}

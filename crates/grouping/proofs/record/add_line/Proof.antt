@@ -1,9 +1,9 @@
 use Prim.Native.Nat.{_+_, _*_}
 use lib.ListN.{getD}
 use lib.Seq.{sets}
-use Rattle.labelling.specs.Rects.{union}
-use Rattle.labelling.specs.declared.rect.Rect.{Rect}
-use Rattle.grouping.specs.Numbering.{blockFields}
+use Rattle.memory.specs.rules.Rects.{union}
+use Rattle.memory.specs.declared.rect.Rect.{Rect}
+use Rattle.grouping.specs.stages.Numbering.{blockFields}
 use mathlib.Core.Path.{_≡_, refl, sym, ap, _∙_}
 use native.Mathlib.Omega.{arith}
 use borrow.Author.Needs.{needs}

@@ -4,9 +4,10 @@ use mathlib.Core.List.{List}
 use lib.ListN.{length, getD, drop, length-drop}
 use Rattle.memory.proofs.TableLaws.{length-table, getD-table}
 use Rattle.memory.proofs.PartLaws.{tail-part}
-use Rattle.labelling.specs.Classes.{firstOf}
-use Rattle.grouping.specs.Blocks.{blockNumber, noRect}
-use Rattle.grouping.specs.Words.{lineBox, lineBoxes}
+use Rattle.union_find.specs.rules.Classes.{firstOf}
+use Rattle.grouping.specs.rules.Blocks.{blockNumber, noRect}
+use Rattle.grouping.specs.rules.HeldLines.{lineBox}
+use Rattle.grouping.specs.stages.LineBoxes.{lineBoxes}
 use Rattle.grouping.proofs.BlockWords.{WrittenBehind, behind-none, behind-more, behind-all, behind-long, line-there, written-few, number-at-most, lines-there}
 use native.Mathlib.Omega.{arith}
 use borrow.Author.Needs.{needs}

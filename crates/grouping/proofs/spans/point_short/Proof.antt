@@ -1,4 +1,4 @@
-use Rattle.grouping.specs.Dots.{isShort}
+use Rattle.grouping.specs.stages.Dots.{isShort}
 use Rattle.grouping.proofs.SpanLaws.{short-same}
 use Rattle.grouping.proofs.spans.point_short.Statement.{statement}
 use Rattle.grouping.proofs.spans.point_short.Tie as tie

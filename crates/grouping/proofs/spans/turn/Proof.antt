@@ -2,14 +2,14 @@ use Prim.Native.Nat.{ℕ, _+_, _-_, _/_, _≤_, _<_}
 use mathlib.Core.Path.{_≡_, sym, _∙_}
 use mathlib.Core.Bool.{true, false}
 use native.Mathlib.Omega.{arith}
-use Rattle.levelling.specs.Frames.{rowOf, columnOf}
-use Rattle.grouping.specs.Dots.{frameOf, isShort}
+use Rattle.levelling.specs.rules.Frames.{rowOf, columnOf}
+use Rattle.grouping.specs.stages.Dots.{frameBy, isShort}
 use Rattle.grouping.proofs.SpanLaws.{turn-low, turn-high}
 use Rattle.grouping.proofs.spans.turn.Statement.{statement}
 use Rattle.grouping.proofs.spans.turn.Tie as tie
 
 abbrev Inv-loop : tie.InvT-loop
-Inv-loop shear shear-x sides r falls start y low₀ high₀ low high = (low ≤ high) × (high ≤ sides .«page_w») × ((c : ℕ) → c < low → isShort r falls start (columnOf (frameOf (sides .«page_w») (sides .«page_h») (sides .w) (sides .h) shear shear-x) c y) (rowOf (frameOf (sides .«page_w») (sides .«page_h») (sides .w) (sides .h) shear shear-x) c y) ≡ true) × ((c : ℕ) → high ≤ c → c < sides .«page_w» → isShort r falls start (columnOf (frameOf (sides .«page_w») (sides .«page_h») (sides .w) (sides .h) shear shear-x) c y) (rowOf (frameOf (sides .«page_w») (sides .«page_h») (sides .w) (sides .h) shear shear-x) c y) ≡ false)
+Inv-loop shear shear-x sides r falls start y low₀ high₀ low high = (low ≤ high) × (high ≤ sides .«page_w») × ((c : ℕ) → c < low → isShort r falls start (columnOf (frameBy sides shear shear-x) c y) (rowOf (frameBy sides shear shear-x) c y) ≡ true) × ((c : ℕ) → high ≤ c → c < sides .«page_w» → isShort r falls start (columnOf (frameBy sides shear shear-x) c y) (rowOf (frameBy sides shear shear-x) c y) ≡ false)
 
 abbrev μ-loop : tie.MeasureT-loop
 μ-loop shear shear-x sides r falls start y low₀ high₀ low high = high - low

@@ -3,9 +3,10 @@ use mathlib.Core.Path.{sym, subst}
 use lib.ListN.{getD, take, length-take}
 use lib.Seq.{length-take-le}
 use Rattle.memory.proofs.TableLaws.{length-table}
-use Rattle.sorting.specs.Counts.{CountsOf}
-use Rattle.grouping.specs.Words.{lineWords, fields}
-use Rattle.grouping.proofs.ListLaws.{each-table}
+use Rattle.sorting.specs.stages.Counts.{CountsOf}
+use Rattle.smoothing.specs.rules.LineRecords.{lineWords}
+use Rattle.memory.specs.rules.Records.{fields}
+use Rattle.memory.proofs.ListLaws.{each-table}
 use Rattle.grouping.proofs.MedianWords.{counts-of}
 use native.Mathlib.Omega.{arith}
 use borrow.Author.Needs.{needs}

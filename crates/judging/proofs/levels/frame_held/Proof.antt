@@ -1,7 +1,7 @@
 -- `judging::levels::frame_held` meets its contract. Assumes nothing.
 use Rattle.judging.proofs.LimitLaws.{point-sides, point-within}
 use mathlib.Core.Path.{ap, _∙_}
-use Rattle.levelling.specs.Frames.{Frame}
+use Rattle.levelling.specs.rules.Frames.{Frame}
 use Rattle.judging.proofs.LevelLaws.{frame-by-words}
 use borrow.Author.Needs.{needs}
 use Rattle.judging.proofs.levels.frame_held.Statement.{statement}

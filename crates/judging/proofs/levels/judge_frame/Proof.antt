@@ -1,7 +1,7 @@
 -- `judging::levels::judge_frame` meets its contract: the frame, then what hangs on it. Assumes nothing.
 use Rattle.judging.proofs.LimitLaws.{point-sides, point-within, point-few, point-held}
 use mathlib.Core.Path.{sym, ap, _∙_}
-use Rattle.levelling.specs.Frames.{Frame}
+use Rattle.levelling.specs.rules.Frames.{Frame}
 use Rattle.judging.proofs.LevelLaws.{frame-by-words, frame-short, frame-room, frame-judged}
 use borrow.Author.Needs.{needs}
 use Rattle.judging.proofs.levels.judge_frame.Statement.{statement}

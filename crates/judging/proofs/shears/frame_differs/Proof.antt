@@ -1,5 +1,5 @@
 -- `judging::shears::frame_differs` meets its contract: both shears, then the frame words. Assumes nothing.
-use Rattle.judging.proofs.ShearTests.{rows-asked, columns-asked, negated, differs-is}
+use Rattle.judging.proofs.ShearTests.{rows-asked, columns-asked, differs-is}
 use borrow.Author.Needs.{needs}
 use Rattle.judging.proofs.shears.frame_differs.Statement.{statement}
 use Rattle.judging.proofs.shears.frame_differs.Tie as tie
@@ -34,7 +34,7 @@ part-is-shear-end-2 c = search needs
 
 is-shear-requires-2 : tie.Need-is-shear-requires-2
 is-shear-requires-2 c κs =
-    (columns-asked (c .before .before .before .before .args .store .now) (c .before .before .before .before .args .page-w) (c .before .before .before .before .args .page-h) (c .before .before .before .before .args .slope) (c .before .before .before .before .pre .0) (c .before .before .before .before .pre .1 .0) (c .before .before .before .before .args .w) (c .before .before .before .before .args .h) (c .before .before .before .before .pre .1 .1 .0 .0) (c .before .before .before .before .pre .1 .1 .0 .1) (c .before .before .before .before .pre .1 .1 .0 .2) (c .before .before .before .before .pre .1 .1 .1 .0) (c .before .before .before .before .pre .1 .1 .1 .1) (c .before .before .before .before .pre .1 .1 .1 .2), negated (c .before .before .before .before .args .store .now) (c .before .before .before .before .args .page-w) (c .before .before .before .before .args .page-h) (c .before .before .before .before .args .slope) (c .before .before .before .before .pre .0) (c .before .before .before .before .pre .1 .0) (c .before .before .before .before .args .w) (c .before .before .before .before .args .h) (c .before .before .before .before .pre .1 .1 .0 .0) (c .before .before .before .before .pre .1 .1 .0 .1) (c .before .before .before .before .pre .1 .1 .0 .2) (c .before .before .before .before .pre .1 .1 .1 .0) (c .before .before .before .before .pre .1 .1 .1 .1) (c .before .before .before .before .pre .1 .1 .1 .2))
+    (columns-asked (c .before .before .before .before .args .store .now) (c .before .before .before .before .args .page-w) (c .before .before .before .before .args .page-h) (c .before .before .before .before .args .slope) (c .before .before .before .before .pre .0) (c .before .before .before .before .pre .1 .0) (c .before .before .before .before .args .w) (c .before .before .before .before .args .h) (c .before .before .before .before .pre .1 .1 .0 .0) (c .before .before .before .before .pre .1 .1 .0 .1) (c .before .before .before .before .pre .1 .1 .0 .2) (c .before .before .before .before .pre .1 .1 .1 .0) (c .before .before .before .before .pre .1 .1 .1 .1) (c .before .before .before .before .pre .1 .1 .1 .2), c .before .before .before .before .pre .1 .0)
 
 shared-slice-read-wide : tie.Need-shared-slice-read-wide
 shared-slice-read-wide c = search needs

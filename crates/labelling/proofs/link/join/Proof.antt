@@ -2,7 +2,7 @@ use borrow.Author.Needs.{needs}
 use native.Mathlib.Omega.{arith}
 use mathlib.Core.Path.{sym, _∙_}
 use native.Mathlib.Nat.{le-trans}
-use Rattle.labelling.proofs.ParentLaws.{joined-same, joined-roots}
+use Rattle.union_find.proofs.ParentLaws.{joined-same, joined-roots}
 use Rattle.labelling.proofs.link.join.Statement.{statement}
 use Rattle.labelling.proofs.link.join.Tie as tie
 

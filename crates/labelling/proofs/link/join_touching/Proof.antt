@@ -5,7 +5,7 @@ use mathlib.Core.List.{List}
 use lib.ListN.{length, getD}
 use Prim.Native.Nat.{ℕ, _+_, _-_, _*_, _≤_, _<_, max}
 use Rattle.memory.proofs.PartLaws.{tail-part, tail-put}
-use Rattle.labelling.specs.Forests.{Joined}
+use Rattle.union_find.specs.stages.Forests.{Joined}
 use Rattle.labelling.proofs.RunLinkLaws.{Sweep, kept-word, sweep-first, sweep-asks, sweep-more, sweep-stop, sweep-end}
 use Rattle.labelling.proofs.link.join_touching.Statement.{statement}
 use Rattle.labelling.proofs.link.join_touching.Tie as tie

@@ -2,7 +2,7 @@ use borrow.Author.Needs.{needs}
 use native.Mathlib.Omega.{arith}
 use Prim.Native.Nat.{ℕ, _-_, _≤_, _<_}
 use native.Mathlib.Nat.{le-refl}
-use Rattle.labelling.specs.InkRuns.{endOf}
+use Rattle.labelling.specs.stages.InkRuns.{endOf}
 use Rattle.labelling.proofs.RangeLaws.{range-none, range-more}
 use Rattle.labelling.proofs.RunLinkLaws.{before-end}
 use Rattle.labelling.proofs.link.skip_left.Statement.{statement}

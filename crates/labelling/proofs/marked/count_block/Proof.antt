@@ -1,9 +1,9 @@
 use borrow.Author.Needs.{needs}
 use borrow.Author.Tests.{eqb-true}
 use mathlib.Core.Path.{sym, ap, _∙_}
-use Rattle.memory.specs.Lists.{countIf}
-use Rattle.memory.specs.Masks.{isInk}
-use Rattle.labelling.specs.Marked.{passing}
+use Rattle.memory.specs.rules.Lists.{countIf}
+use Rattle.memory.specs.rules.Masks.{isInk}
+use Rattle.labelling.specs.stages.Marked.{passing}
 use Rattle.labelling.proofs.MarkedLaws.{passing-blank}
 use Rattle.labelling.proofs.marked.count_block.Statement.{statement}
 use Rattle.labelling.proofs.marked.count_block.Tie as tie

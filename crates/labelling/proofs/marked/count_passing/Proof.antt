@@ -3,9 +3,9 @@ use native.Mathlib.Omega.{arith}
 use mathlib.Core.Path.{_≡_, ap, _∙_}
 use Prim.Native.Nat.{_-_, _≤_}
 use lib.ListN.{getD}
-use Rattle.memory.specs.Lists.{countIf}
-use Rattle.memory.specs.Masks.{isInk}
-use Rattle.labelling.specs.Marked.{passes, passing}
+use Rattle.memory.specs.rules.Lists.{countIf}
+use Rattle.memory.specs.rules.Masks.{isInk}
+use Rattle.labelling.specs.stages.Marked.{passes, passing}
 use Rattle.labelling.proofs.ExtractLaws.{ink-none}
 use Rattle.labelling.proofs.MarkedLaws.{bit-least, passing-more}
 use Rattle.labelling.proofs.marked.count_passing.Statement.{statement}

@@ -4,8 +4,8 @@ use mathlib.Core.Path.{_≡_, ap, _∙_}
 use Prim.Native.Nat.{_-_, _≤_}
 use lib.ListN.{getD}
 use lib.Dec.{eqb, ltb}
-use Rattle.memory.specs.Lists.{countIf}
-use Rattle.memory.specs.Masks.{isInk}
+use Rattle.memory.specs.rules.Lists.{countIf}
+use Rattle.memory.specs.rules.Masks.{isInk}
 use Rattle.labelling.proofs.ExtractLaws.{ink-none}
 use Rattle.labelling.proofs.MarkedLaws.{byte-small, byte-more}
 use Rattle.labelling.proofs.marked.is_blank.Statement.{statement}

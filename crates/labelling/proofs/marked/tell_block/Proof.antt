@@ -1,7 +1,7 @@
 use borrow.Author.Needs.{needs}
 use mathlib.Core.Path.{sym, subst}
-use Rattle.labelling.specs.Extraction.{TurnsTold}
-use Rattle.labelling.specs.Marked.{passing}
+use Rattle.labelling.specs.stages.Extraction.{TurnsTold}
+use Rattle.labelling.specs.stages.Marked.{passing}
 use Rattle.labelling.proofs.marked.tell_block.Statement.{statement}
 use Rattle.labelling.proofs.marked.tell_block.Tie as tie
 

@@ -3,8 +3,8 @@ use native.Mathlib.Omega.{arith}
 use mathlib.Core.Path.{_≡_, subst}
 use Prim.Native.Nat.{_-_, _≤_}
 use lib.ListN.{length}
-use Rattle.labelling.specs.Extraction.{TurnsTold}
-use Rattle.labelling.specs.Marked.{passing}
+use Rattle.labelling.specs.stages.Extraction.{TurnsTold}
+use Rattle.labelling.specs.stages.Marked.{passing}
 use Rattle.labelling.proofs.ToldLaws.{told-none, told-more}
 use Rattle.labelling.proofs.MarkedLaws.{passing-turn}
 use Rattle.labelling.proofs.marked.tell_passing.Statement.{statement}

@@ -2,7 +2,7 @@ use borrow.Author.Needs.{needs}
 use native.Mathlib.Omega.{arith}
 use Prim.Native.Nat.{_-_, _≤_}
 use native.Mathlib.Nat.{le-refl}
-use Rattle.labelling.specs.Painting.{Filled}
+use Rattle.labelling.specs.stages.Painting.{Filled}
 use Rattle.labelling.proofs.PaintLaws.{fill-none, fill-more, fill-done}
 use Rattle.labelling.proofs.paint.fill.Statement.{statement}
 use Rattle.labelling.proofs.paint.fill.Tie as tie

@@ -1,7 +1,7 @@
 use borrow.Author.Needs.{needs}
 use native.Mathlib.Omega.{arith}
 use Prim.Native.Nat.{_-_}
-use Rattle.labelling.specs.Painting.{numbered}
+use Rattle.labelling.specs.stages.Painting.{numbered}
 use Rattle.labelling.proofs.RowPaintLaws.{RowSweep, row-none, row-room, row-long, row-done, row-start, row-span, row-asks, row-more}
 use Rattle.labelling.proofs.paint.paint_row.Statement.{statement}
 use Rattle.labelling.proofs.paint.paint_row.Tie as tie

@@ -5,7 +5,7 @@ use Prim.Native.Nat.{_/_, _-_}
 use native.Mathlib.Nat.{le-trans}
 use lib.ListN.{drop}
 use Rattle.memory.proofs.PartLaws.{tail-part}
-use Rattle.labelling.specs.Painting.{numbered}
+use Rattle.labelling.specs.stages.Painting.{numbered}
 use Rattle.labelling.proofs.RowPaintLaws.{PlaneSweep, plane-none, plane-long, plane-fits, plane-read, plane-ahead, plane-more, plane-on, plane-done}
 use Rattle.labelling.proofs.paint.paint_runs.Statement.{statement}
 use Rattle.labelling.proofs.paint.paint_runs.Tie as tie

@@ -3,8 +3,8 @@ use native.Mathlib.Omega.{arith}
 use mathlib.Core.Path.{refl}
 use Prim.Native.Nat.{_+_, _-_, _*_, _≤_}
 use lib.ListN.{getD, take}
-use Rattle.labelling.specs.Painting.{numbered, PaintsOn}
-use Rattle.labelling.specs.Spans.{SpanOf}
+use Rattle.labelling.specs.stages.Painting.{numbered, PaintsOn}
+use Rattle.labelling.specs.stages.Spans.{SpanOf}
 use Rattle.labelling.proofs.SpanLaws.{place-columns, place-ends, place-dots}
 use Rattle.labelling.proofs.RowPaintLaws.{paints-then, paints-room, paints-long, first-here, first-sum, first-asks, first-painted, next-here, next-sum, next-asks, next-painted}
 use Rattle.labelling.proofs.paint.paint_span.Statement.{statement}

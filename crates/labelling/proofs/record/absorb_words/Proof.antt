@@ -3,7 +3,7 @@ use native.Mathlib.Omega.{arith}
 use mathlib.Core.Path.{_≡_, sym, ap, _∙_}
 use Prim.Native.Nat.{_+_, _*_, _^_}
 use lib.ListN.{getD, length, length-set}
-use Rattle.labelling.specs.RecordWords.{longAdded}
+use Rattle.labelling.specs.stages.RecordParts.{longAdded}
 use Rattle.labelling.proofs.AbsorbLaws.{between-small}
 use Rattle.labelling.proofs.NineLaws.{box-long, sum-first, sum-long, sum-second, nine-absorbed}
 use Rattle.labelling.proofs.record.absorb_words.Statement.{statement}

@@ -3,7 +3,7 @@ use native.Mathlib.Omega.{arith}
 use mathlib.Core.Path.{_≡_, ap, _∙_}
 use Prim.Native.Nat.{_+_, _*_, _/_, _%_}
 use lib.ListN.{set, length-set}
-use Rattle.labelling.specs.RecordWords.{longAt}
+use Rattle.labelling.specs.stages.RecordParts.{longAt}
 use Rattle.labelling.proofs.record.add_long.Statement.{statement}
 use Rattle.labelling.proofs.record.add_long.Tie as tie
 

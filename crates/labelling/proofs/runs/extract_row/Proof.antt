@@ -4,7 +4,7 @@ use mathlib.Core.Path.{_∙_}
 use Prim.Native.Nat.{_-_, _+_, _%_}
 use native.Mathlib.Nat.{le-refl}
 use lib.ListN.{length, length-set}
-use Rattle.labelling.specs.Extraction.{RowScan}
+use Rattle.labelling.specs.stages.Extraction.{RowScan}
 use Rattle.labelling.proofs.ExtractLaws.{scan-start, scan-asks, scan-blank, scan-room-end, scan-ink}
 use Rattle.labelling.proofs.runs.extract_row.Statement.{statement}
 use Rattle.labelling.proofs.runs.extract_row.Tie as tie

@@ -4,8 +4,8 @@ use lib.ListN.{getD, length}
 use lib.Dec.{eqb}
 use mathlib.Core.Path.{_≡_, ap, _∙_}
 use Prim.Native.Nat.{_-_, _≤_}
-use Rattle.memory.specs.Lists.{countIf}
-use Rattle.memory.specs.Masks.{isInk}
+use Rattle.memory.specs.rules.Lists.{countIf}
+use Rattle.memory.specs.rules.Masks.{isInk}
 use Rattle.labelling.proofs.ExtractLaws.{ink-none, ink-more, turn-small}
 use Rattle.labelling.proofs.runs.ink_count.Statement.{statement}
 use Rattle.labelling.proofs.runs.ink_count.Tie as tie

@@ -2,8 +2,8 @@ use borrow.Author.Needs.{needs}
 use mathlib.Core.Path.{ap, _∙_}
 use Prim.Native.Nat.{_+_, _-_}
 use lib.ListN.{take, drop}
-use Rattle.memory.specs.Lists.{countIf}
-use Rattle.memory.specs.Masks.{isInk}
+use Rattle.memory.specs.rules.Lists.{countIf}
+use Rattle.memory.specs.rules.Masks.{isInk}
 use Rattle.labelling.proofs.ExtractLaws.{block-still, block-long}
 use Rattle.labelling.proofs.ToldLaws.{told-room, written-scanned}
 use Rattle.labelling.proofs.runs.scan_block.Statement.{statement}

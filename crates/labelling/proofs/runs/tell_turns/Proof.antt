@@ -3,7 +3,7 @@ use native.Mathlib.Omega.{arith}
 use Prim.Native.Nat.{_-_, _≤_}
 use mathlib.Core.Path.{_≡_, subst}
 use lib.ListN.{length}
-use Rattle.labelling.specs.Extraction.{TurnsTold}
+use Rattle.labelling.specs.stages.Extraction.{TurnsTold}
 use Rattle.labelling.proofs.ToldLaws.{told-none, told-more, turn-byte}
 use Rattle.labelling.proofs.runs.tell_turns.Statement.{statement}
 use Rattle.labelling.proofs.runs.tell_turns.Tie as tie

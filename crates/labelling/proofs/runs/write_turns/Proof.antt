@@ -2,7 +2,7 @@ use borrow.Author.Needs.{needs}
 use native.Mathlib.Omega.{arith}
 use Prim.Native.Nat.{_-_, _≤_}
 use mathlib.Core.Path.{_≡_, subst}
-use Rattle.labelling.specs.Extraction.{ToldWritten}
+use Rattle.labelling.specs.stages.Extraction.{ToldWritten}
 use Rattle.labelling.proofs.ToldLaws.{written-none, written-room, written-more}
 use Rattle.labelling.proofs.runs.write_turns.Statement.{statement}
 use Rattle.labelling.proofs.runs.write_turns.Tie as tie

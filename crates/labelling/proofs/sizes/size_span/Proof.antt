@@ -2,8 +2,8 @@ use borrow.Author.Needs.{needs}
 use native.Mathlib.Omega.{arith}
 use mathlib.Core.Path.{sym, ap, _∙_, subst}
 use Prim.Native.Nat.{_-_, _*_, _≤_}
-use Rattle.memory.specs.Limits.{maxMaskDots}
-use Rattle.labelling.specs.Sizes.{sizeWords}
+use Rattle.memory.specs.rules.Limits.{maxMaskDots}
+use Rattle.labelling.specs.stages.Sizes.{sizeWords}
 use Rattle.labelling.proofs.SizeSweepLaws.{five-long, span-sized, size-new, size-there}
 use Rattle.labelling.proofs.sizes.size_span.Statement.{statement}
 use Rattle.labelling.proofs.sizes.size_span.Tie as tie

@@ -3,7 +3,7 @@ use native.Mathlib.Omega.{arith}
 use mathlib.Core.Path.{refl}
 use Prim.Native.Nat.{ℕ, _+_, _-_, _*_}
 use lib.ListN.{getD, take}
-use Rattle.labelling.specs.Spans.{SpanOf}
+use Rattle.labelling.specs.stages.Spans.{SpanOf}
 use Rattle.labelling.proofs.SpanLaws.{place-ends, behind-long, behind-goes, span-room, first-place, first-span, next-place, next-span}
 use Rattle.labelling.proofs.span.measure_span.Statement.{statement}
 use Rattle.labelling.proofs.span.measure_span.Tie as tie

@@ -2,7 +2,7 @@ use borrow.Author.Needs.{needs}
 use native.Mathlib.Omega.{arith}
 use mathlib.Core.Path.{refl, sym, ap, _∙_, subst}
 use Prim.Native.Nat.{_-_, _*_}
-use Rattle.labelling.specs.Tallying.{Small}
+use Rattle.labelling.specs.stages.Tallying.{Small}
 use Rattle.labelling.proofs.TallyLaws.{nine-long, span-tallied, held-none, held-words}
 use Rattle.labelling.proofs.tally.tally_span.Statement.{statement}
 use Rattle.labelling.proofs.tally.tally_span.Tie as tie

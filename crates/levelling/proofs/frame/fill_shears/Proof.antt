@@ -3,14 +3,12 @@ use Prim.Native.Nat.{_-_}
 use native.Mathlib.Omega.{arith}
 use borrow.Author.Needs.{needs}
 use lib.ListN.{length, take, drop, length-take, length-drop}
-use lib.Ieee.{neg}
-use Rattle.memory.specs.Lists.{table}
-use Rattle.memory.specs.Words.{over}
+use Rattle.memory.specs.rules.Lists.{table}
+use Rattle.memory.specs.rules.Words.{over}
 use Rattle.memory.proofs.PartLaws.{over-behind}
-use Rattle.rounding.specs.Drift.{drift}
-use Rattle.levelling.specs.Shears.{shearOf}
-use Rattle.levelling.specs.Frames.{frame}
-use Rattle.levelling.proofs.SlopeLaws.{within-negated}
+use Rattle.rounding.specs.rules.Drift.{driftX}
+use Rattle.levelling.specs.rules.Shears.{shearOf}
+use Rattle.levelling.specs.rules.Frames.{frame}
 use Rattle.levelling.proofs.FrameLaws.{frame-rows, shear-is, shear-x-is, length-shears}
 use Rattle.levelling.proofs.frame.fill_shears.Statement.{statement}
 use Rattle.levelling.proofs.frame.fill_shears.Tie as tie
@@ -41,7 +39,6 @@ fill-shear-requires-2 c κs = let f = c .before .before .before in
     let rows = frame-rows w (p .args .page-h) (p .args .slope) (p .pre .0) (p .pre .1 .0) in
     let e = z .frame-size .ensures .0 .1 in
     let one = p .pre .1 .0 in
-    let turned = within-negated (p .args .slope) one in
     ((omega (arith, rows, e), omega (arith, rows, e), simp (length-take, length-drop) (omega (arith, e, p .pre .1 .1, f .fill-shear .kept))), search needs)
 
 same-length : tie.Need-same-length
@@ -55,8 +52,8 @@ returns c = let g = c .before .before in
     let w = p .args .page-w in
     let h = p .args .page-h in
     let slope = p .args .slope in
-    let x : shearOf (table (drift (neg slope)) (z .frame-size .result .h)) ≡ frame w h slope .shear-x =
-    ap (λ n. shearOf (table (drift (neg slope)) n)) (z .frame-size .ensures .0 .1) ∙ sym (shear-x-is w h slope (p .pre .0) (p .pre .1 .0)) in
+    let x : shearOf (table (driftX slope) (z .frame-size .result .h)) ≡ frame w h slope .shear-x =
+    ap (λ n. shearOf (table (driftX slope) n)) (z .frame-size .ensures .0 .1) ∙ sym (shear-x-is w h slope (p .pre .0) (p .pre .1 .0)) in
     let one = f .fill-shear .last .0 in
     over-behind (frame w h slope .shear) (frame w h slope .shear-x) (p .args .words .now) one (g .fill-shear2 .last .0) w
     (length-shears w h slope (p .pre .0) (p .pre .1 .0) .0)

@@ -1,9 +1,10 @@
 use mathlib.Core.Path.{_≡_, _∙_}
 use borrow.Author.Needs.{needs}
-use Rattle.labelling.specs.declared.rect.Rect.{Rect}
-use Rattle.labelling.specs.Rects.{union}
-use Rattle.levelling.specs.Frames.{Frame, frameOf}
-use Rattle.levelling.specs.Mapping.{dotToPage, rectToPage}
+use Rattle.memory.specs.declared.rect.Rect.{Rect}
+use Rattle.memory.specs.rules.Rects.{union}
+use Rattle.levelling.specs.rules.Frames.{Frame, frameOf}
+use Rattle.levelling.specs.stages.Corners.{dotToPage}
+use Rattle.levelling.specs.rules.Mapping.{rectToPage}
 use Rattle.levelling.proofs.MappingLaws.{rect-by-corners}
 use Rattle.levelling.proofs.mapping.rect_to_page.Statement.{statement}
 use Rattle.levelling.proofs.mapping.rect_to_page.Tie as tie

@@ -1,40 +1,28 @@
-use mathlib.Core.Path.{_≡_, refl, sym, ap, _∙_, subst}
+use mathlib.Core.Path.{_≡_, refl, ap, _∙_}
 use mathlib.Core.List.{_++_}
-use Prim.Native.Nat.{ℕ, _+_, _-_, _^_, _≤_, _<_, zero-le}
+use Prim.Native.Nat.{_+_, _-_, _≤_, zero-le}
 use native.Mathlib.Omega.{arith}
 use borrow.Author.Needs.{needs}
-use lib.ListN.{length, take, drop, length-take, length-drop}
 use borrow.Rule.Slice.PartMut.{putMid}
-use lib.Ieee.{Float, lt}
-use Rattle.memory.specs.Lists.{table}
+use lib.ListN.{length, take, drop, length-take, length-drop}
+use mir.Syntax.{w64}
+use mir.Val.{toZ, ofZ}
+use Rattle.memory.specs.rules.Lists.{table}
 use Rattle.memory.proofs.TableLaws.{table-filled}
 use Rattle.memory.proofs.PartLaws.{part-filled}
-use Rattle.rounding.specs.Rounding.{positiveZero}
-use Rattle.rounding.proofs.DriftLaws.{drift-rises}
-use Rattle.rounding.specs.Drift.{WithinOne, drift}
-use Rattle.levelling.specs.Shears.{shearOf}
-use Rattle.levelling.proofs.SlopeLaws.{driftSize, entryBy, abs, steep-within, steep-not-below}
-use Rattle.levelling.proofs.FrameLaws.{shear-by-test}
+use Rattle.levelling.specs.stages.Entries.{entryOf}
+use Rattle.levelling.proofs.ShearTests.{least-of, shear-filled}
 use Rattle.levelling.proofs.shears.fill_shear.Statement.{statement}
 use Rattle.levelling.proofs.shears.fill_shear.Tie as tie
 
 abbrev Inv-loop : tie.InvT-loop
-Inv-loop out₀ n slope falls steep last c₀ out c = (c ≤ n) × (out ≡ table (entryBy falls steep last) c ++ drop c out₀) × (length out ≡ length out₀)
+Inv-loop out₀ which n slope least c₀ out c = (c ≤ n) × (out ≡ table (entryOf which slope (toZ w64 least)) c ++ drop c out₀) × (length out ≡ length out₀)
 
 abbrev μ-loop : tie.MeasureT-loop
-μ-loop out₀ n slope falls steep last c₀ out c = n - c
+μ-loop out₀ which n slope least c₀ out c = n - c
 
-abs-requires : tie.Need-abs-requires Inv-loop μ-loop
-abs-requires c κs = search needs
-
-sub-drift-size : tie.Need-sub-drift-size Inv-loop μ-loop
-sub-drift-size c = omega arith
-
-drift-size-requires : tie.Need-drift-size-requires Inv-loop μ-loop
-drift-size-requires c κs = let p = c .before .before in
-    let s = p .args .slope in
-    let e = c .abs .ensures in
-    (omega (arith, p .pre .0), (steep-within s (c .abs .result) (p .pre .1) e, steep-not-below s (c .abs .result) e))
+least-drift-requires : tie.Need-least-drift-requires Inv-loop μ-loop
+least-drift-requires c κs = search needs
 
 loop-holds : tie.Need-loop-holds Inv-loop μ-loop
 loop-holds c = (zero-le, unfold table in refl, refl)
@@ -69,16 +57,12 @@ part-fill-entries-end c = omega (arith, c .step-entries .ensures .0)
 fill-entries-requires : tie.Need-fill-entries-requires Inv-loop μ-loop
 fill-entries-requires c κs = let t = c .before in
     let p = t .before .before in
-    let u = p .before .before in
-    let q = u .before .before in
-    let e = u .abs .ensures in
-    let steep = u .abs .result in
-    let w = steep-within (q .args .slope) steep (q .pre .1) e in
+    let d = p .before in
+    let q = d .before .before in
     let m = t .step-entries .result in
-    let some = t .step-entries .ensures .1 (omega arith) in
-    let k : p .loop .c + (m - 1) ≤ q .args .n - 1 = omega (arith, some, t .step-entries .ensures .0) in (
-      (some, omega (arith, q .pre .0, t .step-entries .ensures .0), simp (length-take, length-drop) (omega (arith, q .pre .0, t .step-entries .ensures .0))),
-      (w, (steep-not-below (q .args .slope) steep e, subst (λ z. driftSize steep (p .loop .c + (m - 1)) ≤ z) (sym (p .before .drift-size .ensures)) (drift-rises steep w (p .loop .c + (m - 1)) (q .args .n - 1) k (omega (arith, q .pre .0))))),
+    let read : toZ w64 (ofZ w64 (d .least-drift .result)) ≡ d .least-drift .result = search needs in (
+      (t .step-entries .ensures .1 (omega arith), simp (length-take, length-drop) (omega (arith, q .pre .0, t .step-entries .ensures .0))),
+      least-of (q .args .which) (q .args .slope) (q .args .n) _ (q .pre .1) (q .pre .0 .0) (q .pre .0 .1) (read ∙ d .least-drift .ensures) (p .loop .c + m) (omega (arith, t .step-entries .ensures .0)),
     )
 
 add-c : tie.Need-add-c Inv-loop μ-loop
@@ -93,7 +77,7 @@ loop-again : tie.Need-loop-again Inv-loop μ-loop
 loop-again c = let g = c .before .before in
     let t = g .before .before in
     let p = t .before .before in
-    let q = p .before .before .before .before in
+    let q = p .before .before .before in
     let m = t .step-entries .result in
     let v = g .fill-entries .last .0 in
     let k : p .loop .c + m - p .loop .c ≡ m = omega arith in
@@ -106,17 +90,13 @@ loop-again c = let g = c .before .before in
 same-length : tie.Need-same-length Inv-loop μ-loop
 same-length c = omega arith
 
-filled : (slope steep : Float) (last n : ℕ) → WithinOne slope → 0 < n → n ≤ 2 ^ 15 → steep ≡ abs slope → last ≡ driftSize steep (n - 1)
-    → table (entryBy (lt slope positiveZero) steep last) n ≡ shearOf (table (drift slope) n)
-filled slope steep last n w some few e f =
-    (λ i. table (entryBy (lt slope positiveZero) (e i) ((f ∙ ap (λ s. driftSize s (n - 1)) e) i)) n) ∙ shear-by-test slope w n some few
-
 returns : tie.Need-returns Inv-loop μ-loop
 returns c = let p = c .before in
-    let u = p .before .before in
-    let q = u .before .before in
+    let d = p .before in
+    let q = d .before .before in
+    let read : toZ w64 (ofZ w64 (d .least-drift .result)) ≡ d .least-drift .result = search needs in
     table-filled _ (q .args .out .now) (p .loop .out) _ (p .loop .c) (q .args .n) (p .loop .inv .1) (omega arith)
-    (filled (q .args .slope) (u .abs .result) (p .before .drift-size .result) (q .args .n) (q .pre .1) (q .pre .0 .0) (q .pre .0 .1) (u .abs .ensures) (p .before .drift-size .ensures))
+    (shear-filled (q .args .which) (q .args .slope) (q .args .n) _ (q .pre .1) (q .pre .0 .0) (q .pre .0 .1) (read ∙ d .least-drift .ensures))
 
 pub fill-shear-spec : {M : Type 1} → statement M
 fill-shear-spec =
@@ -124,9 +104,7 @@ fill-shear-spec =
     (tie.spec
     Inv-loop
     μ-loop
-    abs-requires
-    sub-drift-size
-    drift-size-requires
+    least-drift-requires
     loop-holds
     sub-step-entries
     step-entries-requires

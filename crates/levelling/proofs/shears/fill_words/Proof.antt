@@ -3,7 +3,7 @@ use mathlib.Core.List.{_++_}
 use Prim.Native.Nat.{_-_, _≤_, zero-le}
 use native.Mathlib.Omega.{arith}
 use lib.ListN.{length, drop, length-set}
-use Rattle.memory.specs.Lists.{table}
+use Rattle.memory.specs.rules.Lists.{table}
 use Rattle.memory.proofs.TableLaws.{table-more, table-whole}
 use Rattle.levelling.proofs.shears.fill_words.Statement.{statement}
 use Rattle.levelling.proofs.shears.fill_words.Tie as tie

@@ -1,34 +1,25 @@
 -- `levelling::shears::is_shear` meets its contract: the words so far are the entries. Assumes nothing.
-use mathlib.Core.Path.{_≡_, sym, _∙_, subst}
+use mathlib.Core.Path.{_≡_, sym, _∙_}
 use Prim.Native.Nat.{ℕ, _+_, _-_, _≤_, _<_, zero-le}
 use native.Mathlib.Omega.{arith}
 use borrow.Author.Needs.{needs}
-use lib.ListN.{getD, length}
-use Rattle.rounding.proofs.DriftLaws.{drift-rises}
-use Rattle.levelling.proofs.SlopeLaws.{driftSize, entryBy, steep-within, steep-not-below}
+use lib.ListN.{getD}
+use mir.Syntax.{w64}
+use mir.Val.{toZ, ofZ}
 use Rattle.memory.proofs.WordLaws.{one-more}
-use Rattle.levelling.proofs.ShearTests.{shear-same, shear-other}
+use Rattle.levelling.specs.stages.Entries.{entryOf}
+use Rattle.levelling.proofs.ShearTests.{least-of, shear-same, shear-other}
 use Rattle.levelling.proofs.shears.is_shear.Statement.{statement}
 use Rattle.levelling.proofs.shears.is_shear.Tie as tie
 
 abbrev Inv-loop : tie.InvT-loop
-Inv-loop words n slope falls steep last c₀ c = (c ≤ n) × ((i : ℕ) → i < c → getD words i 0 ≡ entryBy falls steep last i)
+Inv-loop words which n slope least c₀ c = (c ≤ n) × ((i : ℕ) → i < c → getD words i 0 ≡ entryOf which slope (toZ w64 least) i)
 
 abbrev μ-loop : tie.MeasureT-loop
-μ-loop words n slope falls steep last c₀ c = n - c
+μ-loop words which n slope least c₀ c = n - c
 
-abs-requires : tie.Need-abs-requires Inv-loop μ-loop
-abs-requires c κs = search needs
-
-sub-drift-size : tie.Need-sub-drift-size Inv-loop μ-loop
-sub-drift-size c = omega arith
-
-drift-size-requires : tie.Need-drift-size-requires Inv-loop μ-loop
-drift-size-requires c κs =
-    let p = c .before .before in
-    let s = p .args .slope in
-    let e = c .abs .ensures in
-    (omega (arith, p .pre .0), (steep-within s (c .abs .result) (p .pre .1) e, steep-not-below s (c .abs .result) e))
+least-drift-requires : tie.Need-least-drift-requires Inv-loop μ-loop
+least-drift-requires c κs = search needs
 
 loop-holds : tie.Need-loop-holds Inv-loop μ-loop
 loop-holds c = (zero-le, λ i l. absurd (omega arith))
@@ -45,22 +36,18 @@ shared-slice-read-if1 c = omega arith
 shear-entry-requires : tie.Need-shear-entry-requires Inv-loop μ-loop
 shear-entry-requires c κs =
     let g = c .before .before in
-    let u = g .before .before in
-    let p = u .before .before in
-    let s = p .args .slope in
-    let e = u .abs .ensures in
-    let steep = u .abs .result in
-    let w = steep-within s steep (p .pre .1) e in
-    let k : g .loop .c ≤ p .args .n - 1 = omega arith in
-    (omega (arith, p .pre .0), (w, (steep-not-below s steep e, subst (λ z. driftSize steep (g .loop .c) ≤ z) (sym (g .before .drift-size .ensures)) (drift-rises steep w (g .loop .c) (p .args .n - 1) k (omega (arith, p .pre .0))))))
+    let m = g .before in
+    let p = m .before .before in
+    let read : toZ w64 (ofZ w64 (m .least-drift .result)) ≡ m .least-drift .result = search needs in
+    least-of (p .args .which) (p .args .slope) (p .args .n) _ (p .pre .1) (p .pre .0 .0) (p .pre .0 .1) (read ∙ m .least-drift .ensures) (g .loop .c + 1) (omega arith)
 
 returns : tie.Need-returns Inv-loop μ-loop
 returns c =
     let g = c .before .before .before .before in
-    let u = g .before .before in
-    let p = u .before .before in
-    let n = p .pre .0 in
-    shear-other (p .args .words .now) (p .args .slope) (u .abs .result) (g .before .drift-size .result) (p .args .n) (p .pre .1) (n .0) (n .1) (n .2) (u .abs .ensures) (g .before .drift-size .ensures)
+    let m = g .before in
+    let p = m .before .before in
+    let read : toZ w64 (ofZ w64 (m .least-drift .result)) ≡ m .least-drift .result = search needs in
+    shear-other (p .args .which) (p .args .slope) (p .args .n) _ (p .pre .1) (p .pre .0 .0) (p .pre .0 .1) (read ∙ m .least-drift .ensures) (p .args .words .now) (p .pre .0 .2)
     (g .loop .c) (omega arith) (λ q. c .if1 .taken (q ∙ sym (c .before .shear-entry .ensures)))
 
 add-c : tie.Need-add-c Inv-loop μ-loop
@@ -72,18 +59,16 @@ loop-less c = omega arith
 loop-again : tie.Need-loop-again Inv-loop μ-loop
 loop-again c =
     let g = c .before .before .before .before in
-    let u = g .before .before in
-    let p = u .before .before in
-    (omega arith, one-more (p .args .words .now) _ (g .loop .c) (g .loop .inv .1) (c .if1 .left ∙ c .before .shear-entry .ensures))
+    (omega arith, one-more (g .before .before .before .args .words .now) _ (g .loop .c) (g .loop .inv .1) (c .if1 .left ∙ c .before .shear-entry .ensures))
 
 returns-2 : tie.Need-returns-2 Inv-loop μ-loop
 returns-2 c =
     let g = c .before in
-    let u = g .before .before in
-    let p = u .before .before in
-    let n = p .pre .0 in
+    let m = g .before in
+    let p = m .before .before in
+    let read : toZ w64 (ofZ w64 (m .least-drift .result)) ≡ m .least-drift .result = search needs in
     let done : g .loop .c ≡ p .args .n = omega arith in
-    shear-same (p .args .words .now) (p .args .slope) (u .abs .result) (g .before .drift-size .result) (p .args .n) (p .pre .1) (n .0) (n .1) (n .2) (u .abs .ensures) (g .before .drift-size .ensures)
+    shear-same (p .args .which) (p .args .slope) (p .args .n) _ (p .pre .1) (p .pre .0 .0) (p .pre .0 .1) (read ∙ m .least-drift .ensures) (p .args .words .now) (p .pre .0 .2)
     (λ i l. g .loop .inv .1 i (omega arith))
 
 pub is-shear-spec : {M : Type 1} → statement M
@@ -92,9 +77,7 @@ is-shear-spec =
     (tie.spec
     Inv-loop
     μ-loop
-    abs-requires
-    sub-drift-size
-    drift-size-requires
+    least-drift-requires
     loop-holds
     cast-at
     mul-if1

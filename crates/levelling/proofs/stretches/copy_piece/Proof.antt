@@ -3,7 +3,7 @@ use native.Mathlib.Omega.{arith}
 use borrow.Author.Needs.{needs}
 use lib.ListN.{take, drop, length-take, length-drop}
 use lib.Seq.{take-all}
-use Rattle.memory.specs.Words.{over}
+use Rattle.memory.specs.rules.Words.{over}
 use Rattle.memory.proofs.PartLaws.{over-all}
 use Rattle.levelling.proofs.stretches.copy_piece.Statement.{statement}
 use Rattle.levelling.proofs.stretches.copy_piece.Tie as tie

@@ -3,9 +3,9 @@ use Prim.Native.Nat.{_-_, _^_, _≤_, _<_, zero-le}
 use native.Mathlib.Omega.{arith}
 use mir.Facts.{fits-32-64}
 use lib.ListN.{length, take, drop, getD, length-take, length-drop}
-use Rattle.memory.specs.Lists.{table}
+use Rattle.memory.specs.rules.Lists.{table}
 use Rattle.memory.proofs.TableLaws.{table-whole}
-use Rattle.levelling.specs.Moves.{Stretch}
+use Rattle.levelling.specs.stages.Moves.{Stretch}
 use Rattle.levelling.proofs.RowLaws.{RightTo, stretch-put}
 use Rattle.levelling.proofs.stretches.level_columns.Statement.{statement}
 use Rattle.levelling.proofs.stretches.level_columns.Tie as tie

@@ -4,7 +4,7 @@ use native.Mathlib.Omega.{arith}
 use borrow.Rule.Slice.PartMut.{putMid}
 use borrow.Author.Needs.{needs}
 use lib.ListN.{length, getD, take, drop, length-take, length-drop}
-use Rattle.levelling.specs.Frames.{frameOf}
+use Rattle.levelling.specs.rules.Frames.{frameOf}
 use Rattle.levelling.proofs.RowLaws.{row-put-by}
 use Rattle.levelling.proofs.stretches.level_row.Statement.{statement}
 use Rattle.levelling.proofs.stretches.level_row.Tie as tie

@@ -4,9 +4,9 @@ use Prim.Native.Nat.{_+_, _-_, _*_, _≤_, zero-le}
 use native.Mathlib.Nat.{zero-mul}
 use native.Mathlib.Omega.{arith}
 use lib.ListN.{length, take, drop, length-take, length-drop}
-use Rattle.memory.specs.Lists.{table}
+use Rattle.memory.specs.rules.Lists.{table}
 use Rattle.memory.proofs.PlaneLaws.{row-end}
-use Rattle.levelling.specs.Frames.{frameOf}
+use Rattle.levelling.specs.rules.Frames.{frameOf}
 use Rattle.levelling.proofs.RowLaws.{planeAt, rows-put, rows-all}
 use Rattle.levelling.proofs.stretches.level_rows.Statement.{statement}
 use Rattle.levelling.proofs.stretches.level_rows.Tie as tie

@@ -3,7 +3,7 @@ use Prim.Native.Nat.{_+_, _-_, _≤_}
 use native.Mathlib.Nat.{le-refl}
 use native.Mathlib.Omega.{arith}
 use lib.ListN.{length, length-set}
-use Rattle.levelling.specs.Moves.{Stretches}
+use Rattle.levelling.specs.stages.Moves.{Stretches}
 use Rattle.levelling.proofs.RowLaws.{stretches-more}
 use Rattle.levelling.proofs.stretches.stretch_ends.Statement.{statement}
 use Rattle.levelling.proofs.stretches.stretch_ends.Tie as tie

@@ -3,9 +3,9 @@ use Prim.Native.Nat.{_-_, _*_, _≤_, zero-le}
 use native.Mathlib.Omega.{arith}
 use borrow.Author.Needs.{needs}
 use lib.ListN.{length, take, drop, length-take, length-drop}
-use Rattle.memory.specs.Words.{over}
-use Rattle.levelling.specs.Frames.{frameOf}
-use Rattle.levelling.specs.Planes.{levelled}
+use Rattle.memory.specs.rules.Words.{over}
+use Rattle.levelling.specs.rules.Frames.{frameOf}
+use Rattle.levelling.specs.rules.Planes.{levelled}
 use Rattle.levelling.proofs.TileLaws.{Tiled, tiled-none, tiled-more, tiled-all, fits-again}
 use Rattle.levelling.proofs.tiles.level_by_tiles.Statement.{statement}
 use Rattle.levelling.proofs.tiles.level_by_tiles.Tie as tie

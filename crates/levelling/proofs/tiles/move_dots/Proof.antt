@@ -8,7 +8,7 @@ use mir.Syntax.{w32, w64}
 use mir.Val.{Fits}
 use mir.Facts.{fits-32-64, fits-lt}
 use lib.ListN.{length, getD, length-set}
-use Rattle.levelling.specs.Moves.{MovesPart}
+use Rattle.levelling.specs.stages.Moves.{MovesPart}
 use Rattle.levelling.proofs.TileLaws.{place-inside, part-none, dot-stored, dot-passed}
 use Rattle.levelling.proofs.tiles.move_dots.Statement.{statement}
 use Rattle.levelling.proofs.tiles.move_dots.Tie as tie

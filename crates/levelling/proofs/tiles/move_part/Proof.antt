@@ -2,8 +2,8 @@ use mathlib.Core.Path.{_≡_, refl, ap, _∙_}
 use Prim.Native.Nat.{_+_, _-_, _*_, _≤_, zero-le}
 use native.Mathlib.Omega.{arith}
 use lib.ListN.{length}
-use Rattle.levelling.specs.Frames.{frameOf}
-use Rattle.levelling.specs.Moves.{MovesPart, partly, orRange}
+use Rattle.levelling.specs.rules.Frames.{frameOf}
+use Rattle.levelling.specs.stages.Moves.{MovesPart, partly, orRange}
 use Rattle.levelling.proofs.TileLaws.{part-none, part-joined, fits-again}
 use Rattle.levelling.proofs.tiles.move_part.Statement.{statement}
 use Rattle.levelling.proofs.tiles.move_part.Tie as tie

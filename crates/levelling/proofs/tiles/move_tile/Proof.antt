@@ -5,8 +5,8 @@ use Prim.Native.Nat.{ℕ, _-_, _≤_, zero-le}
 use native.Mathlib.Omega.{arith}
 use lib.ListN.{length}
 use Rattle.memory.proofs.PlaneLaws.{row-end}
-use Rattle.levelling.specs.Frames.{frameOf}
-use Rattle.levelling.specs.Moves.{partly, orRows}
+use Rattle.levelling.specs.rules.Frames.{frameOf}
+use Rattle.levelling.specs.stages.Moves.{partly, orRows}
 use Rattle.levelling.proofs.TileLaws.{row-moved, fits-again}
 use Rattle.levelling.proofs.tiles.move_tile.Statement.{statement}
 use Rattle.levelling.proofs.tiles.move_tile.Tie as tie

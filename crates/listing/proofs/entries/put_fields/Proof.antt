@@ -2,7 +2,7 @@ use mathlib.Core.Path.{_≡_, refl, sym, ap, _∙_, subst}
 use mathlib.Core.List.{List}
 use Prim.Native.Nat.{ℕ, _+_, _-_, _≤_}
 use lib.ListN.{length, getD}
-use Rattle.memory.specs.Words.{wordAt}
+use Rattle.memory.specs.rules.Words.{wordAt}
 use Rattle.listing.specs.rules.Digits.{hex, joined}
 use Rattle.listing.specs.stages.Puts.{Put}
 use Rattle.listing.specs.rules.Sheets.{fieldCount, fieldsText, wordFrom}

@@ -5,10 +5,9 @@ use Prim.Native.Nat.{ℕ, _+_, _-_, _*_, _/_, _%_, _^_}
 use native.Mathlib.Omega.{arith}
 use lib.Dec.{eqb, eqb→eq}
 use lib.ListN.{getD}
-use Rattle.memory.specs.Lists.{table, upto}
+use Rattle.memory.specs.rules.Lists.{table, upto}
 use Rattle.listing.specs.rules.Sheets.{fieldDigits}
 use Rattle.listing.proofs.ComputedTable.{at}
-use native.Mathlib.Omega.{arith}
 use borrow.Author.Needs.{needs}
 use Rattle.listing.proofs.formats.field_digits.Statement.{statement}
 use Rattle.listing.proofs.formats.field_digits.Tie as tie

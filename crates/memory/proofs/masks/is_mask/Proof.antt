@@ -4,7 +4,7 @@ use mathlib.Core.Path.{_≡_, refl}
 use mathlib.Core.Logic.{⊎-elim}
 use native.Mathlib.Omega.{arith}
 use lib.ListN.{getD, length}
-use Rattle.memory.specs.Lists.{table, greatest}
+use Rattle.memory.specs.rules.Lists.{table, greatest}
 use Rattle.memory.proofs.GreatestLaws.{greatest-more}
 use Rattle.memory.proofs.MaskLaws.{mask-by-greatest}
 use Rattle.memory.proofs.masks.is_mask.Statement.{statement}

@@ -1,4 +1,4 @@
-use Rattle.memory.specs.Refusals.{refuseIf}
+use Rattle.memory.specs.rules.Refusals.{refuseIf}
 use Rattle.memory.proofs.refusals.refuse_if.Statement.{statement}
 use Rattle.memory.proofs.refusals.refuse_if.Tie as tie
 

@@ -3,7 +3,7 @@ use mathlib.Core.List.{_++_}
 use Prim.Native.Nat.{_-_, _≤_, zero-le}
 use native.Mathlib.Omega.{arith}
 use lib.ListN.{length, drop, length-set}
-use Rattle.memory.specs.Lists.{table}
+use Rattle.memory.specs.rules.Lists.{table}
 use Rattle.memory.proofs.TableLaws.{table-more, table-whole}
 use Rattle.memory.proofs.words.fill_bytes.Statement.{statement}
 use Rattle.memory.proofs.words.fill_bytes.Tie as tie

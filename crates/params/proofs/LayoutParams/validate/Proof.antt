@@ -1,6 +1,6 @@
 use mathlib.Core.Path.{ap}
 use mathlib.Core.Bool.{Bool, _&&_}
-use Rattle.params.specs.Valid.{extentOk, fallbackOk, fractionsOk, heightsOk, countsOk}
+use Rattle.params.specs.rules.Valid.{extentOk, fallbackOk, fractionsOk, heightsOk, countsOk}
 use Rattle.params.proofs.LayoutParams.validate.Statement.{statement}
 use Rattle.params.proofs.LayoutParams.validate.Tie as tie
 

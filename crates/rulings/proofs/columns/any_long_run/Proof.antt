@@ -2,8 +2,8 @@ use mathlib.Core.Bool.{true≢false}
 use Prim.Native.Nat.{_-_, _<_, _≤_, ℕ}
 use native.Mathlib.Nat.{le-refl}
 use native.Mathlib.Omega.{arith}
-use Rattle.extents.specs.Extents.{runThrough}
-use Rattle.rulings.specs.Sweeps.{widenedLine}
+use Rattle.extents.specs.rules.Extents.{runThrough}
+use Rattle.rulings.specs.stages.Sweeps.{widenedLine}
 use Rattle.rulings.proofs.ColumnLaws.{short-more}
 use Rattle.rulings.proofs.columns.any_long_run.Statement.{statement}
 use Rattle.rulings.proofs.columns.any_long_run.Tie as tie

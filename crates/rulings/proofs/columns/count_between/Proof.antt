@@ -3,7 +3,7 @@ use Prim.Native.Nat.{_-_, _≤_}
 use native.Mathlib.Nat.{le-refl}
 use native.Mathlib.Omega.{arith}
 use lib.ListN.{length, length-set}
-use Rattle.rulings.specs.Sweeps.{CountedOn}
+use Rattle.rulings.specs.stages.Sweeps.{CountedOn}
 use Rattle.rulings.proofs.ColumnLaws.{counted-on-next, counted-on-none}
 use Rattle.rulings.proofs.columns.count_between.Statement.{statement}
 use Rattle.rulings.proofs.columns.count_between.Tie as tie

@@ -5,7 +5,7 @@ use native.Mathlib.Nat.{le-refl}
 use native.Mathlib.Omega.{arith}
 use borrow.Author.Needs.{needs}
 use lib.ListN.{getD}
-use Rattle.rulings.specs.Sweeps.{widenedLine}
+use Rattle.rulings.specs.stages.Sweeps.{widenedLine}
 use Rattle.extents.proofs.RunLaws.{behind-le, count-next}
 use Rattle.extents.proofs.ExtentLaws.{bit-times, bit-times-le}
 use Rattle.rulings.proofs.ColumnLaws.{recounted-next, recounted-none}

@@ -2,7 +2,7 @@ use mathlib.Core.Path.{_≡_, subst}
 use Prim.Native.Nat.{_+_, _-_}
 use native.Mathlib.Omega.{arith}
 use borrow.Author.Needs.{needs}
-use Rattle.rulings.specs.Sweeps.{Recounted, widenedLine}
+use Rattle.rulings.specs.stages.Sweeps.{Recounted, widenedLine}
 use Rattle.extents.proofs.RunLaws.{behind-le}
 use Rattle.rulings.proofs.ColumnLaws.{counted-between, counted-last, recounted-all, recounted-row, row-spot}
 use Rattle.rulings.proofs.columns.count_row.Statement.{statement}

@@ -1,9 +1,9 @@
 use mathlib.Core.Bool.{true≢false}
 use Prim.Native.Nat.{_+_, _-_, _<_, _≤_, ℕ}
 use native.Mathlib.Omega.{arith}
-use Rattle.extents.specs.Extents.{runThrough}
-use Rattle.extents.specs.Scans.{Starts}
-use Rattle.rulings.specs.Sweeps.{widenedLine}
+use Rattle.extents.specs.rules.Extents.{runThrough}
+use Rattle.extents.specs.stages.Scans.{Starts}
+use Rattle.rulings.specs.stages.Sweeps.{widenedLine}
 use Rattle.extents.proofs.RunLaws.{starts-zero}
 use Rattle.rulings.proofs.SweepLaws.{back-starts}
 use Rattle.rulings.proofs.ColumnLaws.{short-all, short-to}

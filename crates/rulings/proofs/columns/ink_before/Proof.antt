@@ -1,8 +1,8 @@
 use mathlib.Core.Path.{_≡_, ap}
 use Prim.Native.Nat.{_+_, _-_, _≤_}
 use native.Mathlib.Omega.{arith}
-use Rattle.extents.specs.Extents.{behind}
-use Rattle.rulings.specs.Sweeps.{planeOf}
+use Rattle.extents.specs.rules.Extents.{behind}
+use Rattle.rulings.specs.stages.Sweeps.{planeOf}
 use Rattle.rulings.proofs.SweepLaws.{test-off, test-on}
 use Rattle.rulings.proofs.ColumnLaws.{behind-blank, behind-ended, behind-step}
 use Rattle.rulings.proofs.columns.ink_before.Statement.{statement}

@@ -2,7 +2,7 @@ use mathlib.Core.Path.{sym}
 use mathlib.Core.Bool.{false, true}
 use native.Mathlib.Omega.{arith}
 use borrow.Author.Needs.{needs}
-use Rattle.rulings.specs.Sweeps.{planeOf}
+use Rattle.rulings.specs.stages.Sweeps.{planeOf}
 use Rattle.rulings.proofs.SweepLaws.{test-off, test-on}
 use Rattle.rulings.proofs.ColumnLaws.{thick-before, thin-after, thin-always, thin-blank, thin-ink}
 use Rattle.rulings.proofs.columns.is_thin.Statement.{statement}

@@ -2,12 +2,12 @@ use mathlib.Core.Path.{_≡_, refl, subst}
 use Prim.Native.Nat.{_+_, _<_}
 use native.Mathlib.Nat.{le-refl}
 use native.Mathlib.Omega.{arith}
-use borrow.Author.Needs.{needs}
 use lib.ListN.{drop}
-use Rattle.extents.specs.Extents.{behind}
-use Rattle.rulings.specs.Sweeps.{widenedLine}
+use Rattle.extents.specs.rules.Extents.{behind}
+use Rattle.rulings.specs.stages.Sweeps.{widenedLine}
 use Rattle.extents.proofs.RunLaws.{behind-le}
 use Rattle.rulings.proofs.ColumnLaws.{risen-long, risen-still}
+use borrow.Author.Needs.{needs}
 use Rattle.rulings.proofs.columns.mark_place.Statement.{statement}
 use Rattle.rulings.proofs.columns.mark_place.Tie as tie
 
@@ -28,10 +28,11 @@ same-length c = search needs
 
 returns : tie.Need-returns
 returns c =
-    let a = c .before .before .before .before .before .before .before .before .args in
-    let p = c .before .before .before .before .before .before .before .before .pre in (
-      risen-long (a .g) (a .ink .now) (a .run-min) (a .thick-max) (a .y) (a .o) (a .y) (drop (a .marks) (a .words .now)) _ (p .1) (p .2) (p .3) (omega (arith, p .5)) (le-refl _) (λ x. absurd (omega (arith, p .5))) (λ x. refl) (c .before .before .cut-places .ensures .0),
-      c .before .before .cut-places .ensures .1,
+    let a = (c .before .before .before .before .before .before .before .before) .args in
+    let p = (c .before .before .before .before .before .before .before .before) .pre in (
+      risen-long (a .g) (a .ink .now) (a .run-min) (a .thick-max) (a .y) (a .o) (a .y) (drop (a .marks) (a .words .now)) _ (p .1) (p .2) (p .3) (omega (arith, p .5)) (le-refl _) (λ x. absurd (omega (arith, p .5))) (λ x. refl) ((c .before .before .cut-places) .ensures .0),
+      (c .before .before .cut-places) .ensures .1,
+      (c .before .before .cut-places) .ensures .2,
     )
 
 add-from : tie.Need-add-from
@@ -39,8 +40,8 @@ add-from c = search needs
 
 sub-from : tie.Need-sub-from
 sub-from c =
-    let a = c .before .before .before .before .before .args in
-    let p = c .before .before .before .before .before .pre in
+    let a = (c .before .before .before .before .before) .args in
+    let p = (c .before .before .before .before .before) .pre in
     let b = behind-le (widenedLine (a .g) (a .ink .now) (a .o)) (a .y + 1) in
     omega (arith, p .5)
 
@@ -55,19 +56,20 @@ same-length-2 c = search needs
 
 returns-2 : tie.Need-returns-2
 returns-2 c =
-    let a = c .before .before .before .before .before .before .before .before .before .args in
-    let p = c .before .before .before .before .before .before .before .before .before .pre in
+    let a = (c .before .before .before .before .before .before .before .before .before) .args in
+    let p = (c .before .before .before .before .before .before .before .before .before) .pre in
     let b = behind-le (widenedLine (a .g) (a .ink .now) (a .o)) (a .y + 1) in (
-      risen-long (a .g) (a .ink .now) (a .run-min) (a .thick-max) (a .y) (a .o) _ (drop (a .marks) (a .words .now)) _ (p .1) (p .2) (p .3) (omega (arith, p .5)) (omega (arith, p .3)) (λ x. omega (arith, p .5)) (λ x. absurd (omega (arith, p .5))) (c .before .before .cut-places2 .ensures .0),
-      c .before .before .cut-places2 .ensures .1,
+      risen-long (a .g) (a .ink .now) (a .run-min) (a .thick-max) (a .y) (a .o) _ (drop (a .marks) (a .words .now)) _ (p .1) (p .2) (p .3) (omega (arith, p .5)) (omega (arith, p .3)) (λ x. omega (arith, p .5)) (λ x. absurd (omega (arith, p .5))) ((c .before .before .cut-places2) .ensures .0),
+      (c .before .before .cut-places2) .ensures .1,
+      (c .before .before .cut-places2) .ensures .2,
     )
 
 returns-3 : tie.Need-returns-3
 returns-3 c =
-    let a = c .before .before .before .before .before .args in
-    let p = c .before .before .before .before .before .pre in
+    let a = (c .before .before .before .before .before) .args in
+    let p = (c .before .before .before .before .before) .pre in
     let h : behind (widenedLine (a .g) (a .ink .now) (a .o)) (a .y + 1) < a .run-min = omega (arith, p .5) in
-    (risen-still (a .g) (a .ink .now) (a .run-min) (a .thick-max) (a .o) (a .o + 1) (a .y) (drop (a .marks) (a .words .now)) (λ q x y. subst (λ k. behind (widenedLine (a .g) (a .ink .now) k) (a .y + 1) < a .run-min) (let z : a .o ≡ q = omega arith in z) h), refl)
+    (risen-still (a .g) (a .ink .now) (a .run-min) (a .thick-max) (a .o) (a .o + 1) (a .y) (drop (a .marks) (a .words .now)) (λ q x y. subst (λ k. behind (widenedLine (a .g) (a .ink .now) k) (a .y + 1) < a .run-min) (let z : a .o ≡ q = omega arith in z) h), refl, λ e. refl)
 
 pub mark-place-spec : {M : Type 1} → statement M
 mark-place-spec =

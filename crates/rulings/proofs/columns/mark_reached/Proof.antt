@@ -1,30 +1,32 @@
+use mathlib.Core.Bool.{false}
+use Rattle.rulings.proofs.SweepLaws.{still-both}
 use mathlib.Core.Path.{_∙_, _≡_, refl, subst}
 use Prim.Native.Nat.{_+_, _-_, _≤_}
 use native.Mathlib.Nat.{le-refl}
 use native.Mathlib.Omega.{arith}
 use lib.ListN.{drop, length, take}
-use Rattle.rulings.specs.Sweeps.{Risen}
+use Rattle.rulings.specs.stages.Sweeps.{Risen}
 use Rattle.rulings.proofs.ColumnLaws.{counted-kept, risen-lines, risen-small, risen-still}
 use Rattle.rulings.proofs.columns.mark_reached.Statement.{statement}
 use Rattle.rulings.proofs.columns.mark_reached.Tie as tie
 
 abbrev Inv-loop : tie.InvT-loop
-Inv-loop ink words₀ marks g a b y run-min thick-max o₀ words o = (a ≤ o) × (o ≤ b) × (Risen g ink run-min thick-max a o y (y + 1) (drop marks words₀) (drop marks words)) × (take marks words ≡ take marks words₀) × (length words ≡ length words₀)
+Inv-loop ink words₀ marks g a b y run-min thick-max found₀ o₀ words found o = (a ≤ o) × (o ≤ b) × (Risen g ink run-min thick-max a o y (y + 1) (drop marks words₀) (drop marks words)) × (take marks words ≡ take marks words₀) × (length words ≡ length words₀) × (found ≡ false → drop marks words ≡ drop marks words₀)
 
 abbrev μ-loop : tie.MeasureT-loop
-μ-loop ink words₀ marks g a b y run-min thick-max o₀ words o = b - o
+μ-loop ink words₀ marks g a b y run-min thick-max found₀ o₀ words found o = b - o
 
 loop-holds : tie.Need-loop-holds Inv-loop μ-loop
 loop-holds c =
-    let a = c .before .before .args in
-    let p = c .before .before .pre in
-    (le-refl _, omega arith, risen-still (a .g) (a .ink .now) (a .run-min) (a .thick-max) (a .a) (a .a) (a .y) (drop (a .marks) (a .words .now)) (λ o h k. absurd (omega arith)), refl, refl)
+    let a = (c .before .before) .args in
+    let p = (c .before .before) .pre in
+    (le-refl _, omega arith, risen-still (a .g) (a .ink .now) (a .run-min) (a .thick-max) (a .a) (a .a) (a .y) (drop (a .marks) (a .words .now)) (λ o h k. absurd (omega arith)), refl, refl, λ e. refl)
 
 mark-place-requires : tie.Need-mark-place-requires Inv-loop μ-loop
 mark-place-requires c κs =
-    let a = c .before .before .before .before .before .args in
-    let p = c .before .before .before .before .before .pre in
-    let l = c .before .before .loop in (
+    let a = (c .before .before .before .before .before) .args in
+    let p = (c .before .before .before .before .before) .pre in
+    let l = (c .before .before .loop) in (
       p .0,
       omega arith,
       p .3,
@@ -43,14 +45,15 @@ loop-less c = omega arith
 
 loop-again : tie.Need-loop-again Inv-loop μ-loop
 loop-again c =
-    let a = c .before .before .before .before .before .before .before .before .args in
-    let p = c .before .before .before .before .before .before .before .before .pre in
-    let l = c .before .before .before .before .before .loop in (
+    let a = (c .before .before .before .before .before .before .before .before) .args in
+    let p = (c .before .before .before .before .before .before .before .before) .pre in
+    let l = (c .before .before .before .before .before .loop) in (
       omega arith,
       omega arith,
-      risen-lines (a .g) (a .ink .now) (a .run-min) (a .thick-max) (a .a) (l .o) (l .o + 1) (a .y) (a .y + 1) (drop (a .marks) (a .words .now)) (drop (a .marks) (l .words)) _ (l .inv .0) (omega arith) (l .inv .2) (c .before .before .mark-place .ensures .0),
-      c .before .before .mark-place .ensures .1 ∙ l .inv .3,
+      risen-lines (a .g) (a .ink .now) (a .run-min) (a .thick-max) (a .a) (l .o) (l .o + 1) (a .y) (a .y + 1) (drop (a .marks) (a .words .now)) (drop (a .marks) (l .words)) _ (l .inv .0) (omega arith) (l .inv .2) ((c .before .before .mark-place) .ensures .0),
+      (c .before .before .mark-place) .ensures .1 ∙ l .inv .3,
       omega arith,
+      still-both (l .found) ((c .before .before .mark-place) .result) _ (drop (a .marks) (l .words)) _ (l .inv .5) ((c .before .before .mark-place) .ensures .2),
     )
 
 same-length : tie.Need-same-length Inv-loop μ-loop
@@ -58,10 +61,10 @@ same-length c = omega arith
 
 returns : tie.Need-returns Inv-loop μ-loop
 returns c =
-    let a = c .before .before .before .before .args in
-    let l = c .before .loop in
+    let a = (c .before .before .before .before) .args in
+    let l = (c .before .loop) in
     let e : l .o ≡ a .b = omega arith in
-    (subst (λ k. Risen (a .g) (a .ink .now) (a .run-min) (a .thick-max) (a .a) k (a .y) (a .y + 1) (drop (a .marks) (a .words .now)) (drop (a .marks) (l .words))) e (l .inv .2), l .inv .3)
+    (subst (λ k. Risen (a .g) (a .ink .now) (a .run-min) (a .thick-max) (a .a) k (a .y) (a .y + 1) (drop (a .marks) (a .words .now)) (drop (a .marks) (l .words))) e (l .inv .2), l .inv .3, l .inv .5)
 
 pub mark-reached-spec : {M : Type 1} → statement M
 mark-reached-spec =

@@ -1,11 +1,11 @@
-use mathlib.Core.Path.{_≡_, subst, sym}
+use mathlib.Core.Path.{_∙_, _≡_, subst, sym}
 use Prim.Native.Nat.{_+_}
 use native.Mathlib.Omega.{arith}
-use borrow.Author.Needs.{needs}
 use lib.ListN.{drop, length}
-use Rattle.rulings.specs.Sweeps.{Risen, UpTo}
+use Rattle.rulings.specs.stages.Sweeps.{Risen, UpTo}
 use Rattle.extents.proofs.OverLaws.{behind-same}
 use Rattle.rulings.proofs.ColumnLaws.{counted-kept, recounted-counted, risen-still}
+use borrow.Author.Needs.{needs}
 use Rattle.rulings.proofs.columns.mark_row.Statement.{statement}
 use Rattle.rulings.proofs.columns.mark_row.Tie as tie
 
@@ -17,26 +17,27 @@ any-reached-requires c κs = search needs
 
 mark-reached-requires : tie.Need-mark-reached-requires
 mark-reached-requires c κs =
-    let a = c .before .before .before .before .before .before .before .before .before .before .args in
-    let p = c .before .before .before .before .before .before .before .before .before .before .pre in
-    let t = c .before .before .before .before .before .before .count-row .last .1 .0 in
-    let R = c .before .before .before .before .before .before .count-row .ensures in
-    let D : drop (a .marks) t ≡ drop (a .marks) (a .words .now) = behind-same (a .b) (a .marks) (a .words .now) t (omega arith) (c .before .before .before .before .before .words .given) (R .above) in
-    (p .0, p .2, p .3, p .4, p .5, subst (λ r. UpTo (a .g) (length (a .ink .now)) r 6) (sym D) (p .6), recounted-counted (a .g) (a .ink .now) (a .a) (a .b) (a .y) (a .words .now) t R, p .8, omega (arith, c .before .before .before .before .before .words .given, p .9))
+    let a = (c .before .before .before .before .before .before .before .before .before .before) .args in
+    let p = (c .before .before .before .before .before .before .before .before .before .before) .pre in
+    let t = (c .before .before .before .before .before .before .count-row) .last .1 .0 in
+    let R = (c .before .before .before .before .before .before .count-row) .ensures in
+    let D : drop (a .marks) t ≡ drop (a .marks) (a .words .now) = behind-same (a .b) (a .marks) (a .words .now) t (omega arith) ((c .before .before .before .before .before .words) .given) (R .above) in
+    (p .0, p .2, p .3, p .4, p .5, subst (λ r. UpTo (a .g) (length (a .ink .now)) r 6) (sym D) (p .6), recounted-counted (a .g) (a .ink .now) (a .a) (a .b) (a .y) (a .words .now) t R, p .8, omega (arith, (c .before .before .before .before .before .words) .given, p .9))
 
 same-length : tie.Need-same-length
 same-length c = search needs
 
 returns : tie.Need-returns
 returns c =
-    let a = c .before .before .before .before .before .before .before .before .before .before .before .before .before .args in
-    let p = c .before .before .before .before .before .before .before .before .before .before .before .before .before .pre in
-    let t = c .before .before .before .before .before .before .before .before .before .count-row .last .1 .0 in
-    let R = c .before .before .before .before .before .before .before .before .before .count-row .ensures in
-    let D : drop (a .marks) t ≡ drop (a .marks) (a .words .now) = behind-same (a .b) (a .marks) (a .words .now) t (omega arith) (c .before .before .before .before .before .before .before .before .words .given) (R .above) in
-    let M = c .before .before .mark-reached .ensures in (
-      subst (λ r. Risen (a .g) (a .ink .now) (a .run-min) (a .thick-max) (a .a) (a .b) (a .y) (a .y + 1) r (drop (a .marks) (c .before .before .mark-reached .last .1 .0))) D (M .0),
-      counted-kept (a .g) (a .ink .now) (a .a) (a .b) (a .y + 1) (a .marks) t (c .before .before .mark-reached .last .1 .0) (omega arith) (M .1) (recounted-counted (a .g) (a .ink .now) (a .a) (a .b) (a .y) (a .words .now) t R),
+    let a = (c .before .before .before .before .before .before .before .before .before .before .before .before .before) .args in
+    let p = (c .before .before .before .before .before .before .before .before .before .before .before .before .before) .pre in
+    let t = (c .before .before .before .before .before .before .before .before .before .count-row) .last .1 .0 in
+    let R = (c .before .before .before .before .before .before .before .before .before .count-row) .ensures in
+    let D : drop (a .marks) t ≡ drop (a .marks) (a .words .now) = behind-same (a .b) (a .marks) (a .words .now) t (omega arith) ((c .before .before .before .before .before .before .before .before .words) .given) (R .above) in
+    let M = (c .before .before .mark-reached) .ensures in (
+      subst (λ r. Risen (a .g) (a .ink .now) (a .run-min) (a .thick-max) (a .a) (a .b) (a .y) (a .y + 1) r (drop (a .marks) ((c .before .before .mark-reached) .last .1 .0))) D (M .0),
+      counted-kept (a .g) (a .ink .now) (a .a) (a .b) (a .y + 1) (a .marks) t ((c .before .before .mark-reached) .last .1 .0) (omega arith) (M .1) (recounted-counted (a .g) (a .ink .now) (a .a) (a .b) (a .y) (a .words .now) t R),
+      λ e. M .2 e ∙ D,
     )
 
 same-length-2 : tie.Need-same-length-2
@@ -44,14 +45,15 @@ same-length-2 c = search needs
 
 returns-2 : tie.Need-returns-2
 returns-2 c =
-    let a = c .before .before .before .before .before .before .before .before .before .args in
-    let p = c .before .before .before .before .before .before .before .before .before .pre in
-    let t = c .before .before .before .before .before .count-row .last .1 .0 in
-    let R = c .before .before .before .before .before .count-row .ensures in
-    let D : drop (a .marks) t ≡ drop (a .marks) (a .words .now) = behind-same (a .b) (a .marks) (a .words .now) t (omega arith) (c .before .before .before .before .words .given) (R .above) in (
+    let a = (c .before .before .before .before .before .before .before .before .before) .args in
+    let p = (c .before .before .before .before .before .before .before .before .before) .pre in
+    let t = (c .before .before .before .before .before .count-row) .last .1 .0 in
+    let R = (c .before .before .before .before .before .count-row) .ensures in
+    let D : drop (a .marks) t ≡ drop (a .marks) (a .words .now) = behind-same (a .b) (a .marks) (a .words .now) t (omega arith) ((c .before .before .before .before .words) .given) (R .above) in (
       subst (λ r. Risen (a .g) (a .ink .now) (a .run-min) (a .thick-max) (a .a) (a .b) (a .y) (a .y + 1) (drop (a .marks) (a .words .now)) r) (sym D)
-          (risen-still (a .g) (a .ink .now) (a .run-min) (a .thick-max) (a .a) (a .b) (a .y) (drop (a .marks) (a .words .now)) (λ o h k. let x = R .inside o h k in let z = c .before .any-reached .ensures (c .if1 .left) o h k in omega arith)),
+          (risen-still (a .g) (a .ink .now) (a .run-min) (a .thick-max) (a .a) (a .b) (a .y) (drop (a .marks) (a .words .now)) (λ o h k. let x = R .inside o h k in let z = (c .before .any-reached) .ensures ((c .if1) .left) o h k in omega arith)),
       recounted-counted (a .g) (a .ink .now) (a .a) (a .b) (a .y) (a .words .now) t R,
+      λ e. D,
     )
 
 pub mark-row-spec : {M : Type 1} → statement M

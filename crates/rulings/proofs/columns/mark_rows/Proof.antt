@@ -1,19 +1,21 @@
+use mathlib.Core.Bool.{false}
+use Rattle.rulings.proofs.SweepLaws.{still-both}
 use mathlib.Core.Path.{_∙_, _≡_, refl, subst, sym}
 use Prim.Native.Nat.{_+_, _-_, _≤_}
 use native.Mathlib.Omega.{arith}
 use borrow.Rule.Slice.PartMut.{putMid}
 use lib.ListN.{drop, length}
-use Rattle.rulings.specs.Sweeps.{Counted, Risen, UpTo}
+use Rattle.rulings.specs.stages.Sweeps.{Counted, Risen, UpTo}
 use Rattle.extents.proofs.OverLaws.{behind-same, part-filled}
 use Rattle.rulings.proofs.ColumnLaws.{counted-zero, risen-none, risen-places, risen-small}
 use Rattle.rulings.proofs.columns.mark_rows.Statement.{statement}
 use Rattle.rulings.proofs.columns.mark_rows.Tie as tie
 
 abbrev Inv-loop : tie.InvT-loop
-Inv-loop ink words₀ marks g a b run-min thick-max inner y₀ words y = (y ≤ g .inner) × (Risen g ink run-min thick-max a b 0 y (drop marks words₀) (drop marks words)) × (Counted g ink a b y words) × (length words ≡ length words₀)
+Inv-loop ink words₀ marks g a b run-min thick-max inner found₀ y₀ words found y = (y ≤ g .inner) × (Risen g ink run-min thick-max a b 0 y (drop marks words₀) (drop marks words)) × (Counted g ink a b y words) × (length words ≡ length words₀) × (found ≡ false → drop marks words ≡ drop marks words₀)
 
 abbrev μ-loop : tie.MeasureT-loop
-μ-loop ink words₀ marks g a b run-min thick-max inner y₀ words y = g .inner - y
+μ-loop ink words₀ marks g a b run-min thick-max inner found₀ y₀ words found y = g .inner - y
 
 mul-fill : tie.Need-mul-fill Inv-loop μ-loop
 mul-fill c = omega arith
@@ -32,20 +34,20 @@ fill-requires c κs = omega arith
 
 loop-holds : tie.Need-loop-holds Inv-loop μ-loop
 loop-holds c =
-    let a = c .before .before .before .before .before .before .args in
-    let p = c .before .before .before .before .before .before .pre in
-    let s = putMid (a .a) (a .b - a .a) (a .words .now) (c .before .before .fill .last .0) in
-    let f = part-filled (a .a) (a .b) 0 (a .words .now) (c .before .before .fill .last .0) (omega arith) (omega arith) (c .before .before .fill .ensures) in
-    (omega arith, risen-none (a .g) (a .ink .now) (a .run-min) (a .thick-max) (a .a) (a .b) 0 (drop (a .marks) s), counted-zero (a .g) (a .ink .now) (a .a) (a .b) s (f .1), refl)
+    let a = (c .before .before .before .before .before .before) .args in
+    let p = (c .before .before .before .before .before .before) .pre in
+    let s = putMid (a .a) (a .b - a .a) (a .words .now) ((c .before .before .fill) .last .0) in
+    let f = part-filled (a .a) (a .b) 0 (a .words .now) ((c .before .before .fill) .last .0) (omega arith) (omega arith) ((c .before .before .fill) .ensures) in
+    (omega arith, risen-none (a .g) (a .ink .now) (a .run-min) (a .thick-max) (a .a) (a .b) 0 (drop (a .marks) s), counted-zero (a .g) (a .ink .now) (a .a) (a .b) s (f .1), refl, λ e. refl)
 
 mark-row-requires : tie.Need-mark-row-requires Inv-loop μ-loop
 mark-row-requires c κs =
-    let a = c .before .before .before .before .before .before .before .before .before .args in
-    let p = c .before .before .before .before .before .before .before .before .before .pre in
-    let s = putMid (a .a) (a .b - a .a) (a .words .now) (c .before .before .before .before .before .fill .last .0) in
-    let f = part-filled (a .a) (a .b) 0 (a .words .now) (c .before .before .before .before .before .fill .last .0) (omega arith) (omega arith) (c .before .before .before .before .before .fill .ensures) in
+    let a = (c .before .before .before .before .before .before .before .before .before) .args in
+    let p = (c .before .before .before .before .before .before .before .before .before) .pre in
+    let s = putMid (a .a) (a .b - a .a) (a .words .now) ((c .before .before .before .before .before .fill) .last .0) in
+    let f = part-filled (a .a) (a .b) 0 (a .words .now) ((c .before .before .before .before .before .fill) .last .0) (omega arith) (omega arith) ((c .before .before .before .before .before .fill) .ensures) in
     let D : drop (a .marks) s ≡ drop (a .marks) (a .words .now) = behind-same (a .b) (a .marks) (a .words .now) s (omega arith) (f .0) (f .2) in
-    let l = c .before .before .loop in (
+    let l = (c .before .before .loop) in (
       p .0,
       p .1,
       p .2,
@@ -66,36 +68,37 @@ loop-less c = omega arith
 
 loop-again : tie.Need-loop-again Inv-loop μ-loop
 loop-again c =
-    let a = c .before .before .before .before .before .before .before .before .before .before .before .before .args in
-    let p = c .before .before .before .before .before .before .before .before .before .before .before .before .pre in
-    let s = putMid (a .a) (a .b - a .a) (a .words .now) (c .before .before .before .before .before .before .before .before .fill .last .0) in
-    let f = part-filled (a .a) (a .b) 0 (a .words .now) (c .before .before .before .before .before .before .before .before .fill .last .0) (omega arith) (omega arith) (c .before .before .before .before .before .before .before .before .fill .ensures) in
-    let l = c .before .before .before .before .before .loop in (
+    let a = (c .before .before .before .before .before .before .before .before .before .before .before .before) .args in
+    let p = (c .before .before .before .before .before .before .before .before .before .before .before .before) .pre in
+    let s = putMid (a .a) (a .b - a .a) (a .words .now) ((c .before .before .before .before .before .before .before .before .fill) .last .0) in
+    let f = part-filled (a .a) (a .b) 0 (a .words .now) ((c .before .before .before .before .before .before .before .before .fill) .last .0) (omega arith) (omega arith) ((c .before .before .before .before .before .before .before .before .fill) .ensures) in
+    let l = (c .before .before .before .before .before .loop) in (
       omega arith,
-      risen-places (a .g) (a .ink .now) (a .run-min) (a .thick-max) (a .a) (a .b) 0 (l .y) (l .y + 1) (drop (a .marks) s) (drop (a .marks) (l .words)) _ (l .inv .1) (c .before .before .mark-row .ensures .0),
-      c .before .before .mark-row .ensures .1,
+      risen-places (a .g) (a .ink .now) (a .run-min) (a .thick-max) (a .a) (a .b) 0 (l .y) (l .y + 1) (drop (a .marks) s) (drop (a .marks) (l .words)) _ (l .inv .1) ((c .before .before .mark-row) .ensures .0),
+      (c .before .before .mark-row) .ensures .1,
       omega arith,
+      still-both (l .found) ((c .before .before .mark-row) .result) _ (drop (a .marks) (l .words)) _ (l .inv .4) ((c .before .before .mark-row) .ensures .2),
     )
 
 same-length : tie.Need-same-length Inv-loop μ-loop
 same-length c =
-    let a = c .before .before .before .before .before .before .before .before .args in
-    let p = c .before .before .before .before .before .before .before .before .pre in
-    let s = putMid (a .a) (a .b - a .a) (a .words .now) (c .before .before .before .before .fill .last .0) in
-    let f = part-filled (a .a) (a .b) 0 (a .words .now) (c .before .before .before .before .fill .last .0) (omega arith) (omega arith) (c .before .before .before .before .fill .ensures) in
-    c .before .loop .inv .3 ∙ f .0
+    let a = (c .before .before .before .before .before .before .before .before) .args in
+    let p = (c .before .before .before .before .before .before .before .before) .pre in
+    let s = putMid (a .a) (a .b - a .a) (a .words .now) ((c .before .before .before .before .fill) .last .0) in
+    let f = part-filled (a .a) (a .b) 0 (a .words .now) ((c .before .before .before .before .fill) .last .0) (omega arith) (omega arith) ((c .before .before .before .before .fill) .ensures) in
+    (c .before .loop) .inv .3 ∙ f .0
 
 returns : tie.Need-returns Inv-loop μ-loop
 returns c =
-    let a = c .before .before .before .before .before .before .before .before .args in
-    let p = c .before .before .before .before .before .before .before .before .pre in
-    let s = putMid (a .a) (a .b - a .a) (a .words .now) (c .before .before .before .before .fill .last .0) in
-    let f = part-filled (a .a) (a .b) 0 (a .words .now) (c .before .before .before .before .fill .last .0) (omega arith) (omega arith) (c .before .before .before .before .fill .ensures) in
+    let a = (c .before .before .before .before .before .before .before .before) .args in
+    let p = (c .before .before .before .before .before .before .before .before) .pre in
+    let s = putMid (a .a) (a .b - a .a) (a .words .now) ((c .before .before .before .before .fill) .last .0) in
+    let f = part-filled (a .a) (a .b) 0 (a .words .now) ((c .before .before .before .before .fill) .last .0) (omega arith) (omega arith) ((c .before .before .before .before .fill) .ensures) in
     let D : drop (a .marks) s ≡ drop (a .marks) (a .words .now) = behind-same (a .b) (a .marks) (a .words .now) s (omega arith) (f .0) (f .2) in
-    let l = c .before .loop in
+    let l = (c .before .loop) in
     let e : l .y ≡ a .g .inner = omega arith in
     let M = subst (λ k. Risen (a .g) (a .ink .now) (a .run-min) (a .thick-max) (a .a) (a .b) 0 k (drop (a .marks) s) (drop (a .marks) (l .words))) e (l .inv .1) in
-    subst (λ r. Risen (a .g) (a .ink .now) (a .run-min) (a .thick-max) (a .a) (a .b) 0 (a .g .inner) r (drop (a .marks) (l .words))) D M
+    (subst (λ r. Risen (a .g) (a .ink .now) (a .run-min) (a .thick-max) (a .a) (a .b) 0 (a .g .inner) r (drop (a .marks) (l .words))) D M, λ e. l .inv .4 e ∙ D)
 
 pub mark-rows-spec : {M : Type 1} → statement M
 mark-rows-spec =

@@ -1,7 +1,8 @@
-use borrow.Author.Needs.{needs}
+use mathlib.Core.Path.{refl}
 use borrow.Author.Tests.{not-true}
 use lib.ListN.{drop}
 use Rattle.rulings.proofs.ColumnLaws.{risen-short}
+use borrow.Author.Needs.{needs}
 use Rattle.rulings.proofs.columns.mark_stretches.Statement.{statement}
 use Rattle.rulings.proofs.columns.mark_stretches.Tie as tie
 
@@ -13,8 +14,8 @@ any-long-run-requires c κs = search needs
 
 returns : tie.Need-returns
 returns c =
-    let a = c .before .before .before .before .before .args in
-    (c .before .before .stretch-end .ensures .0, c .before .before .stretch-end .ensures .1, risen-short (a .g) (a .ink .now) (a .run-min) (a .thick-max) (a .a) _ (drop (a .marks) (a .words .now)) (c .before .any-long-run .ensures (not-true _ (c .if1 .taken))))
+    let a = (c .before .before .before .before .before) .args in
+    ((c .before .before .stretch-end) .ensures .0, (c .before .before .stretch-end) .ensures .1, risen-short (a .g) (a .ink .now) (a .run-min) (a .thick-max) (a .a) _ (drop (a .marks) (a .words .now)) ((c .before .any-long-run) .ensures (not-true _ ((c .if1) .taken))), λ e. refl)
 
 long-end-requires : tie.Need-long-end-requires
 long-end-requires c κs = search needs

@@ -1,38 +1,40 @@
+use mathlib.Core.Bool.{false}
 use native.Mathlib.Omega.{arith}
 use mathlib.Core.Path.{_≡_, refl}
 use Prim.Native.Nat.{_+_, _*_, _-_, _≤_}
 use lib.ListN.{length, take, drop}
-use Rattle.extents.specs.Scans.{Starts}
-use Rattle.rulings.specs.Sweeps.{widenedLine, isRuling, Marked, Cached}
+use Rattle.extents.specs.stages.Scans.{Starts}
+use Rattle.rulings.specs.stages.Sweeps.{widenedLine, isRuling, Marked, Cached}
 use Rattle.extents.proofs.RunLaws.{starts-zero}
-use Rattle.rulings.proofs.SweepLaws.{marked-none, unmarked-later, line-loop, line-end}
+use Rattle.rulings.proofs.SweepLaws.{still-both, marked-none, unmarked-later, line-loop, line-end}
 use Rattle.rulings.proofs.lines.mark_line.Statement.{statement}
 use Rattle.rulings.proofs.lines.mark_line.Tie as tie
 
 abbrev Inv-loop : tie.InvT-loop
-Inv-loop ink words₀ marks g o run-min thick-max bit inner x₀ words x = (x ≤ g .inner) × (Starts (widenedLine g ink o) x) × (Marked g (length ink) (isRuling g ink run-min thick-max) bit (drop marks words₀) (drop marks words) (o * g .inner) (o * g .inner + x)) × (Cached g ink o (take marks words)) × (length words ≡ length words₀)
+Inv-loop ink words₀ marks g o run-min thick-max bit inner found₀ x₀ words found x = (x ≤ g .inner) × (Starts (widenedLine g ink o) x) × (Marked g (length ink) (isRuling g ink run-min thick-max) bit (drop marks words₀) (drop marks words) (o * g .inner) (o * g .inner + x)) × (Cached g ink o (take marks words)) × (length words ≡ length words₀) × (found ≡ false → drop marks words ≡ drop marks words₀)
 
 abbrev μ-loop : tie.MeasureT-loop
-μ-loop ink words₀ marks g o run-min thick-max bit inner x₀ words x = g .inner - x
+μ-loop ink words₀ marks g o run-min thick-max bit inner found₀ x₀ words found x = g .inner - x
 
 loop-holds : tie.Need-loop-holds Inv-loop μ-loop
 loop-holds c =
-    let a = c .before .before .args in (
+    let a = (c .before .before) .args in (
       omega arith,
       starts-zero (widenedLine (a .g) (a .ink .now) (a .o)),
       marked-none (a .g) (length (a .ink .now)) (isRuling (a .g) (a .ink .now) (a .run-min) (a .thick-max)) (a .bit) (drop (a .marks) (a .words .now)) _ _ (λ i j li lj x y. absurd (omega arith)),
-      c .before .before .pre .6,
+      (c .before .before) .pre .6,
       refl,
+      λ e. refl,
     )
 
 add-loop : tie.Need-add-loop Inv-loop μ-loop
-add-loop c = let n = c .before .before .before .pre .0 .narrow in omega arith
+add-loop c = let n = (c .before .before .before) .pre .0 .narrow in omega arith
 
 mark-from-requires : tie.Need-mark-from-requires Inv-loop μ-loop
 mark-from-requires c κs =
-    let p = c .before .before .before .before .before .pre in
-    let a = c .before .before .before .before .before .args in
-    let l = c .before .before .loop in (
+    let p = (c .before .before .before .before .before) .pre in
+    let a = (c .before .before .before .before .before) .args in
+    let l = (c .before .before .loop) in (
       p .0,
       p .1,
       p .2,
@@ -45,19 +47,19 @@ mark-from-requires c κs =
     )
 
 loop-less : tie.Need-loop-less Inv-loop μ-loop
-loop-less c =
-    let w = c .before .before .mark-from .ensures .0 in let f = w .further in let i = w .inside in omega arith
+loop-less c = let w = (c .before .before .before .mark-from) .ensures .0 in let f = w .further in let i = w .inside in omega arith
 
 loop-again : tie.Need-loop-again Inv-loop μ-loop
 loop-again c =
-    let a = c .before .before .before .before .before .before .before .before .args in
-    let l = c .before .before .before .before .before .loop in
-    let w = c .before .before .mark-from .ensures .0 in (
+    let a = (c .before .before .before .before .before .before .before .before .before) .args in
+    let l = (c .before .before .before .before .before .before .loop) in
+    let w = (c .before .before .before .mark-from) .ensures .0 in (
       w .inside,
       w .starts,
-      line-loop (a .g) (a .ink .now) (a .run-min) (a .thick-max) (a .bit) (a .o) (l .x) (c .before .before .mark-from .result) (drop (a .marks) (a .words .now)) (drop (a .marks) (l .words)) _ (l .inv .2) w,
-      c .before .before .mark-from .ensures .1,
+      line-loop (a .g) (a .ink .now) (a .run-min) (a .thick-max) (a .bit) (a .o) (l .x) ((c .before .before .before .mark-from) .result .to) (drop (a .marks) (a .words .now)) (drop (a .marks) (l .words)) _ (l .inv .2) w,
+      (c .before .before .before .mark-from) .ensures .1,
       omega arith,
+      still-both (l .found) ((c .before .before .before .mark-from) .result .found) _ (drop (a .marks) (l .words)) _ (l .inv .5) ((c .before .before .before .mark-from) .ensures .2),
     )
 
 same-length : tie.Need-same-length Inv-loop μ-loop
@@ -65,9 +67,20 @@ same-length c = omega arith
 
 returns : tie.Need-returns Inv-loop μ-loop
 returns c =
-    let a = c .before .before .before .before .args in
-    let l = c .before .loop in
-    (line-end (a .g) (a .ink .now) (a .run-min) (a .thick-max) (a .bit) (a .o) (l .x) (drop (a .marks) (a .words .now)) (drop (a .marks) (l .words)) (l .inv .1) (l .inv .0) (omega arith) (l .inv .2), l .inv .3)
+    let a = (c .before .before .before .before) .args in
+    let l = (c .before .loop) in
+    (line-end (a .g) (a .ink .now) (a .run-min) (a .thick-max) (a .bit) (a .o) (l .x) (drop (a .marks) (a .words .now)) (drop (a .marks) (l .words)) (l .inv .1) (l .inv .0) (omega arith) (l .inv .2), l .inv .3, l .inv .5)
 
 pub mark-line-spec : {M : Type 1} → statement M
-mark-line-spec = tie.close (tie.spec Inv-loop μ-loop loop-holds add-loop mark-from-requires loop-less loop-again same-length returns)
+mark-line-spec =
+    tie.close
+    (tie.spec
+    Inv-loop
+    μ-loop
+    loop-holds
+    add-loop
+    mark-from-requires
+    loop-less
+    loop-again
+    same-length
+    returns)

@@ -3,7 +3,7 @@ use mathlib.Core.Path.{_≡_}
 use mathlib.Core.Bool.{true}
 use Prim.Native.Nat.{ℕ, _≤_, _<_, _-_}
 use native.Mathlib.Nat.{le-refl}
-use Rattle.rulings.specs.Sweeps.{widenedLine}
+use Rattle.rulings.specs.stages.Sweeps.{widenedLine}
 use Rattle.extents.proofs.ExtentLaws.{scan-none}
 use Rattle.rulings.proofs.SweepLaws.{back-more, back-stop, test-off, test-on}
 use Rattle.rulings.proofs.lines.run_start.Statement.{statement}

@@ -2,7 +2,7 @@
 use mathlib.Core.Path.{_≡_, ap, _∙_}
 use Prim.Native.Nat.{ℕ, _+_}
 use native.Mathlib.Omega.{arith}
-use Rattle.memory.specs.Words.{wordAt}
+use Rattle.memory.specs.rules.Words.{wordAt}
 use Rattle.scripts.specs.rules.Scripts.{sheetAt, numberAt, sheetFrom}
 use borrow.Author.Needs.{needs}
 use Rattle.scripts.proofs.script.sheet_of.Statement.{statement}

@@ -3,7 +3,7 @@ use mathlib.Core.Path.{_≡_, ap, _∙_}
 use mathlib.Core.Logic.{⊎-elim}
 use native.Mathlib.Omega.{arith}
 use borrow.Author.Needs.{needs}
-use Rattle.segmenting.specs.Results.{heldArea}
+use Rattle.segmenting.specs.stages.Held.{heldArea}
 use Rattle.segmenting.proofs.BoxLaws.{area-none, area-more, area-same, area-fits}
 use Rattle.segmenting.proofs.boxes.area_of_kind.Statement.{statement}
 use Rattle.segmenting.proofs.boxes.area_of_kind.Tie as tie

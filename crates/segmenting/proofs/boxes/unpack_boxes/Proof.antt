@@ -2,9 +2,10 @@ use Prim.Native.Nat.{_+_, _-_, _*_, _≤_}
 use mathlib.Core.Path.{_≡_, sym, ap, _∙_, subst}
 use native.Mathlib.Omega.{arith}
 use borrow.Author.Needs.{needs}
-use Rattle.memory.specs.Words.{over}
-use Rattle.memory.specs.Records.{encoded}
-use Rattle.segmenting.specs.Results.{boxWords, unpackedBox, unpackedBoxes}
+use Rattle.memory.specs.rules.Words.{over}
+use Rattle.memory.specs.rules.Records.{encoded}
+use Rattle.segmenting.specs.rules.Results.{boxWords}
+use Rattle.segmenting.specs.stages.Held.{unpackedBox, unpackedBoxes}
 use Rattle.segmenting.proofs.BoxLaws.{BoxesWritten, written-length, box-more, unpacked-none, unpacked-more}
 use Rattle.segmenting.proofs.boxes.unpack_boxes.Statement.{statement}
 use Rattle.segmenting.proofs.boxes.unpack_boxes.Tie as tie

@@ -4,9 +4,10 @@ use mathlib.Core.Logic.{⊎-elim}
 use native.Mathlib.Omega.{arith}
 use borrow.Author.Needs.{needs}
 use lib.ListN.{length}
-use Rattle.memory.specs.Words.{over}
-use Rattle.memory.specs.Records.{encoded}
-use Rattle.segmenting.specs.Results.{boxWords, heldBox, heldBoxes}
+use Rattle.memory.specs.rules.Words.{over}
+use Rattle.memory.specs.rules.Records.{encoded}
+use Rattle.segmenting.specs.rules.Results.{boxWords}
+use Rattle.segmenting.specs.stages.Held.{heldBox, heldBoxes}
 use Rattle.segmenting.proofs.BoxLaws.{BoxesWritten, written-length, box-more, boxes-none, boxes-more, boxes-same, boxes-below}
 use Rattle.segmenting.proofs.boxes.write_boxes.Statement.{statement}
 use Rattle.segmenting.proofs.boxes.write_boxes.Tie as tie

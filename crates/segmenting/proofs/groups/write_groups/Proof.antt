@@ -2,7 +2,7 @@ use borrow.Author.Needs.{needs}
 use mathlib.Core.Path.{refl}
 use native.Mathlib.Omega.{arith}
 use Rattle.segmenting.proofs.PutLaws.{part-length}
-use Rattle.segmenting.specs.Results.{linesAt}
+use Rattle.segmenting.specs.rules.Results.{linesAt}
 use Rattle.segmenting.proofs.ResultLaws.{blocks-ask, found-is, columns-ask, groups-left}
 use Rattle.segmenting.proofs.groups.write_groups.Statement.{statement}
 use Rattle.segmenting.proofs.groups.write_groups.Tie as tie

@@ -1,5 +1,5 @@
 use mathlib.Core.Path.{subst}
-use Rattle.sorting.specs.Sortings.{sortLeft}
+use Rattle.sorting.specs.stages.Sortings.{sortLeft}
 use Rattle.sorting.specs.declared.sort.SortAnswer.{SortAnswer}
 use Rattle.segmenting.proofs.AnswerLaws.{sorted-many, sorted-ask}
 use borrow.Author.Needs.{needs}

@@ -1,4 +1,4 @@
-use Rattle.smoothing.specs.Segments.{rowsLeft}
+use Rattle.smoothing.specs.stages.Segments.{rowsLeft}
 use Rattle.smoothing.specs.declared.rows.RowsAnswer.{RowsAnswer}
 use mathlib.Core.Path.{refl, sym, _∙_, subst}
 use Rattle.segmenting.proofs.AnswerLaws.{rows-refused, lines-refused, page-segmented, rows-ask, results-ask}

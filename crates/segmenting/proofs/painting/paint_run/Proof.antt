@@ -2,7 +2,7 @@ use Prim.Native.Nat.{_-_}
 use mathlib.Core.Path.{ap}
 use native.Mathlib.Omega.{arith}
 use borrow.Author.Needs.{needs}
-use Rattle.segmenting.specs.Results.{heldKind}
+use Rattle.segmenting.specs.stages.Held.{heldKind}
 use Rattle.segmenting.proofs.PaintingLaws.{part-long, copied-long, run-painted}
 use Rattle.segmenting.proofs.painting.paint_run.Statement.{statement}
 use Rattle.segmenting.proofs.painting.paint_run.Tie as tie

@@ -1,12 +1,12 @@
 use mathlib.Core.Path.{refl, sym, _∙_, subst}
 use Prim.Native.Nat.{_*_}
 use native.Mathlib.Omega.{arith}
-use Rattle.sorting.specs.Scratch.{inkAfterCut}
-use Rattle.sorting.specs.Sorted.{sorted}
-use Rattle.grouping.specs.Lines.{keptLines}
-use Rattle.smoothing.specs.LineWords.{glyphsOf}
-use Rattle.smoothing.specs.Segments.{rowsOf, glyphLabel}
-use Rattle.segmenting.specs.Writing.{LinesHeld}
+use Rattle.sorting.specs.stages.Scratch.{inkAfterCut}
+use Rattle.sorting.specs.rules.Sorted.{sorted}
+use Rattle.smoothing.specs.rules.Lines.{keptLines}
+use Rattle.smoothing.specs.stages.LineWords.{glyphsOf}
+use Rattle.smoothing.specs.stages.Segments.{rowsOf, glyphLabel}
+use Rattle.segmenting.specs.stages.Writing.{LinesHeld}
 use Rattle.segmenting.proofs.LayoutLaws.{paint-ask, counts-ask, boxes-ask, text-ask, group-ask, figures-ask, figures-are, results-are, kinds-painted}
 use borrow.Author.Needs.{needs}
 use Rattle.segmenting.proofs.results.write_results.Statement.{statement}

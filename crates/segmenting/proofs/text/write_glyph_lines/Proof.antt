@@ -1,9 +1,10 @@
 use Prim.Native.Nat.{_-_}
 use mathlib.Core.Path.{refl, _∙_}
+use native.Mathlib.Omega.{arith}
 use lib.ListN.{length}
 use borrow.Author.Needs.{needs}
 use borrow.Rule.Slice.PartMut.{putMid}
-use Rattle.segmenting.specs.Results.{glyphRecordsAt}
+use Rattle.segmenting.specs.rules.Results.{glyphRecordsAt}
 use Rattle.segmenting.proofs.TextLaws.{text-glyphs, text-lines, text-found, text-left}
 use Rattle.segmenting.proofs.text.write_glyph_lines.Statement.{statement}
 use Rattle.segmenting.proofs.text.write_glyph_lines.Tie as tie
@@ -72,23 +73,11 @@ mul-lines-at-2 c = search needs
 add-lines-at : tie.Need-add-lines-at
 add-lines-at c = search needs
 
+line-places-requires : tie.Need-line-places-requires
+line-places-requires c κs = let q = c .before .before .before .before .before .before .before .before .before .before .before .pre in omega (arith, q .6 .room, q .6 .high, c .before .before .before .before .before .before .before .before .before .before .before .good)
+
 mul-write-lines : tie.Need-mul-write-lines
-mul-write-lines c = search needs
-
-add-write-lines : tie.Need-add-write-lines
-add-write-lines c = search needs
-
-mul-write-lines-2 : tie.Need-mul-write-lines-2
-mul-write-lines-2 c = search needs
-
-add-write-lines-2 : tie.Need-add-write-lines-2
-add-write-lines-2 c = search needs
-
-add-write-lines-3 : tie.Need-add-write-lines-3
-add-write-lines-3 c = search needs
-
-mul-write-lines-3 : tie.Need-mul-write-lines-3
-mul-write-lines-3 c = search needs
+mul-write-lines c = let q = c .before .before .before .before .before .before .before .before .before .before .before .before .before .pre in omega (arith, q .6 .results-room, c .before .before .before .before .before .before .before .before .before .before .before .before .before .good)
 
 sub-write-lines : tie.Need-sub-write-lines
 sub-write-lines c = search needs
@@ -101,11 +90,11 @@ part-write-lines-end c = search needs
 
 write-lines-requires : tie.Need-write-lines-requires
 write-lines-requires c κs =
-    let a = c .before .before .before .before .before .before .before .before .before .before .before .before .before .args in
-    let q = c .before .before .before .before .before .before .before .before .before .before .before .before .before .pre in
-    let L = c .before .before .before .before .before .before .before .before .before .order-labels .ensures _ _ _ _ _ _ _ (q .5) (q .6) in
-    let one = putMid (glyphRecordsAt (a .w) (a .capacity)) (length (a .results .now) - glyphRecordsAt (a .w) (a .capacity)) (a .results .now) (c .before .before .before .before .write-glyphs .last .1 .1 .1 .1 .1 .0) in
-    text-lines (q .6) L (q .4) one (c .before .before .before .results .given .1)
+    let a = c .before .before .before .before .before .before .before .before .before .before .before .before .before .before .args in
+    let q = c .before .before .before .before .before .before .before .before .before .before .before .before .before .before .pre in
+    let L = c .before .before .before .before .before .before .before .before .before .before .order-labels .ensures _ _ _ _ _ _ _ (q .5) (q .6) in
+    let one = putMid (glyphRecordsAt (a .w) (a .capacity)) (length (a .results .now) - glyphRecordsAt (a .w) (a .capacity)) (a .results .now) (c .before .before .before .before .before .write-glyphs .last .1 .1 .1 .1 .1 .0) in
+    text-lines (q .6) L (q .4) (q .5) (c .before .before .line-places .result) (c .before .before .line-places .ensures) one (c .before .before .before .before .results .given .1)
 
 same-length : tie.Need-same-length
 same-length c = search needs
@@ -116,11 +105,11 @@ same-length-2 c = search needs
 returns : tie.Need-returns
 returns c =
     λ cs ks labels rs d e H.
-    (let a = c .before .before .before .before .before .before .before .before .before .before .before .before .before .before .before .before .before .before .args in
-    let L = c .before .before .before .before .before .before .before .before .before .before .before .before .before .before .order-labels .ensures cs ks labels rs _ _ _ e H in
-    let one = putMid (glyphRecordsAt (a .w) (a .capacity)) (length (a .results .now) - glyphRecordsAt (a .w) (a .capacity)) (a .results .now) (c .before .before .before .before .before .before .before .before .before .write-glyphs .last .1 .1 .1 .1 .1 .0) in
+    (let a = c .before .before .before .before .before .before .before .before .before .before .before .before .before .before .before .before .before .before .before .args in
+    let L = c .before .before .before .before .before .before .before .before .before .before .before .before .before .before .before .order-labels .ensures cs ks labels rs _ _ _ e H in
+    let one = putMid (glyphRecordsAt (a .w) (a .capacity)) (length (a .results .now) - glyphRecordsAt (a .w) (a .capacity)) (a .results .now) (c .before .before .before .before .before .before .before .before .before .before .write-glyphs .last .1 .1 .1 .1 .1 .0) in
     let W = c .before .before .before .before .write-lines .ensures in
-    (text-found H L d (a .results .now) (c .before .before .before .before .before .before .before .before .before .write-glyphs .ensures), W .0 .len ∙ L .kept .len, text-left H L d (a .results .now) (c .before .before .before .before .before .before .before .before .before .write-glyphs .ensures) one _ refl (W .1)))
+    (text-found H L d (a .results .now) (c .before .before .before .before .before .before .before .before .before .before .write-glyphs .ensures), W .0 .len ∙ L .kept .len, text-left H L d (a .results .now) (c .before .before .before .before .before .before .before .before .before .before .write-glyphs .ensures) (c .before .before .before .before .before .before .before .line-places .result) (c .before .before .before .before .before .before .before .line-places .ensures) one _ refl (W .1)))
 
 pub write-glyph-lines-spec : {M : Type 1} → statement M
 write-glyph-lines-spec =
@@ -146,12 +135,8 @@ write-glyph-lines-spec =
     mul-lines-at
     mul-lines-at-2
     add-lines-at
+    line-places-requires
     mul-write-lines
-    add-write-lines
-    mul-write-lines-2
-    add-write-lines-2
-    add-write-lines-3
-    mul-write-lines-3
     sub-write-lines
     part-write-lines-start
     part-write-lines-end

@@ -1,6 +1,6 @@
 use mathlib.Core.Path.{_≡_, sym, _∙_}
 use lib.ListN.{length}
-use Rattle.memory.specs.Words.{over}
+use Rattle.memory.specs.rules.Words.{over}
 use Rattle.showing.specs.declared.input.Parsed.the-variants.{Page}
 use Rattle.showing.specs.rules.Inputs.{rowAt, dotsIn}
 use Rattle.showing.proofs.InputLaws.{made, made-long, dots-few, parsed-page, parsed-none, mask-page, mask-none}

@@ -2,7 +2,7 @@ use mathlib.Core.Path.{_≡_, refl}
 use mathlib.Core.List.{_++_}
 use Prim.Native.Nat.{_*_, _-_, _≤_}
 use lib.ListN.{length, drop, length-set}
-use Rattle.memory.specs.Lists.{table}
+use Rattle.memory.specs.rules.Lists.{table}
 use Rattle.memory.proofs.TableLaws.{table-more, table-filled}
 use Rattle.showing.specs.rules.Inputs.{dotAt, dotsIn}
 use native.Mathlib.Omega.{arith}

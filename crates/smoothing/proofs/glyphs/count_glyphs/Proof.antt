@@ -2,7 +2,7 @@ use Prim.Native.Nat.{_-_, _≤_, zero-le}
 use mathlib.Core.Path.{_≡_, _∙_}
 use native.Mathlib.Omega.{arith}
 use borrow.Author.Needs.{needs}
-use Rattle.smoothing.specs.LineWords.{Filled}
+use Rattle.smoothing.specs.stages.LineWords.{Filled}
 use Rattle.smoothing.proofs.FilledWords.{labelCount, labels-none, filled-again, count-room, counts-all, label-room, label-step}
 use Rattle.smoothing.proofs.glyphs.count_glyphs.Statement.{statement}
 use Rattle.smoothing.proofs.glyphs.count_glyphs.Tie as tie

@@ -2,7 +2,7 @@ use Prim.Native.Nat.{_-_, _≤_, zero-le}
 use mathlib.Core.Path.{_≡_, refl, subst}
 use native.Mathlib.Omega.{arith}
 use borrow.Author.Needs.{needs}
-use Rattle.smoothing.specs.LineWords.{Filled}
+use Rattle.smoothing.specs.stages.LineWords.{Filled}
 use Rattle.smoothing.proofs.FilledWords.{filled-none, filled-more}
 use Rattle.smoothing.proofs.glyphs.fill.Statement.{statement}
 use Rattle.smoothing.proofs.glyphs.fill.Tie as tie

@@ -3,7 +3,7 @@ use mathlib.Core.Path.{_≡_, _∙_, subst}
 use native.Mathlib.Omega.{arith}
 use borrow.Author.Needs.{needs}
 use lib.ListN.{getD}
-use Rattle.smoothing.specs.LineWords.{Filled, kindWord, firstNumber}
+use Rattle.smoothing.specs.stages.LineWords.{Filled, kindWord, firstNumber}
 use Rattle.smoothing.proofs.FilledWords.{filled-none, filled-more, kept-kind, kept-word}
 use Rattle.smoothing.proofs.glyphs.label_glyphs.Statement.{statement}
 use Rattle.smoothing.proofs.glyphs.label_glyphs.Tie as tie

@@ -4,7 +4,7 @@ use native.Mathlib.Omega.{arith}
 use borrow.Author.Needs.{needs}
 use borrow.Author.Tests.{ne-eqb}
 use lib.ListN.{getD}
-use Rattle.smoothing.specs.LineWords.{kindWord}
+use Rattle.smoothing.specs.stages.LineWords.{kindWord}
 use Rattle.smoothing.proofs.glyphs.labelled_kind.Statement.{statement}
 use Rattle.smoothing.proofs.glyphs.labelled_kind.Tie as tie
 

@@ -4,7 +4,7 @@ use native.Mathlib.Omega.{arith}
 use borrow.Author.Needs.{needs}
 use lib.ListN.{getD}
 use lib.Seq.{sets}
-use Rattle.smoothing.specs.LineWords.{areaAt, glyphFields}
+use Rattle.smoothing.specs.stages.LineWords.{areaAt, glyphFields}
 use Rattle.smoothing.proofs.glyphs.write_glyph.Statement.{statement}
 use Rattle.smoothing.proofs.glyphs.write_glyph.Tie as tie
 

@@ -3,7 +3,7 @@ use mathlib.Core.Path.{_≡_, refl, _∙_}
 use native.Mathlib.Omega.{arith}
 use borrow.Author.Needs.{needs}
 use lib.ListN.{length}
-use Rattle.smoothing.specs.LineWords.{WrittenGlyphs}
+use Rattle.smoothing.specs.stages.LineWords.{WrittenGlyphs}
 use Rattle.smoothing.proofs.GlyphLaws.{glyphs-none, glyphs-few, glyphs-more, glyphs-all}
 use Rattle.smoothing.proofs.glyphs.write_glyphs.Statement.{statement}
 use Rattle.smoothing.proofs.glyphs.write_glyphs.Tie as tie

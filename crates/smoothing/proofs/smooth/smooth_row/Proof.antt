@@ -4,13 +4,13 @@ use mathlib.Core.List.{List}
 use Prim.Native.Nat.{ℕ, _+_, _-_, _*_, _≤_, _<_, zero-le}
 use native.Mathlib.Omega.{arith}
 use lib.ListN.{length}
-use Rattle.smoothing.specs.RowRuns.{Page, PartWalk}
+use Rattle.smoothing.specs.stages.RowRuns.{SmoothingInput, PartWalk}
 use Rattle.smoothing.proofs.PartWalkLaws.{part-room, part-start}
 use Rattle.smoothing.proofs.smooth.smooth_row.Statement.{statement}
 use Rattle.smoothing.proofs.smooth.smooth_row.Tie as tie
 
 abbrev Inv-loop : tie.InvT-loop
-Inv-loop part₀ places limit gap smoothed components runs walk₀ part walk = (length part ≡ length part₀) × (walk .passed ≤ places .runs) × ((g : Page) (front : List ℕ) (first y : ℕ) → gap ≡ g .gap → y < g .h → limit ≡ y * g .w + g .w → PartWalk g front first y part₀ places (record { passed = 0; smoothed = smoothed; components = components; last = 0 }) → PartWalk g front first y part places walk)
+Inv-loop part₀ places limit gap smoothed components runs walk₀ part walk = (length part ≡ length part₀) × (walk .passed ≤ places .runs) × ((g : SmoothingInput) (front : List ℕ) (first y : ℕ) → gap ≡ g .gap → y < g .h → limit ≡ y * g .w + g .w → PartWalk g front first y part₀ places (record { passed = 0; smoothed = smoothed; components = components; last = 0 }) → PartWalk g front first y part places walk)
 
 abbrev μ-loop : tie.MeasureT-loop
 μ-loop part₀ places limit gap smoothed components runs walk₀ part walk = places .runs - walk .passed

@@ -5,7 +5,7 @@ use Prim.Native.Nat.{ℕ, _+_, _-_, _*_, _≤_, zero-le}
 use native.Mathlib.Nat.{suc-mul}
 use native.Mathlib.Numerals.{add-one}
 use native.Mathlib.Omega.{arith}
-use Rattle.smoothing.specs.RowRuns.{SmoothRoom, RowWalk}
+use Rattle.smoothing.specs.stages.RowRuns.{SmoothRoom, RowWalk}
 use Rattle.smoothing.proofs.RowStepLaws.{walk-none, walk-done}
 use Rattle.smoothing.proofs.PartWalkLaws.{pageOf, row-few, row-room, row-enter, row-leave}
 use Rattle.smoothing.proofs.smooth.smooth_runs.Statement.{statement}

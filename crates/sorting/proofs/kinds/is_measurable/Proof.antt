@@ -1,7 +1,7 @@
-use Rattle.sorting.specs.Units.{measurable, underExtents}
+use Rattle.sorting.specs.rules.Units.{measurable, underExtents}
 use native.Mathlib.Omega.{arith}
 use mathlib.Core.Path.{ap}
-use Rattle.labelling.specs.declared.rect.Rect.{Rect}
+use Rattle.memory.specs.declared.rect.Rect.{Rect}
 use borrow.Author.Needs.{needs}
 use Rattle.sorting.proofs.kinds.is_measurable.Statement.{statement}
 use Rattle.sorting.proofs.kinds.is_measurable.Tie as tie

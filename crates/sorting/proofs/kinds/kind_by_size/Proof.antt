@@ -1,49 +1,40 @@
+use mathlib.Core.Path.{sym, ap, _∙_}
+use Rattle.sorting.specs.rules.Units.{unitValue}
+use Rattle.sorting.specs.rules.Kinds.{kindBySize}
+use Rattle.sorting.specs.declared.Unit.{Unit}
 use borrow.Author.Needs.{needs}
-use mathlib.Core.Path.{_∙_, ap}
-use mathlib.Core.Bool.{cond, _||_}
-use Rattle.sorting.specs.Kinds.{ruleKind, graphicKind, isRule, kindBySize}
 use Rattle.sorting.proofs.kinds.kind_by_size.Statement.{statement}
 use Rattle.sorting.proofs.kinds.kind_by_size.Tie as tie
 
-value-requires : tie.Need-value-requires
-value-requires c κs = search needs
+enum-known-unit : tie.Need-enum-known-unit
+enum-known-unit c = search needs
 
-choose-requires : tie.Need-choose-requires
-choose-requires c κs = search needs
+kind-by-value-requires : tie.Need-kind-by-value-requires
+kind-by-value-requires c κs = search needs
 
-is-graphic-requires : tie.Need-is-graphic-requires
-is-graphic-requires c κs = search needs
+enum-known-unit-2 : tie.Need-enum-known-unit-2
+enum-known-unit-2 c = search needs
 
-choose-requires-2 : tie.Need-choose-requires-2
-choose-requires-2 c κs = search needs
-
-is-rule-requires : tie.Need-is-rule-requires
-is-rule-requires c κs = search needs
-
-is-rule-requires-2 : tie.Need-is-rule-requires-2
-is-rule-requires-2 c κs = search needs
-
-choose-requires-3 : tie.Need-choose-requires-3
-choose-requires-3 c κs = search needs
+kind-by-value-requires-2 : tie.Need-kind-by-value-requires-2
+kind-by-value-requires-2 c κs = search needs
 
 returns : tie.Need-returns
 returns c =
-    let a = c .before .before .before .before .before .before .before .before .args in
-    let u = c .before .before .before .before .before .before .before .value .result in
-    c .choose3 .ensures
-    ∙ ((λ k. cond (c .before .before .is-rule .ensures k || c .before .is-rule2 .ensures k) ruleKind (c .before .before .before .choose2 .ensures k))
-    ∙ ((λ k. cond (isRule (a .p) u (a .width) (a .height) || isRule (a .p) u (a .height) (a .width)) ruleKind (cond (c .before .before .before .before .is-graphic .ensures k) graphicKind (c .before .before .before .before .before .choose .ensures k)))
-    ∙ ap (λ v. kindBySize (a .p) v (a .w) (a .h) (a .area) (a .width) (a .height)) (c .before .before .before .before .before .before .before .value .ensures)))
+    let a = (c .before .before .before .before) .args in
+    (c .kind-by-value) .ensures ∙ sym (ap (λ (u : Unit). kindBySize (a .p) (unitValue u) (a .w) (a .h) (a .area) (a .width) (a .height)) ((c .before .before .unit) .given .1))
+
+returns-2 : tie.Need-returns-2
+returns-2 c =
+    let a = (c .before .before .before .before) .args in
+    (c .kind-by-value2) .ensures ∙ sym (ap (λ (u : Unit). kindBySize (a .p) (unitValue u) (a .w) (a .h) (a .area) (a .width) (a .height)) ((c .before .before .unit2) .given .1))
 
 pub kind-by-size-spec : {M : Type 1} → statement M
 kind-by-size-spec =
     tie.close
     (tie.spec
-    value-requires
-    choose-requires
-    is-graphic-requires
-    choose-requires-2
-    is-rule-requires
-    is-rule-requires-2
-    choose-requires-3
-    returns)
+    enum-known-unit
+    kind-by-value-requires
+    enum-known-unit-2
+    kind-by-value-requires-2
+    returns
+    returns-2)

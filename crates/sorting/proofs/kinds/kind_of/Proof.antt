@@ -1,6 +1,6 @@
 use native.Mathlib.Omega.{arith}
 use mathlib.Core.Path.{ap}
-use Rattle.labelling.specs.declared.rect.Rect.{Rect}
+use Rattle.memory.specs.declared.rect.Rect.{Rect}
 use borrow.Author.Needs.{needs}
 use Rattle.sorting.proofs.kinds.kind_of.Statement.{statement}
 use Rattle.sorting.proofs.kinds.kind_of.Tie as tie

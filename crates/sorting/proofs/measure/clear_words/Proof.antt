@@ -1,7 +1,7 @@
 use native.Mathlib.Omega.{arith}
 use Prim.Native.Nat.{_+_, _-_, _≤_, zero-le}
 use mathlib.Core.Path.{_≡_, refl}
-use Rattle.sorting.specs.Measures.{Stored}
+use Rattle.sorting.specs.stages.Measures.{Stored}
 use Rattle.sorting.proofs.StoredLaws.{stored-none, stored-more, stored-count}
 use Rattle.sorting.proofs.measure.clear_words.Statement.{statement}
 use Rattle.sorting.proofs.measure.clear_words.Tie as tie

@@ -1,5 +1,5 @@
 use borrow.Author.Needs.{needs}
-use Rattle.sorting.specs.Measures.{sizedAt}
+use Rattle.sorting.specs.stages.Measures.{sizedAt}
 use Rattle.sorting.proofs.measure.component_at.Statement.{statement}
 use Rattle.sorting.proofs.measure.component_at.Tie as tie
 

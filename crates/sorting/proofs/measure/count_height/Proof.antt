@@ -3,8 +3,8 @@ use borrow.Author.Needs.{needs}
 use Prim.Native.Nat.{ℕ, _+_}
 use mathlib.Core.Path.{ap, _∙_}
 use lib.ListN.{getD}
-use Rattle.labelling.specs.Rects.{height}
-use Rattle.labelling.specs.declared.rect.Rect.{Rect}
+use Rattle.memory.specs.rules.Rects.{height}
+use Rattle.memory.specs.declared.rect.Rect.{Rect}
 use Rattle.extents.proofs.ExtentLaws.{bit-le}
 use Rattle.sorting.proofs.HeightLaws.{bit-cond, height-set}
 use Rattle.sorting.proofs.measure.count_height.Statement.{statement}

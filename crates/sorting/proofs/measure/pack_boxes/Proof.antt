@@ -3,7 +3,7 @@ use Prim.Native.Nat.{_+_, _-_, _*_, _≤_, zero-le}
 use mathlib.Core.Path.{_≡_, refl, ap, _∙_}
 use Rattle.labelling.specs.declared.component.Component.{Component}
 use lib.ListN.{length-set}
-use Rattle.sorting.specs.Measures.{Stored, boxWord}
+use Rattle.sorting.specs.stages.Measures.{Stored, boxWord}
 use Rattle.sorting.proofs.StoredLaws.{stored-none, stored-more, stored-count}
 use Rattle.sorting.proofs.SizedLaws.{sized-past, box-word-first, box-word-second}
 use Rattle.sorting.proofs.measure.pack_boxes.Statement.{statement}

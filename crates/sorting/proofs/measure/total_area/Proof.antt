@@ -1,8 +1,8 @@
 use native.Mathlib.Omega.{arith}
 use Prim.Native.Nat.{ℕ, _-_, _≤_, zero-le}
 use mathlib.Core.Path.{_≡_, ap, _∙_}
-use Rattle.memory.specs.Lists.{table, total}
-use Rattle.sorting.specs.Measures.{sizedAt}
+use Rattle.memory.specs.rules.Lists.{table, total}
+use Rattle.sorting.specs.stages.Measures.{sizedAt}
 use Rattle.sorting.proofs.AreaLaws.{areas-none, areas-more, areas-fit}
 use Rattle.sorting.proofs.measure.total_area.Statement.{statement}
 use Rattle.sorting.proofs.measure.total_area.Tie as tie

@@ -2,10 +2,10 @@ use native.Mathlib.Omega.{arith}
 use Prim.Native.Nat.{_+_, _-_, _≤_, _<_, zero-le}
 use mathlib.Core.Path.{_≡_, refl, sym, ap, _∙_, subst}
 use Rattle.labelling.specs.declared.component.Component.{Component}
-use Rattle.sorting.specs.Counts.{BoxFits}
-use Rattle.sorting.specs.Units.{unitValue}
-use Rattle.sorting.specs.Kinds.{kindOf}
-use Rattle.sorting.specs.Measures.{Stored, sizedAt}
+use Rattle.sorting.specs.stages.Counts.{BoxFits}
+use Rattle.sorting.specs.rules.Units.{unitValue}
+use Rattle.sorting.specs.rules.Kinds.{kindOf}
+use Rattle.sorting.specs.stages.Measures.{Stored, sizedAt}
 use Rattle.sorting.proofs.StoredLaws.{stored-none, stored-more, stored-count}
 use Rattle.sorting.proofs.SizedLaws.{sized-before}
 use Rattle.sorting.proofs.HeightLaws.{box-fits}

@@ -2,10 +2,10 @@ use native.Mathlib.Omega.{arith}
 use mathlib.Core.Path.{_≡_, refl, ap, _∙_}
 use Prim.Native.Nat.{_≤_, _-_}
 use lib.ListN.{length, take}
-use Rattle.memory.specs.Lists.{total}
+use Rattle.memory.specs.rules.Lists.{total}
 use Rattle.sorting.proofs.Medians.{counts-median, counts-none, counts-loop}
 use Rattle.sorting.proofs.median.median_of_counts.Statement.{statement}
-use Rattle.memory.specs.Lists as Lists
+use Rattle.memory.specs.rules.Lists as Lists
 use Rattle.sorting.proofs.median.median_of_counts.Tie as tie
 
 abbrev Inv-loop : tie.InvT-loop

@@ -3,7 +3,7 @@ use borrow.Author.Needs.{needs}
 use Prim.Native.Nat.{_≤_}
 use mathlib.Core.Path.{_∙_}
 use Rattle.labelling.specs.declared.marked.Test.the-variants.{Neither}
-use Rattle.sorting.specs.Sortings.{passed}
+use Rattle.sorting.specs.stages.Sortings.{passed}
 use Rattle.sorting.proofs.PlanLaws.{plan-marked, plan-sizes, plan-down, plan-dots, frame-kept}
 use Rattle.sorting.proofs.SortLaws.{left-inside, left-many, rest-inside, rest-done}
 use Rattle.sorting.proofs.sort.sort_rest.Statement.{statement}

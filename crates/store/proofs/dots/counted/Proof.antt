@@ -4,7 +4,7 @@ use Prim.Native.Nat.{_*_}
 use native.Mathlib.Omega.{arith}
 use lib.ListN.{getD}
 use lib.Seq.{length-take-le}
-use Rattle.grouping.specs.Readings.{listed}
+use Rattle.grouping.specs.rules.Readings.{listed}
 use Rattle.store.specs.stages.Areas.{wordsFrame, wordsKinds}
 use Rattle.store.proofs.DotReads.{cut-words, cut-count, count-low}
 use borrow.Author.Needs.{needs}

@@ -4,7 +4,7 @@ use Prim.Native.Nat.{_*_}
 use native.Mathlib.Omega.{arith}
 use lib.ListN.{getD}
 use lib.Seq.{length-take-le}
-use Rattle.memory.specs.Words.{over}
+use Rattle.memory.specs.rules.Words.{over}
 use Rattle.store.specs.stages.Areas.{wordsKinds}
 use Rattle.store.proofs.DotReads.{cut-words, cut-count, cut-list}
 use borrow.Author.Needs.{needs}

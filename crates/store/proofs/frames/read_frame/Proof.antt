@@ -3,7 +3,7 @@ use mathlib.Core.Path.{sym, ap, _∙_}
 use mathlib.Core.List.{List}
 use Prim.Native.Nat.{ℕ}
 use borrow.Author.Tests.{ltb-false}
-use Rattle.memory.specs.Words.{over}
+use Rattle.memory.specs.rules.Words.{over}
 use Rattle.judging.proofs.LevelLaws.{readable}
 use Rattle.store.specs.rules.Readings.{LevelReading}
 use Rattle.store.specs.rules.Readings.Output.{words}

@@ -1,6 +1,6 @@
 -- `store::layouts::tell` meets its contract, case by case. Assumes nothing.
 use mathlib.Core.Path.{sym, ap, _∙_}
-use Rattle.segmenting.specs.Answers.{numberOf}
+use Rattle.segmenting.specs.rules.Answers.{segmentNumber}
 use Rattle.segmenting.specs.declared.page.SegmentAnswer.{SegmentAnswer}
 use Rattle.store.specs.stages.Heads.{headLeft}
 use borrow.Author.Needs.{needs}
@@ -22,7 +22,7 @@ same-length c = search needs
 returns : tie.Need-returns
 returns c =
     let e = c .before .before .before .before .before .answer .given .1 in
-    (ap numberOf (sym e), c .before .before .write-head .ensures ∙ ap (λ (z : SegmentAnswer). headLeft z (c .before .before .before .before .before .before .before .before .args .store .now)) (sym e))
+    (ap segmentNumber (sym e), c .before .before .write-head .ensures ∙ ap (λ (z : SegmentAnswer). headLeft z (c .before .before .before .before .before .before .before .before .args .store .now)) (sym e))
 
 returns-2 : tie.Need-returns-2
 returns-2 c = search needs

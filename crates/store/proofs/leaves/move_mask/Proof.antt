@@ -1,7 +1,7 @@
 -- `store::leaves::move_mask` meets its contract: a part of the store is filled. Assumes nothing.
 use mathlib.Core.List.{_++_}
 use native.Mathlib.Omega.{arith}
-use Rattle.levelling.specs.Frames.{frame}
+use Rattle.levelling.specs.rules.Frames.{frame}
 use Rattle.segmenting.proofs.PutLaws.{part-length, put-part}
 use borrow.Author.Needs.{needs}
 use Rattle.store.proofs.leaves.move_mask.Statement.{statement}

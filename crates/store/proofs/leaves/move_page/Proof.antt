@@ -1,8 +1,8 @@
 -- `store::leaves::move_page` meets its contract: the words that were filled are the frame's own shears. Assumes nothing.
 use mathlib.Core.Path.{ap, _∙_}
-use Rattle.memory.specs.Words.{over}
-use Rattle.levelling.specs.Frames.{Frame}
-use Rattle.levelling.specs.Planes.{levelled}
+use Rattle.memory.specs.rules.Words.{over}
+use Rattle.levelling.specs.rules.Frames.{Frame}
+use Rattle.levelling.specs.rules.Planes.{levelled}
 use Rattle.levelling.proofs.ShearParts.{parts-are, parts-fit}
 use borrow.Author.Needs.{needs}
 use Rattle.store.proofs.leaves.move_page.Statement.{statement}

@@ -3,9 +3,9 @@ use mathlib.Core.Path.{ap, _∙_}
 use native.Mathlib.Omega.{arith}
 use mathlib.Core.List.{_∷_, _++_}
 use lib.ListN.{length}
-use Rattle.levelling.specs.Frames.{frame}
+use Rattle.levelling.specs.rules.Frames.{frame}
 use Rattle.store.specs.rules.Written.{headWords}
-use Rattle.grouping.specs.Words.{putAt}
+use Rattle.memory.specs.rules.Words.{putAt}
 use Rattle.judging.proofs.PartLaws.{length-over}
 use borrow.Author.Needs.{needs}
 use Rattle.store.proofs.leaves.write_leaf.Statement.{statement}

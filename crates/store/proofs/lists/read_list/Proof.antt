@@ -1,7 +1,7 @@
 use mathlib.Core.Path.{ap, _∙_}
 use lib.ListN.{length}
 use native.Mathlib.Omega.{arith}
-use Rattle.memory.specs.Words.{over}
+use Rattle.memory.specs.rules.Words.{over}
 use Rattle.store.specs.rules.Readings.{ResultReading}
 use Rattle.store.specs.stages.Areas.{whichOf}
 use Rattle.store.proofs.ToldLaws.{told-refused, told-good}

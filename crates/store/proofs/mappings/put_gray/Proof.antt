@@ -1,9 +1,9 @@
 -- `store::mappings::put_gray` meets its contract: the frame of the two parts is the one held. Assumes nothing.
 use native.Mathlib.Omega.{arith}
 use mathlib.Core.Path.{ap, _∙_}
-use Rattle.memory.specs.Words.{over}
-use Rattle.levelling.specs.Frames.{Frame}
-use Rattle.levelling.specs.Planes.{levelGray}
+use Rattle.memory.specs.rules.Words.{over}
+use Rattle.levelling.specs.rules.Frames.{Frame}
+use Rattle.levelling.specs.rules.Planes.{levelGray}
 use Rattle.judging.proofs.LevelLaws.{readable}
 use Rattle.store.proofs.MappingLaws.{wide-by, read-room, frame-of-code, plane-fits}
 use borrow.Author.Needs.{needs}

@@ -3,7 +3,7 @@ use mathlib.Core.Path.{sym, ap, _∙_}
 use mathlib.Core.List.{List}
 use lib.IntN.{ℤ}
 use borrow.Author.Tests.{ltb-false}
-use Rattle.labelling.specs.declared.rect.Rect.{Rect}
+use Rattle.memory.specs.declared.rect.Rect.{Rect}
 use Rattle.store.specs.rules.Readings.{LevelReading, filled, rectNumbers}
 use Rattle.store.specs.rules.Readings.Output.{integers}
 use Rattle.store.specs.rules.Outcomes.{told}

@@ -1,0 +1,2 @@
+-- parents, and what they owe to a relation
+pub mod Forests
