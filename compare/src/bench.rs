@@ -3,7 +3,7 @@
 
 use std::time::{Duration, Instant};
 
-use crate::pages::{Kind, KINDS};
+use crate::pages::{Kind, KINDS, LINED};
 
 /// How often each side is timed, at the most and at the least; between them, until the time is up.
 const MOST_TURNS: u32 = 25;
@@ -38,6 +38,12 @@ impl Bench {
             .filter(|kind| *kind != Kind::Dot)
             .filter(asked)
             .collect()
+    }
+
+    /// The kinds with many lines or many glyphs in a line that are timed.
+    pub fn lined(&self) -> Vec<Kind> {
+        let asked = |kind: &Kind| self.0.is_empty() || self.0.contains(kind);
+        LINED.into_iter().filter(asked).collect()
     }
 
     /// One line, `STAGE PAGE ratio R, ours A, the Rust B milliseconds`: the Rust's time over ours, then both. Each side hands its

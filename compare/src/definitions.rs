@@ -32,9 +32,10 @@ use lib.ListN.{getD}
 use lib.Ieee.{Float, binary64, ofBits, toBits}
 use Rattle.params.specs.declared.LayoutParams.{LayoutParams}
 use Rattle.labelling.specs.declared.rect.Rect.{Rect}
-use Rattle.grouping.specs.Layouts.{Page, page}
-use Rattle.grouping.specs.Readings.{summary, summaryNumbers}
-use Rattle.grouping.proofs.Computed.{computed}
+use Rattle.grouping.specs.rules.Readings.{summaryNumbers}
+use Rattle.segmenting.specs.rules.Layouts.{Page, page}
+use Rattle.segmenting.specs.rules.LayoutReadings.{summary}
+use Rattle.segmenting.proofs.Computed.{computed}
 use Rattle.listing.specs.rules.Pages.{corners, headFigures, lineFigures, blockFigures, glyphFigures, columnFigures}
 
 rows : Page → List (List ℕ)
@@ -48,7 +49,7 @@ rows p =
     ++ map (λ (r : Rect). 4 ∷ corners r) (l .graphics)
     ++ map glyphFigures (l .glyphs)
     ++ map columnFigures (l .columns)
-    ++ ((l .ink-pixels ∷ getD (l .counts) 0 0 ∷ getD (l .counts) 3 0 ∷ [])
+    ++ ((l .ink-pixels ∷ l .counts .cut ∷ l .counts .glyph ∷ [])
     ∷ p .levelled .frame .shear
     ∷ p .levelled .frame .shear-x
     ∷ map (toBits binary64) (summaryNumbers (summary (p .levelled .frame) (p .levelled .skew) l))

@@ -14,6 +14,7 @@ mod masks;
 mod ours;
 mod pages;
 mod parts;
+mod pbm;
 mod random;
 mod tally;
 
@@ -91,8 +92,12 @@ fn run(chosen: &[&Part], all: bool) -> ExitCode {
     }
 }
 
-/// Times the parts named, on the kinds of pages named.
+/// Times the parts named, on the kinds of pages named, and the whole pass on the scans named; the parts only where no scan is named.
 fn bench(words: &[String]) -> ExitCode {
+    let (scans, words): (Vec<String>, Vec<String>) = words.iter().cloned().partition(|word| word.ends_with(".pbm"));
+    if !scans.is_empty() && words.is_empty() {
+        return bench_scans(&scans);
+    }
     let (pages, names): (Vec<String>, Vec<String>) =
         words.iter().cloned().partition(|word| pages::named(word).is_some());
     let Some(chosen) = chosen(&names) else {
@@ -103,6 +108,25 @@ fn bench(words: &[String]) -> ExitCode {
         (part.bench)(&mut bench::Bench::new(kinds.clone()));
     }
     ExitCode::SUCCESS
+}
+
+/// Times the whole pass on these PBM files; one that cannot be read or is refused is told and passed over.
+fn bench_scans(files: &[String]) -> ExitCode {
+    let mut status = ExitCode::SUCCESS;
+    for file in files {
+        let path = std::path::Path::new(file);
+        match pbm::read(path) {
+            Ok(scan) => {
+                let name = path.file_stem().map_or_else(|| file.clone(), |stem| stem.to_string_lossy().into_owned());
+                parts::segments::bench_scan(&mut bench::Bench::new(Vec::new()), &name, &scan.mask, scan.width);
+            }
+            Err(error) => {
+                eprintln!("{error}");
+                status = ExitCode::FAILURE;
+            }
+        }
+    }
+    status
 }
 
 /// The cost of a dot, on pages of 2^20 dots up to 2^24, or as high as the argument says.

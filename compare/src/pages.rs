@@ -34,6 +34,10 @@ pub enum Kind {
     Stripes,
     /// One dot of ink, anywhere.
     Dot,
+    /// As many as 4,000 lines of fifteen glyphs.
+    Lines,
+    /// As many as 40 lines of fifteen hundred glyphs.
+    FewLines,
 }
 
 /// Every kind, noise at the four densities of the benchmark.
@@ -57,6 +61,9 @@ pub const KINDS: [Kind; 17] = [
     Kind::Dot,
 ];
 
+/// Kinds for the time of many lines and of many glyphs in a line. They stand in no list of answers.
+pub const LINED: [Kind; 2] = [Kind::Lines, Kind::FewLines];
+
 impl std::fmt::Display for Kind {
     fn fmt(&self, f: &mut std::fmt::Formatter) -> std::fmt::Result {
         match self {
@@ -68,7 +75,7 @@ impl std::fmt::Display for Kind {
 
 /// The kind of this name.
 pub fn named(name: &str) -> Option<Kind> {
-    KINDS.into_iter().find(|kind| kind.to_string() == name)
+    KINDS.into_iter().chain(LINED).find(|kind| kind.to_string() == name)
 }
 
 impl Kind {
@@ -97,6 +104,8 @@ impl Kind {
                 let dot = random.below((width * height) as u64) as usize;
                 sheet.mask[dot] = 1;
             }
+            Kind::Lines => lines(&mut sheet, random, 15, 4000),
+            Kind::FewLines => lines(&mut sheet, random, 1500, 40),
         }
         sheet.mask
     }
@@ -226,6 +235,20 @@ fn text(sheet: &mut Sheet, random: &mut Random) {
     }
 }
 
+/// At most `most` lines of so many glyphs, side by side as far as there is room: a glyph is three dots wide and six or eight high.
+fn lines(sheet: &mut Sheet, random: &mut Random, glyphs: usize, most: usize) {
+    let (pitch, across) = (15, 5 * glyphs + 25);
+    let columns = sheet.width / across;
+    let rows = sheet.height / pitch;
+    for line in 0..(columns * rows).min(most) {
+        let (x, y) = (line % columns * across, line / columns * pitch + 4);
+        for glyph in 0..glyphs {
+            let rise = 2 * random.below(2) as usize;
+            sheet.bar(x + 5 * glyph, y - rise, x + 5 * glyph + 3, y + 6);
+        }
+    }
+}
+
 fn table(sheet: &mut Sheet, random: &mut Random) {
     let unit = sheet.unit();
     let (width, height) = (sheet.width, sheet.height);
@@ -320,7 +343,7 @@ mod tests {
     /// Every kind can be made at every small size.
     #[test]
     fn any_size() {
-        for kind in KINDS {
+        for kind in KINDS.into_iter().chain(LINED) {
             for width in 1..40 {
                 for height in 1..40 {
                     let mask = kind.page(width, height, &mut Random::new());
@@ -339,6 +362,8 @@ mod tests {
         assert_eq!(pieces(Kind::Blank, 101, 77), 0);
         assert_eq!(pieces(Kind::Stripes, 101, 77), 39);
         assert!(pieces(Kind::Text, 2048, 3072) > 2000);
+        assert_eq!(pieces(Kind::Lines, 2048, 3072), 60_000);
+        assert_eq!(pieces(Kind::FewLines, 8192, 768), 60_000);
         assert!(pieces(Kind::Diagonal, 100, 100) > 40);
         assert!(pieces(Kind::Antidiagonal, 100, 100) > 40);
         let ink = |kind: Kind| {

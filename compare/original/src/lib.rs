@@ -36,11 +36,22 @@ pub mod pixel {
 
     pub mod binarize {
         pub mod local {
+            use std::cell::RefCell;
+
             use crate::params::SauvolaParams;
 
-            /// The stand-in: the gray buffer is the mask.
+            thread_local! {
+                static HANDED: RefCell<Option<Vec<u8>>> = const { RefCell::new(None) };
+            }
+
+            /// The next call of [`sauvola`] answers this mask, so that no copy is made in its time.
+            pub fn hand(mask: Vec<u8>) {
+                HANDED.with(|handed| *handed.borrow_mut() = Some(mask));
+            }
+
+            /// The stand-in: the mask that was handed in, or else the gray buffer itself.
             pub fn sauvola(gray: &[u8], _: usize, _: usize, _: &SauvolaParams) -> Vec<u8> {
-                gray.to_vec()
+                HANDED.with(|handed| handed.borrow_mut().take()).unwrap_or_else(|| gray.to_vec())
             }
         }
     }
@@ -64,6 +75,20 @@ pub fn segment_mask(
         sauvola: params::SauvolaParams,
     };
     pixel::layout::segment(mask, width, height, skew_deg, &params)
+}
+
+/// The same, where `copy` is a copy of the mask for the original to take over.
+pub fn segment_copy(
+    mask: &[u8],
+    copy: Vec<u8>,
+    width: usize,
+    height: usize,
+    skew_deg: f64,
+    slope: f64,
+    sheet: &pixel::layout::LayoutParams,
+) -> error::Result<pixel::layout::Layout> {
+    pixel::binarize::local::hand(copy);
+    segment_mask(mask, width, height, skew_deg, slope, sheet)
 }
 
 /// `segment`'s own levelling of this mask under this slope, the ink uncut. Of the rest nothing is there but what the methods of

@@ -5,7 +5,7 @@
 use std::hint::black_box;
 
 use original::pixel::layout::{compare_measured, compare_sort, compare_sorted, Layout, LayoutParams, Rect};
-use original::{level_mask, segment_mask};
+use original::{level_mask, segment_copy, segment_mask};
 
 use super::kinds::near_sheet;
 use super::rulings::rust_counts;
@@ -435,14 +435,30 @@ fn bench(bench: &mut Bench) {
         Kind::Noise(_) => (kind, 1024, 1024),
         _ => (kind, 2048, 3072),
     });
+    let lined = bench.lined();
+    let lined = lined.iter().map(|&kind| match kind {
+        Kind::FewLines => (kind, 8192, 768),
+        _ => (kind, 2048, 3072),
+    });
     let large = kinds.iter().filter(|kind| matches!(kind, Kind::Text | Kind::Table)).map(|&kind| (kind, 8192, 8192));
-    for (kind, width, height) in pages.chain(large) {
+    for (kind, width, height) in pages.chain(lined).chain(large) {
         let mask = kind.page(width, height, &mut Random::new());
-        for (skew, slope) in [(0.0, 0.0), (0.6, 0.010_472)] {
+        for (skew, slope) in SKEWS {
             stages(bench, &p, &mask, width, skew, slope, &format!("{kind}-{width}x{height} slope {slope}"));
         }
     }
 }
+
+/// A scanned page: the lines of its stages, and of the whole, at slope 0 and at that of 0.6 degrees.
+pub fn bench_scan(bench: &mut Bench, name: &str, mask: &[u8], width: usize) {
+    let p = leaf_sheet();
+    for (skew, slope) in SKEWS {
+        stages(bench, &p, mask, width, skew, slope, &format!("{name} slope {slope}"));
+    }
+}
+
+/// The skews that pages are timed at, and their slopes.
+const SKEWS: [(f64, f64); 2] = [(0.0, 0.0), (0.6, 0.010_472)];
 
 /// A page to time, and what is lent for it.
 struct Timed<'a> {
@@ -507,12 +523,15 @@ impl<'a> Timed<'a> {
         assert!(black_box(levelled), "the page is not levelled");
     }
 
-    /// The Rust starts from a copy of the mask, as in the whole, where the copy stands for the mask that it makes.
+    /// The Rust takes its mask over, and at slope 0 has then nothing to do; ours leaves the mask as it is and copies. So at slope 0 the copy that
+    /// the Rust's mask comes in by is counted; at every other slope it is made before the time is taken.
     fn levelling(&mut self) -> Times {
         let (p, mask, (width, height), skew, slope) = (self.p, self.mask, self.sides, self.skew, self.slope);
+        let copy = if slope == 0.0 { None } else { Some(mask.to_vec()) };
         Times::once(
             || {
-                black_box(level_mask(black_box(mask).to_vec(), width, height, skew, slope, p));
+                let copy = copy.unwrap_or_else(|| black_box(mask).to_vec());
+                black_box(level_mask(black_box(copy), width, height, skew, slope, p));
             },
             || self.level(),
         )
@@ -547,13 +566,15 @@ impl<'a> Timed<'a> {
         )
     }
 
+    /// The copy of the mask that the Rust takes over is made before the time is taken.
     fn whole(&mut self) -> Times {
         let (p, mask, (width, height), (w, h)) = (self.p, self.mask, self.sides, self.frame);
         let (skew, slope) = (self.skew, self.slope);
         let mut figures = [1; FIGURES];
+        let copy = mask.to_vec();
         Times::once(
             || {
-                black_box(segment_mask(black_box(mask), width, height, skew, slope, p).expect("accepted"));
+                black_box(segment_copy(black_box(mask), copy, width, height, skew, slope, p).expect("accepted"));
             },
             || {
                 self.level();
