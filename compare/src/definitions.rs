@@ -31,7 +31,7 @@ use lib.Dec.{leb}
 use lib.ListN.{getD}
 use lib.Ieee.{Float, binary64, ofBits, toBits}
 use Rattle.params.specs.declared.LayoutParams.{LayoutParams}
-use Rattle.labelling.specs.declared.rect.Rect.{Rect}
+use Rattle.memory.specs.declared.rect.Rect.{Rect}
 use Rattle.grouping.specs.rules.Readings.{summaryNumbers}
 use Rattle.segmenting.specs.rules.Layouts.{Page, page}
 use Rattle.segmenting.specs.rules.LayoutReadings.{summary}
