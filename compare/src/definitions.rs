@@ -53,7 +53,7 @@ rows p =
     ∷ p .levelled .frame .shear
     ∷ p .levelled .frame .shear-x
     ∷ map (toBits binary64) (summaryNumbers (summary (p .levelled .frame) (p .levelled .skew) l))
-    ∷ map (λ k. cond (leb 2 k) 1 0) (l .kinds)
+    ∷ map (λ k. cond (leb 2 k) 1 0) (l .plane)
     ∷ [])
 ";
 

@@ -56,7 +56,7 @@ pub record ResultKept (a : Leaf) (sheet : LayoutParams) (v : World) : Type 0 whe
   pub pieces : layoutRefusal (a .capacity) (layoutOf a sheet) ≡ 0
   pub results : ResultsHold a (layoutOf a sheet) (v .store)
   pub kinds-room : leafDots a ≤ length (v .kinds)
-  pub kinds : take (leafDots a) (v .kinds) ≡ layoutOf a sheet .kinds
+  pub kinds : take (leafDots a) (v .kinds) ≡ layoutOf a sheet .plane
 
 abbrev pub Kept : Account → World → Type 0
 Kept nothing v = wordAt (v .store) 0 ≡ 0
@@ -286,7 +286,7 @@ module _ (L : Lent) (m : Account) (v : World) (g : Agrees L m v) (l : Lent) (ps 
       let h = held s in
       let y = layoutHeld sheet h i in
       let n = segmentRefusal sheet (length s) (length i) (length k) x h (frameSpoiled s || inkSpoiled (dotsHeld h) i) (layoutRefusal (h .capacity) y) in
-      let z = settled-no n s k (storeSegmented (h .page-w) (frameHeld h .w) (frameHeld h .h) (h .capacity) y s) (over (y .kinds) k) (ap (λ n. eqb n 0) (sym (settled-number n s k _ _) ∙ e) ∙ q) in
+      let z = settled-no n s k (storeSegmented (h .page-w) (frameHeld h .w) (frameHeld h .h) (h .capacity) y s) (over (y .plane) k) (ap (λ n. eqb n 0) (sym (settled-number n s k _ _) ∙ e) ∙ q) in
       (λ t. back (world (z .0 t) i (z .1 t)) v) ∙ unchanged
 
   segment-right : (sheet : LayoutParams) (x : ℕ) → segmentLeft sheet s i k x .number ≡ tell m l (segment sheet x)
@@ -374,7 +374,7 @@ module _ (L : Lent) (m : Account) (v : World) (g : Agrees L m v) (l : Lent) (ps 
             let h = held s in
             let y = layoutHeld sheet h i in
             let n = segmentRefusal sheet (length s) (length i) (length k) x h (frameSpoiled s || inkSpoiled (dotsHeld h) i) (layoutRefusal (h .capacity) y) in
-            let z = settled-yes n s k (storeSegmented (h .page-w) (frameHeld h .w) (frameHeld h .h) (h .capacity) y s) (over (y .kinds) k) (ap (λ n. eqb n 0) refusal-leaf ∙ q) in
+            let z = settled-yes n s k (storeSegmented (h .page-w) (frameHeld h .w) (frameHeld h .h) (h .capacity) y s) (over (y .plane) k) (ap (λ n. eqb n 0) refusal-leaf ∙ q) in
             let P = segment-passed sheet (l .store) (l .ink) (l .kinds) x (leafHeld st a) false (layoutRefusal (a .capacity) (layoutOf a sheet))
             ((λ t. segmentRefusal sheet (l .store) (l .ink) (l .kinds) x (sym says-leaf t) false (sym pieces-leaf t)) ∙ eqb-true _ 0 q) in
             let hl = held-leaf (P .words) in
@@ -383,11 +383,11 @@ module _ (L : Lent) (m : Account) (v : World) (g : Agrees L m v) (l : Lent) (ps 
             (λ t. storeSegmented (hl t .page-w) (frameHeld (hl t) .w) (frameHeld (hl t) .h) (hl t .capacity) (yl t) s)
             ∙ ap (λ (f : Frame). storeSegmented (a .w) (f .w) (f .h) (a .capacity) (layoutOf a sheet) s) (frame-of a st) in
             subst (λ (w : Account). Agrees L w (step v (call l (segment sheet x)))) (sym took-leaf)
-            (subst (Agrees L (segmented a sheet)) (λ t. back (world (sym (z .0 ∙ stored) t) i (sym (z .1 ∙ (λ j. over (yl j .kinds) k)) t)) v)
+            (subst (Agrees L (segmented a sheet)) (λ t. back (world (sym (z .0 ∙ stored) t) i (sym (z .1 ∙ (λ j. over (yl j .plane) k)) t)) v)
             (new P))
           where
             new : SegmentPassed sheet (l .store) (l .ink) (l .kinds) x (leafHeld st a) false (layoutRefusal (a .capacity) (layoutOf a sheet))
-                → Agrees L (segmented a sheet) (back (world (storeSegmented (a .w) (levellingOf a .frame .w) (levellingOf a .frame .h) (a .capacity) (layoutOf a sheet) s) i (over (layoutOf a sheet .kinds) k)) v)
+                → Agrees L (segmented a sheet) (back (world (storeSegmented (a .w) (levellingOf a .frame .w) (levellingOf a .frame .h) (a .capacity) (layoutOf a sheet) s) i (over (layoutOf a sheet .plane) k)) v)
             new P =
                 let y = layoutOf a sheet in
                 let H = store-leaf (P .room) in
@@ -395,12 +395,12 @@ module _ (L : Lent) (m : Account) (v : World) (g : Agrees L m v) (l : Lent) (ps 
                 let t = storeSegmented (a .w) (levellingOf a .frame .w) (levellingOf a .frame .h) (a .capacity) y s in
                 let tl = segmented-length a y F s H in
                 let tlen : length t ≤ length (v .store) = (let e = s-long in let x = store-in in omega arith) in
-                let kl : length (y .kinds) ≡ leafDots a = kinds-long sheet (levellingOf a .frame .w) (levellingOf a .frame .h) (levellingOf a .ink) in
+                let kl : length (y .plane) ≡ leafDots a = kinds-long sheet (levellingOf a .frame .w) (levellingOf a .frame .h) (levellingOf a .ink) in
                 let kin : leafDots a ≤ length k = (let e = k-long in let r = P .kinds-room in let d = dots-asked in omega arith) in
-                let ko : length (over (y .kinds) k) ≡ length k = length-over (y .kinds) k (omega arith) in
-                let klen : length (over (y .kinds) k) ≤ length (v .kinds) = (let e = k-long in let x = kinds-in in omega arith) in
+                let ko : length (over (y .plane) k) ≡ length k = length-over (y .plane) k (omega arith) in
+                let klen : length (over (y .plane) k) ≤ length (v .kinds) = (let e = k-long in let x = kinds-in in omega arith) in
                 let so = length-over t (v .store) tlen in
-                let oo = length-over (over (y .kinds) k) (v .kinds) klen in
+                let oo = length-over (over (y .plane) k) (v .kinds) klen in
                 let room : leafStore a ≤ length t = (let r = H .room in omega arith) in
                 record {
                   store = so ∙ g .store;
@@ -421,8 +421,8 @@ module _ (L : Lent) (m : Account) (v : World) (g : Agrees L m v) (l : Lent) (ps 
                       results = results-back a y t (v .store) F room (segmented-results a y F s H);
                       kinds-room = let x = kinds-in in let e = k-long in omega arith;
                       kinds =
-                          take-append-le (leafDots a) (over (y .kinds) k) (drop (length (over (y .kinds) k)) (v .kinds)) (omega arith)
-                          ∙ take-at (y .kinds) (drop (length (y .kinds)) k) (leafDots a) kl;
+                          take-append-le (leafDots a) (over (y .plane) k) (drop (length (over (y .plane) k)) (v .kinds)) (omega arith)
+                          ∙ take-at (y .plane) (drop (length (y .plane)) k) (leafDots a) kl;
                     },
                   );
                 }

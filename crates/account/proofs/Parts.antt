@@ -121,7 +121,7 @@ module _ (a : Leaf) (sheet : LayoutParams) (v : World) (K : LevelKept 2 a v) (R 
 
   -- the words of the dots
   word : (j : ℕ) → j < 15 → getD (v .store) (10 + j) 0 ≡ getD (figureWords (figuresOf (layoutOf a sheet))) j 0
-  word j l = sym (part-word 10 15 (v .store) j 0 l) ∙ ap (λ (z : List ℕ). getD z j 0) (R .results .figures)
+  word j l = sym (part-word 10 15 (v .store) j l) ∙ ap (λ (z : List ℕ). getD z j 0) (R .results .figures)
 
   pub ink-word : dotsWord v 0 ≡ occurs 1 (a .mask)
   unfolding figureWords layout

@@ -14,7 +14,7 @@ use Rattle.memory.specs.rules.Lists.{greatest}
 use Rattle.memory.specs.rules.Refusals.{refuseIf}
 use Rattle.memory.specs.rules.Words.{over}
 use Rattle.memory.proofs.RefusalLaws.{refusal-passed, passes-none, passes-if}
-use Rattle.sorting.specs.stages.Sortings.{FrameRoom, CutsHeld}
+use Rattle.sorting.specs.stages.SortSteps.{FrameRoom, CutsHeld}
 use Rattle.sorting.specs.rules.Capacity.{mostCuts}
 use Rattle.sorting.specs.declared.sort.Cuts.{Cuts}
 use Rattle.boundary.specs.rules.Frames.{frameRefusal, roomRefusal, told}

@@ -11,7 +11,7 @@ use Rattle.memory.specs.rules.Limits.{maxMaskSide, maxMaskDots}
 use Rattle.memory.specs.rules.Lists.{table}
 use Rattle.memory.specs.rules.Words.{over}
 use Rattle.rounding.proofs.Tests.{yes}
-use Rattle.extents.specs.rules.Answers.{isMaskSide}
+use Rattle.memory.specs.rules.Masks.{isMaskSide}
 use Rattle.rulings.specs.stages.Marks.{cutMark}
 use Rattle.extents.specs.stages.Scans.{MaskFits}
 use Rattle.rulings.specs.stages.Sweeps.{RulingsRoom}
@@ -62,13 +62,13 @@ fit-of mask w h run-min marks counters t =
 -- the test as the code makes it, from what it was told of the sides and of their product
 pub fit-is :
     (mask w h run-min marks counters d : ℕ) (a b : Bool) → a ≡ isMaskSide w → b ≡ isMaskSide h → d ≡ w * h
-    → (a && b && leb d 1073741824 && eqb mask d && leb d marks && leb 2 run-min && leb (w + w) counters && leb (h + h) counters) ≡ rulingsFit mask w h run-min marks counters
+    → (a && b && leb d maxMaskDots && eqb mask d && leb d marks && leb 2 run-min && leb (w + w) counters && leb (h + h) counters) ≡ rulingsFit mask w h run-min marks counters
 unfolding rulingsFit
 fit-is mask w h run-min marks counters d a b e f g =
-    ap (λ (t : Bool). t && b && leb d 1073741824 && eqb mask d && leb d marks && leb 2 run-min && leb (w + w) counters && leb (h + h) counters) e
-    ∙ ap (λ (t : Bool). isMaskSide w && t && leb d 1073741824 && eqb mask d && leb d marks && leb 2 run-min && leb (w + w) counters && leb (h + h) counters) f
+    ap (λ (t : Bool). t && b && leb d maxMaskDots && eqb mask d && leb d marks && leb 2 run-min && leb (w + w) counters && leb (h + h) counters) e
+    ∙ ap (λ (t : Bool). isMaskSide w && t && leb d maxMaskDots && eqb mask d && leb d marks && leb 2 run-min && leb (w + w) counters && leb (h + h) counters) f
     ∙ ap
-    (λ (k : ℕ). isMaskSide w && isMaskSide h && leb k 1073741824 && eqb mask k && leb k marks && leb 2 run-min && leb (w + w) counters && leb (h + h) counters)
+    (λ (k : ℕ). isMaskSide w && isMaskSide h && leb k maxMaskDots && eqb mask k && leb k marks && leb 2 run-min && leb (w + w) counters && leb (h + h) counters)
     g
 
 pub rulings-held :

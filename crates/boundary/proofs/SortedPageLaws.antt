@@ -25,10 +25,10 @@ use Rattle.params.proofs.SheetLaws.{valid-gives}
 use Rattle.sorting.specs.stages.Scratch.{SortRoom}
 use Rattle.sorting.specs.rules.Capacity.{mostComponents}
 use Rattle.sorting.specs.rules.Sorted.{sorted}
-use Rattle.sorting.specs.stages.Sortings.{SortHeld}
+use Rattle.sorting.specs.stages.SortSteps.{SortHeld}
 use Rattle.sorting.specs.rules.Units.{unitValue}
 use Rattle.sorting.specs.declared.Unit.{Unit}
-use Rattle.sorting.specs.declared.sort.Sorting.{Sorting}
+use Rattle.sorting.specs.declared.sort.SortCounts.{SortCounts}
 use Rattle.boundary.specs.rules.Frames.{told}
 use Rattle.segmenting.specs.rules.Figures.{measuredWord}
 use Rattle.boundary.specs.rules.Pages.{planeRefusal}
@@ -50,12 +50,12 @@ sort-written unit ink horizontal vertical components s t a x l ea ex et =
     ∙ stores-over (sortWords unit ink horizontal vertical components) s l
 
 -- each figure is at most the greatest number of components
-pub record FewSorted (P : ℕ) (f : Sorting) : Type 0 where
+pub record FewSorted (P : ℕ) (f : SortCounts) : Type 0 where
   pub horizontal : f .horizontal ≤ P
   pub vertical : f .vertical ≤ P
-  pub components : f .components ≤ P
+  pub components : f .«component_count» ≤ P
 
-pub few-sorted : {p : LayoutParams} {w h P : ℕ} {m s : List ℕ} {f : Sorting} → SortHeld p w h m P s f → FewSorted P f
+pub few-sorted : {p : LayoutParams} {w h P : ℕ} {m s : List ℕ} {f : SortCounts} → SortHeld p w h m P s f → FewSorted P f
 unfolding greatest
 few-sorted H =
     let a = H .few in let x = H .figures .horizontal-is in let y = H .figures .vertical-is in let z = H .figures .components-is in
@@ -145,7 +145,7 @@ module _ (p : LayoutParams) (w h : ℕ) (m : List ℕ) (P : ℕ) (words figures 
               (number-is ∙ ap (λ b. cond b 20 0) (lt-ltb P (mostComponents (sorted p w h m)) l))
               (λ z. absurd (omega arith))
 
-          pub sort-done : (f : Sorting) (figures' : List ℕ) → SortHeld p w h m P part f → figures' ≡ over (sortWords (f .unit) (f .ink) (f .horizontal) (f .vertical) (f .components)) figures
+          pub sort-done : (f : SortCounts) (figures' : List ℕ) → SortHeld p w h m P part f → figures' ≡ over (sortWords (f .unit) (f .ink) (f .horizontal) (f .vertical) (f .«component_count»)) figures
               → told 0 figures' (length (part ++ drop need words)) (drop (scratchWords (w * h) P) (part ++ drop need words)) ≡ sortedPage p w h m P words figures
           unfolding refuseIf
           sort-done f figures' H e =

@@ -3,14 +3,12 @@ ghost use mathlib.Core.Path.{_≡_};
 ghost use Prim.Native.Nat.{_*_, _≤_};
 ghost use Rattle.memory.specs.rules.Limits.{maxFrameWidth, maxFrameHeight};
 ghost use Rattle.boundary.specs.rules.Frames.{frameRefusal, roomRefusal};
+use memory::MAX_FRAME_HEIGHT;
+use memory::MAX_FRAME_WIDTH;
 use memory::refuse_if;
 
-// 01's limits, under the names that specs/Limits of the crate memory gives them.
-const MAX_FRAME_WIDTH: u32 = 24574;
-
-const MAX_FRAME_HEIGHT: u32 = 16383;
-
-const MAX_CAPACITY: usize = 65535;
+// The greatest capacity, as the counts of places are.
+const MAX_CAPACITY: usize = memory::MAX_CAPACITY as usize;
 
 // 1 or 2 where a side or the ink's length is not as it must be, else what the later tests gave.
 pub fn judge_frame(width: u32, height: u32, ink: usize, later: u32) -> u32

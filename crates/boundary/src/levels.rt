@@ -4,6 +4,7 @@ ghost use mathlib.Core.Path.{_≡_};
 ghost use mathlib.Core.List.{_++_};
 ghost use Prim.Native.Nat.{_+_, _*_, _≤_};
 ghost use lib.ListN.{length};
+ghost use Rattle.memory.specs.rules.Limits.{maxPageSide, maxFrameWidth, maxFrameHeight};
 ghost use Rattle.memory.specs.rules.Words.{over};
 ghost use Rattle.rounding.specs.rules.Drift.{WithinOne};
 ghost use Rattle.levelling.specs.rules.Shears as Shears;
@@ -11,6 +12,7 @@ ghost use Rattle.levelling.specs.rules.Frames.{PageSides, frame};
 ghost use Rattle.levelling.specs.rules.Planes.{levelled};
 ghost use Rattle.boundary.specs.rules.Levels.{skewSheet, inLimits, frameWord, lentFits, isLevelled, PlaneTold, holdsRow, pointIn, rectIn, cornerWord};
 use levelling::Point;
+use memory::MAX_PAGE_SIDE;
 use memory::Rect;
 use params::LayoutParams;
 
@@ -51,9 +53,9 @@ fn in_limits(page_w: u32, page_h: u32, slope: f64) -> bool
     ensures { λ r. ⌜ r ≡ inLimits «page_w» «page_h» slope ⌝ }
 {
     (0 < page_w)
-        & (page_w <= 8192)
+        & (page_w <= MAX_PAGE_SIDE)
         & (0 < page_h)
-        & (page_h <= 8192)
+        & (page_h <= MAX_PAGE_SIDE)
         & (-1.0 <= slope)
         & (slope <= 1.0)
 }
@@ -80,7 +82,7 @@ fn lent_fits(
     shears: usize,
     out: usize,
 ) -> bool
-    requires { ⌜ («page_w» ≤ 8192) × («page_h» ≤ 8192) × (w ≤ 24574) × (h ≤ 16383) ⌝ }
+    requires { ⌜ («page_w» ≤ maxPageSide) × («page_h» ≤ maxPageSide) × (w ≤ maxFrameWidth) × (h ≤ maxFrameHeight) ⌝ }
     ensures { λ r. ⌜ r ≡ lentFits page «page_w» «page_h» w h shears out ⌝ }
 {
     (page == page_w * page_h) & (page_w + h <= shears) & (w * h <= out)

@@ -7,6 +7,8 @@ ghost use lib.ListN.{length, drop};
 ghost use Rattle.memory.specs.rules.Limits.{maxFrameWidth, maxFrameHeight, scratchWords};
 ghost use Rattle.memory.specs.rules.Words.{over};
 ghost use Rattle.params.specs.rules.Sheets.{sheetOf};
+ghost use Rattle.sorting.specs.stages.Scratch.{SortRoom};
+ghost use Rattle.sorting.specs.stages.SortSteps.{sortLeft};
 ghost use Rattle.boundary.specs.rules.Frames.{told};
 ghost use Rattle.boundary.specs.rules.SortedPages.{sortFigures, sortLent, sortWords, sortedPage};
 use crate::frames::judge_room;
@@ -16,7 +18,8 @@ use memory::refuse_if;
 use params::LayoutParams;
 use segmenting::measured_word;
 use sorting::SortAnswer;
-use sorting::Sorting;
+use sorting::SortCounts;
+use sorting::plan_of;
 use sorting::sort_ink;
 
 const SORT_FIGURES: usize = 7;
@@ -38,9 +41,9 @@ fn judge_sort(
 }
 
 // The figures over the front of the words lent for them.
-fn write_sorting(found: Sorting, figures: &mut [u32])
-    requires { ⌜ (sortFigures ≤ length (now figures)) × (found .horizontal ≤ 4294967295) × (found .vertical ≤ 4294967295) × (found .components ≤ 4294967295) ⌝ }
-    ensures { λ _. ⌜ now (figures .exit) ≡ over (sortWords (found .unit) (found .ink) (found .horizontal) (found .vertical) (found .components)) (now (figures .entry)) ⌝ }
+fn write_sorting(found: SortCounts, figures: &mut [u32])
+    requires { ⌜ (sortFigures ≤ length (now figures)) × (found .horizontal ≤ 4294967295) × (found .vertical ≤ 4294967295) × (found .«component_count» ≤ 4294967295) ⌝ }
+    ensures { λ _. ⌜ now (figures .exit) ≡ over (sortWords (found .unit) (found .ink) (found .horizontal) (found .vertical) (found .«component_count»)) (now (figures .entry)) ⌝ }
 {
     let unit = found.unit;
     figures[0] = measured_word(unit);
@@ -48,7 +51,23 @@ fn write_sorting(found: Sorting, figures: &mut [u32])
     figures[3] = found.ink;
     figures[4] = found.horizontal as u32;
     figures[5] = found.vertical as u32;
-    figures[6] = found.components as u32;
+    figures[6] = found.component_count as u32;
+}
+
+// The plane sorted by the plan of its frame.
+fn sort_by_plan(
+    ink: &[u8],
+    w: u32,
+    h: u32,
+    sheet: LayoutParams,
+    capacity: usize,
+    words: &mut [u32],
+) -> SortAnswer
+    requires { ⌜ SortRoom sheet w h (now ink) capacity (now words) ⌝ }
+    ensures { λ r. ⌜ (length (now (words .exit)) ≡ length (now (words .entry))) × (sortLeft r sheet w h (now (ink .entry)) capacity (now (words .exit))) ⌝ }
+{
+    let plan = plan_of(w, h, capacity);
+    sort_ink(ink, plan, sheet, words)
 }
 
 // What can refuse the call is judged before anything is written, but for too many components.
@@ -74,7 +93,7 @@ fn sort_page(
         return lent;
     }
     let need = 4 * dots + 16 * p + 64;
-    match sort_ink(ink, w, h, sheet, p, &mut words[..need]) {
+    match sort_by_plan(ink, w, h, sheet, p, &mut words[..need]) {
         SortAnswer::TooMany => 20,
         SortAnswer::Sorted(found) => {
             write_sorting(found, figures);

@@ -5,15 +5,18 @@ ghost use mathlib.Core.List.{[], _∷_};
 ghost use Prim.Native.Nat.{_*_, _-_, _≤_, max};
 ghost use lib.ListN.{length, drop};
 ghost use Rattle.memory.specs.rules.Limits.{scratchWords};
+ghost use Rattle.memory.specs.rules.Masks.{isMaskSide};
 ghost use Rattle.memory.specs.rules.Words.{over};
-ghost use Rattle.params.specs.rules.Valid.{zero};
-ghost use Rattle.extents.specs.rules.Answers.{isMaskSide};
+ghost use Rattle.params.specs.rules.Valid.{floatZero};
 ghost use Rattle.sorting.specs.rules.Kinds.{kindBySize};
 ghost use Rattle.rulings.specs.rules.Rulings.{runMin, thickMax};
 ghost use Rattle.boundary.specs.rules.Frames.{told};
 ghost use Rattle.boundary.specs.rules.Sorting.{rulingsFit, RulingsTold, cutRulings, unitFor, sizeSheet};
 use crate::frames::judge_frame;
 use crate::frames::judge_room;
+use memory::MAX_MASK_DOTS;
+use memory::MAX_MASK_SIDE;
+use memory::area;
 use memory::refuse_if;
 use params::LayoutParams;
 use sorting::CutAnswer;
@@ -24,14 +27,7 @@ use sorting::label_rulings;
 fn is_mask_side(n: u32) -> bool
     ensures { λ r. ⌜ r ≡ isMaskSide n ⌝ }
 {
-    (0 < n) & (n <= 131072)
-}
-
-// The product of two numbers of 32 bits, which 64 bits hold.
-fn dots_of(width: u32, height: u32) -> usize
-    ensures { λ r. ⌜ r ≡ width * height ⌝ }
-{
-    (width as usize) * (height as usize)
+    (0 < n) & (n <= MAX_MASK_SIDE)
 }
 
 fn rulings_fit(
@@ -46,10 +42,10 @@ fn rulings_fit(
 {
     let w = width as usize;
     let h = height as usize;
-    let dots = dots_of(width, height);
+    let dots = area(width, height);
     is_mask_side(width)
         & is_mask_side(height)
-        & (dots <= 1073741824)
+        & (dots <= MAX_MASK_DOTS)
         & (mask == dots)
         & (dots <= marks)
         & (2 <= run_min)
@@ -185,7 +181,7 @@ fn size_sheet(
 // The least run of a thin ruling, in dots.
 #[no_mangle]
 pub extern "C" fn novlizeb_run_min(rule_run_xh: f64, unit: f64) -> u32
-    ensures { λ r. ⌜ r ≡ runMin (sizeSheet 0 zero zero zero «rule_run_xh» zero) unit ⌝ }
+    ensures { λ r. ⌜ r ≡ runMin (sizeSheet 0 floatZero floatZero floatZero «rule_run_xh» floatZero) unit ⌝ }
 {
     rulings::run_min(size_sheet(0, 0.0, 0.0, 0.0, rule_run_xh, 0.0), unit)
 }
@@ -193,7 +189,7 @@ pub extern "C" fn novlizeb_run_min(rule_run_xh: f64, unit: f64) -> u32
 // Its greatest thickness.
 #[no_mangle]
 pub extern "C" fn novlizeb_thick_max(rule_max_thick_xh: f64, unit: f64) -> u32
-    ensures { λ r. ⌜ r ≡ thickMax (sizeSheet 0 zero zero «rule_max_thick_xh» zero zero) unit ⌝ }
+    ensures { λ r. ⌜ r ≡ thickMax (sizeSheet 0 floatZero floatZero «rule_max_thick_xh» floatZero floatZero) unit ⌝ }
 {
     rulings::thick_max(size_sheet(0, 0.0, 0.0, rule_max_thick_xh, 0.0, 0.0), unit)
 }
@@ -215,7 +211,7 @@ pub extern "C" fn novlizeb_kind_by_size(
     width: u32,
     height: u32,
 ) -> u32
-    ensures { λ r. ⌜ r ≡ kindBySize (sizeSheet «glyph_min_area» «glyph_max_extent_frac» «rule_min_len_xh» «rule_max_thick_xh» zero «graphic_min_xh») value w h area width height ⌝ }
+    ensures { λ r. ⌜ r ≡ kindBySize (sizeSheet «glyph_min_area» «glyph_max_extent_frac» «rule_min_len_xh» «rule_max_thick_xh» floatZero «graphic_min_xh») value w h area width height ⌝ }
 {
     let sheet = size_sheet(
         glyph_min_area,

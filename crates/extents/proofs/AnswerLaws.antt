@@ -1,19 +1,18 @@
 -- Run extents called by themselves: refused, or done.
 use mathlib.Core.Path.{_≡_, sym, _∙_}
-use mathlib.Core.Bool.{not, _&&_}
+use mathlib.Core.Bool.{not}
 use mathlib.Core.List.{List}
 use Prim.Native.Nat.{ℕ, _*_}
-use borrow.Author.Tests.{ltb-true, ltb-false, leb-true, eqb-true, not-false, ne-eqb}
+use borrow.Author.Tests.{ltb-false, eqb-true, not-false, ne-eqb}
 use lib.ListN.{length}
-use lib.Dec.{eqb, ltb, leb}
+use lib.Dec.{eqb, ltb}
 use Rattle.memory.specs.rules.Words.{over}
-use Rattle.memory.specs.rules.Limits.{maxMaskSide, maxMaskDots}
 use Rattle.memory.proofs.RefusalLaws.{Passed, refusal-passed}
-use Rattle.extents.specs.rules.Answers.{isMaskSide, extentsRefusal, extentsAlong, extentsOutcome, runExtents}
+use Rattle.memory.proofs.MaskLaws.{sides-passed}
+use Rattle.extents.specs.rules.Answers.{extentsRefusal, extentsAlong, extentsOutcome, runExtents}
 use Rattle.extents.specs.stages.Scans.{MaskFits}
 use Rattle.extents.specs.declared.entry.Along.{Along}
 use Rattle.extents.specs.declared.entry.ExtentsAnswer.the-variants.{Done, Refused}
-use Rattle.memory.proofs.BoolLaws.{and-left, and-right}
 
 pub extents-refused : (m s : List ℕ) (w h n : ℕ) (along : Along) → n ≡ extentsRefusal (length m) w h (length s) → (n ≡ 0 → ⊥)
     → extentsOutcome (Refused n) s ≡ runExtents m w h along s
@@ -28,19 +27,15 @@ extents-done m s t w h n along e z q = rw (← e) (rw (z, q))
 pub extents-fit : (mask-length w h words n : ℕ) → n ≡ extentsRefusal mask-length w h words → n ≡ 0 → MaskFits w h mask-length words
 unfolding extentsRefusal
 extents-fit mask-length w h words n e z =
-    let a : Passed (not (isMaskSide w && isMaskSide h)) _ = refusal-passed (not (isMaskSide w && isMaskSide h)) 0 _ (sym e ∙ z) in
-    let b : Passed (ltb maxMaskDots (w * h)) _ = refusal-passed (ltb maxMaskDots (w * h)) 0 _ (a .later) in
-    let c : Passed (not (eqb mask-length (w * h))) _ = refusal-passed (not (eqb mask-length (w * h))) 1 _ (b .later) in
+    let a = sides-passed w h _ (sym e ∙ z) in
+    let c : Passed (not (eqb mask-length (w * h))) _ = refusal-passed (not (eqb mask-length (w * h))) 1 _ (a .later) in
     let d : Passed (ltb words (w * h)) 0 = refusal-passed (ltb words (w * h)) 8 0 (c .later) in
-    let sides = not-false (isMaskSide w && isMaskSide h) (a .passed) in
-    let sw = and-left (isMaskSide w) (isMaskSide h) sides in
-    let sh = and-right (isMaskSide w) (isMaskSide h) sides in
     record {
-      wide = ltb-true 0 w (and-left (ltb 0 w) (leb w maxMaskSide) sw);
-      narrow = leb-true w maxMaskSide (and-right (ltb 0 w) (leb w maxMaskSide) sw);
-      high = ltb-true 0 h (and-left (ltb 0 h) (leb h maxMaskSide) sh);
-      low = leb-true h maxMaskSide (and-right (ltb 0 h) (leb h maxMaskSide) sh);
-      few = ltb-false maxMaskDots (w * h) (b .passed);
+      wide = a .wide;
+      narrow = a .narrow;
+      high = a .high;
+      low = a .low;
+      few = a .few;
       dots = eqb-true mask-length (w * h) (not-false (eqb mask-length (w * h)) (c .passed));
       room = ltb-false words (w * h) (d .passed);
     }

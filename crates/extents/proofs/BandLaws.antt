@@ -16,8 +16,10 @@ use Rattle.memory.specs.rules.Masks.{isInk}
 use Rattle.extents.specs.rules.Extents.{inkAt, behind, runThrough, extent, columnExtents}
 use Rattle.extents.specs.stages.Scans.{MaskFits, TakesUp, countDown, cappedCount, columnExtent}
 use Rattle.extents.specs.stages.Bands.{Put, Counts, BandsCounted, countFrom, bandCount}
-use Rattle.extents.proofs.MaskLaws.{inkAt-dot, dot-column, dot-row}
-use Rattle.extents.proofs.OverLaws.{over-unique, getD-part, length-part}
+use Rattle.memory.proofs.PlaneLaws.{dot-column, dot-row}
+use Rattle.extents.proofs.MaskLaws.{inkAt-dot}
+use Rattle.extents.proofs.OverLaws.{over-unique}
+use Rattle.memory.proofs.PartLaws.{getD-part, length-part}
 use Rattle.extents.proofs.RunLaws.{behind-le, behind-from, count-next, runThrough-off, runThrough-next, runThrough-counted}
 use Rattle.extents.proofs.ExtentLaws.{ink-zero, ink-past, ink-inside, scan-more, row-upto, row-inside, row-next, row-before}
 use Rattle.extents.proofs.PutLaws.{put-same}
@@ -102,22 +104,22 @@ last-row w h m wide q i l k = sym (extent-taken w m wide h q i l ∙ ap (λ t. c
     and-off true b e = e
     and-off false b e = refl
 
--- Pieces of a row
+-- Chunks of a row
 
 part-ink : (a b : ℕ) (m : List ℕ) (k : ℕ) → a ≤ k → k < b → isInk (take (b - a) (drop a m)) (k - a) ≡ isInk m k
 unfolding isInk
 part-ink a b m k l u = ap (ltb 0) (getD-part a (b - a) m (k - a) (omega arith) ∙ ap (λ j. getD m j 0) (let z : a + (k - a) ≡ k = omega arith in z))
 
--- a piece without ink
-pub piece-blank : (a b : ℕ) (m : List ℕ) → b ≤ length m → ((j : ℕ) → j < length (take (b - a) (drop a m)) → isInk (take (b - a) (drop a m)) j ≡ false)
+-- a chunk without ink
+pub chunk-blank : (a b : ℕ) (m : List ℕ) → b ≤ length m → ((j : ℕ) → j < length (take (b - a) (drop a m)) → isInk (take (b - a) (drop a m)) j ≡ false)
     → (k : ℕ) → a ≤ k → k < b → isInk m k ≡ false
-piece-blank a b m l h k x y = sym (part-ink a b m k x y) ∙ h (k - a) (let z = length-part a b m (omega arith) l in omega arith)
+chunk-blank a b m l h k x y = sym (part-ink a b m k x y) ∙ h (k - a) (let z = length-part a b m (omega arith) l in omega arith)
 
--- a piece of n dots of which none goes on in the piece w behind it
-pub piece-apart : (a n w : ℕ) (m : List ℕ) → a + n ≤ length m
+-- a chunk of n dots of which none goes on in the chunk w behind it
+pub chunk-apart : (a n w : ℕ) (m : List ℕ) → a + n ≤ length m
     → ((j : ℕ) → j < length (take (a + n - a) (drop a m)) → (isInk (take (a + n - a) (drop a m)) j && isInk (take (a + w + n - (a + w)) (drop (a + w) m)) j) ≡ false)
     → (k : ℕ) → a ≤ k → k < a + n → (isInk m k && isInk m (k + w)) ≡ false
-piece-apart a n w m l h k x y =
+chunk-apart a n w m l h k x y =
     let z : k + w - (a + w) ≡ k - a = omega arith in
     let q = ap (isInk (take (a + w + n - (a + w)) (drop (a + w) m))) (sym z) ∙ part-ink (a + w) (a + w + n) m (k + w) (omega arith) (omega arith) in
     sym (λ i. part-ink a (a + n) m k x y i && q i) ∙ h (k - a) (let z = length-part a (a + n) m (omega arith) l in omega arith)

@@ -151,7 +151,7 @@ behind-from p x (suc d) S e = step (p (x + d)) refl (behind-from p x d S)
 pub behind-within : (p : ℕ → Bool) (x i : ℕ) → Starts p x → x ≤ i → p i ≡ true → behind p i ≤ i - x
 behind-within p x i S l e = let z : x + (i - x) ≡ i = omega arith in let h = behind-from p x (i - x) S (ap p z ∙ e) in let w = ap (behind p) z in omega arith
 
--- so a stretch of 64 dots caps none
+-- so a chunk of 64 dots caps none
 counted-within : (p : ℕ → Bool) (x i : ℕ) → Starts p x → x ≤ i → i < x + 64 → min (behind p (suc i)) maxExtent ≡ behind p (suc i)
 counted-within p x i S l h = go (p i) refl
   where
@@ -290,7 +290,7 @@ module _ (row : List ℕ) (x to : ℕ) (S : Starts (isInk row) x) (room : to + 3
           omega arith
 
   -- the extent of a dot of short runs
-  short-is : (i : ℕ) → 2 ≤ x → x ≤ i → i < to → shortExtent (p (i - 2)) (p (i - 1)) (p i) (p (i + 1)) (p (i + 2)) ≡ extent (isInk row) (length row) i
+  pub short-is : (i : ℕ) → 2 ≤ x → x ≤ i → i < to → shortExtentAt row i ≡ extent (isInk row) (length row) i
   short-is i two l h =
       let m = i - 2 in
       let e₁ : i - 1 ≡ suc m = omega arith in
@@ -299,14 +299,10 @@ module _ (row : List ℕ) (x to : ℕ) (S : Starts (isInk row) x) (room : to + 3
       let e₄ : i + 2 ≡ suc (suc (suc (suc m))) = omega arith in
       (λ j. shortExtent (p m) (p (e₁ j)) (p (e₂ j)) (p (e₃ j)) (p (e₄ j))) ∙ (core m (omega arith) (omega arith) ∙ ap (extent p (length row)) (sym e₂))
 
-  -- by the bytes
-  pub short-bytes : (i : ℕ) → 2 ≤ x → x ≤ i → i < to → shortExtentAt row i ≡ extent (isInk row) (length row) i
-  unfolding isInk
-  short-bytes i two l h = short-is i two l h
-
 -- the five dots around dot x + k, counted from two before x
 pub short-around : (row : List ℕ) (x k : ℕ) → 2 ≤ x
     → shortExtent (ltb 0 (getD row (x - 2 + k) 0)) (ltb 0 (getD row (x - 2 + k + 1) 0)) (ltb 0 (getD row (x - 2 + k + 2) 0)) (ltb 0 (getD row (x - 2 + k + 3) 0)) (ltb 0 (getD row (x - 2 + k + 4) 0)) ≡ shortExtentAt row (x + k)
+unfolding isInk
 short-around row x k two =
     let e₀ : x - 2 + k ≡ x + k - 2 = omega arith in
     let e₁ : x - 2 + k + 1 ≡ x + k - 1 = omega arith in

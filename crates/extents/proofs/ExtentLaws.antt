@@ -2,13 +2,13 @@
 use mathlib.Core.Path.{_≡_, refl, sym, ap, _∙_}
 use mathlib.Core.Bool.{Bool, true, false, cond, _&&_, _||_, true≢false}
 use mathlib.Core.List.{List, _++_}
-use Prim.Native.Nat.{ℕ, suc, _+_, _-_, _*_, _^_, _≤_, _<_, min}
-use native.Mathlib.Nat.{le-refl, mul-comm, suc-mul, mul-le-mul-right, lt-of-le-of-lt, mul-le-mul, le-pred-of-lt}
+use Prim.Native.Nat.{ℕ, suc, _+_, _-_, _*_, _≤_, _<_, min}
+use native.Mathlib.Nat.{le-refl, mul-comm, suc-mul, mul-le-mul-right}
 use native.Mathlib.Decide.{decLt}
 use native.Mathlib.Omega.{arith}
 use borrow.Author.Tests.{lt-ltb, le-ltb}
-use lib.ListN.{length, getD, take, drop, replicate, length-replicate, getD-replicate, List·getD-eq-default}
-use lib.Dec.{ltb, lit<}
+use lib.ListN.{length, getD, take, drop, List·getD-eq-default}
+use lib.Dec.{ltb}
 use borrow.Rule.Slice.PartMut.{putMid}
 use mir.Val.{boolByte}
 use Rattle.memory.specs.rules.Lists.{table}
@@ -18,12 +18,10 @@ use Rattle.memory.specs.rules.Limits.{maxExtent}
 use Rattle.memory.specs.rules.Masks.{isInk}
 use Rattle.extents.specs.rules.Extents.{inkAt, behind, runThrough, extent}
 use Rattle.extents.specs.stages.Scans.{ScannedTo, Starts, clear, blank, RowTo, singleDot, rowExtent, until}
-use Rattle.extents.proofs.MaskLaws.{dot-column, dot-row}
-use Rattle.extents.proofs.OverLaws.{until-below, until-from, getD-part, length-part, length-over, over-part, over-whole}
+use Rattle.memory.proofs.PlaneLaws.{dot-column, dot-row}
+use Rattle.extents.proofs.OverLaws.{until-below, until-from, length-over, over-part, over-whole}
+use Rattle.memory.proofs.PartLaws.{getD-part, length-part}
 use Rattle.extents.proofs.RunLaws.{behind-off, ahead-off, runThrough-ends, runThrough-off, starts-run, starts-zero}
-
-pub product-fits : (a b : ℕ) → a < 2 ^ 32 → b < 2 ^ 32 → a * b < 2 ^ 64
-product-fits a b ha hb = lt-of-le-of-lt (mul-le-mul (le-pred-of-lt ha) (le-pred-of-lt hb)) (lit< tt)
 
 pub ink-zero : (m : List ℕ) (i : ℕ) → getD m i 0 ≡ 0 → isInk m i ≡ false
 unfolding isInk
@@ -71,7 +69,7 @@ module _ (row : List ℕ) where
   abbrev n : ℕ
   n = length row
 
-  -- a stretch of blanks from a start on, then a stretch of ink
+  -- a chunk of blanks from a start on, then a chunk of ink
   module _ (x b e : ℕ) (S : Starts p x) (B : ScannedTo p false x n b) (I : ScannedTo p true b n e) where
     blank-end-off : p e ≡ false
     blank-end-off = go (decLt e n)
@@ -169,17 +167,17 @@ pub bit-choice : (t : Bool) (a b : ℕ) → boolByte t * a + (1 - boolByte t) * 
 bit-choice true a b = omega arith
 bit-choice false a b = omega arith
 
--- one stretch of a row with one value
-pub stretch-filled : (f g : ℕ → ℕ) (n : ℕ) (s e t : List ℕ) (x y v : ℕ) → n ≤ length s → x ≤ y → y ≤ n → e ≡ over (table (until x f g) n) s
-    → t ≡ replicate (length (take (y - x) (drop x e))) v → ((k : ℕ) → x ≤ k → k < y → f k ≡ v)
+-- one chunk of a row with one value
+pub chunk-filled : (f g : ℕ → ℕ) (n : ℕ) (s e t : List ℕ) (x y v : ℕ) → n ≤ length s → x ≤ y → y ≤ n → e ≡ over (table (until x f g) n) s
+    → t ≡ table (λ _. v) (length (take (y - x) (drop x e))) → ((k : ℕ) → x ≤ k → k < y → f k ≡ v)
     → putMid x (y - x) e t ≡ over (table (until y f g) n) s
-stretch-filled f g n s e t x y v l a b held q h =
+chunk-filled f g n s e t x y v l a b held q h =
     let z : length e ≡ length s = ap length held ∙ length-over (until x f g) n s l in
     let c : length (take (y - x) (drop x e)) ≡ y - x = length-part x y e a (omega arith) in
-    let r : t ≡ replicate (y - x) v = q ∙ ap (λ k. replicate k v) c in
+    let r : t ≡ table (λ _. v) (y - x) = q ∙ ap (table (λ _. v)) c in
     ap (λ o. putMid x (y - x) o t) held
-    ∙ over-part f g n s x y t l a b (ap length r ∙ length-replicate (y - x) v)
-    (λ k u. ap (λ o. getD o k 0) r ∙ (getD-replicate (y - x) k v 0 u ∙ sym (h (x + k) (omega arith) (omega arith))))
+    ∙ over-part f g n s x y t l a b (ap length r ∙ length-table (λ _. v) (y - x))
+    (λ k u. ap (λ o. getD o k 0) r ∙ (getD-table (λ _. v) (y - x) k 0 u ∙ sym (h (x + k) (omega arith) (omega arith))))
 
 -- the first entries of a table, none yet
 pub table-begun : (f : ℕ → ℕ) (s : List ℕ) → s ≡ table f 0 ++ drop 0 s
@@ -280,15 +278,15 @@ module _ (row : List ℕ) where
         go (yes d) = all (length row) refl (row-skip (length row) d (λ k a b. and-off (isInk row k) (isInk row (k + 1)) (ink-past row (k + 1) (omega arith))) (le-refl (length row)))
         go (no d) = all x (let h = R .inside in let z : x ≡ length row = omega arith in z) R
 
-    -- one run more, after a stretch of blanks
+    -- one run more, after a chunk of blanks
     pub row-run : (b k v : ℕ) (t : List ℕ) → ScannedTo (isInk row) false x (length row) b → ScannedTo (isInk row) true b (length row) k
-        → t ≡ replicate (length (take (k - b) (drop b e))) v → v ≡ min (k - b) maxExtent → RowTo row k (putMid b (k - b) e t)
+        → t ≡ table (λ _. v) (length (take (k - b) (drop b e))) → v ≡ min (k - b) maxExtent → RowTo row k (putMid b (k - b) e t)
     row-run b k v t B I h c =
         record {
           inside = I .high;
           starts = row-starts row x b k (R .starts) B I;
           held =
-              stretch-filled F (singleDot row) (length row) e e t b k v (omega (arith, row-size)) (I .low) (I .high) blanks h (λ j l u. row-ink row x b k (R .starts) B I j l u ∙ sym c)
+              chunk-filled F (singleDot row) (length row) e e t b k v (omega (arith, row-size)) (I .low) (I .high) blanks h (λ j l u. row-ink row x b k (R .starts) B I j l u ∙ sym c)
               ∙ over-whole (until k F (singleDot row)) (length row) e (sym row-size);
         }
       where

@@ -1,9 +1,9 @@
--- Dots of a plane w wide, and the mask of a test on them.
+-- The mask of a test on the dots of a plane, and its ink.
 use mathlib.Core.Path.{_≡_, refl, sym, ap, _∙_}
 use mathlib.Core.Bool.{Bool, true, false, cond}
 use mathlib.Core.List.{List}
 use Prim.Native.Nat.{ℕ, zero, suc, _+_, _*_, _/_, _%_, _≤_, _<_}
-use native.Mathlib.Nat.{mod-lt, div-add-mod', mul-add-div-right, mul-add-mod-self-right, mod-eq-of-lt, div-eq-of-lt, mul-comm, mul-le-mul-right, suc-mul}
+use native.Mathlib.Nat.{mod-lt, div-add-mod'}
 use native.Mathlib.Omega.{arith}
 use borrow.Author.Tests.{lt-ltb}
 use lib.ListN.{getD, length}
@@ -11,21 +11,9 @@ use lib.Dec.{eqb, ltb}
 use Rattle.memory.specs.rules.Lists.{countIf, occurs}
 use Rattle.memory.proofs.CountLaws.{count-ext, occurs-by-place}
 use Rattle.memory.proofs.TableLaws.{getD-table}
+use Rattle.memory.proofs.PlaneLaws.{dot-column, dot-row, dot-inside}
 use Rattle.memory.specs.rules.Masks.{isInk}
 use Rattle.extents.specs.rules.Extents.{Plane, inkAt, maskOf}
-
-pub dot-column : (w x y : ℕ) → x < w → (y * w + x) % w ≡ x
-dot-column w x y l = mul-add-mod-self-right y w x ∙ mod-eq-of-lt l
-
-pub dot-row : (w x y : ℕ) → x < w → (y * w + x) / w ≡ y
-dot-row w x y l = mul-add-div-right {m = w} (omega arith) y x ∙ (let e : x / w ≡ 0 = div-eq-of-lt l in omega arith)
-
-pub dot-inside : (w h x y : ℕ) → x < w → y < h → y * w + x < w * h
-dot-inside w h x y lx ly =
-    let a : suc y * w ≤ h * w = mul-le-mul-right w ly in
-    let b : suc y * w ≡ y * w + w = suc-mul y w in
-    let c : h * w ≡ w * h = mul-comm h w in
-    omega arith
 
 one-bit : (b : Bool) → ltb 0 (cond b 1 0) ≡ b
 one-bit true = refl

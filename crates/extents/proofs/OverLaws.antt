@@ -6,11 +6,12 @@ use native.Mathlib.Decide.{decLt}
 use native.Mathlib.Omega.{arith}
 use borrow.Author.Tests.{lt-ltb, le-ltb}
 use borrow.Rule.Slice.PartMut.{putMid}
-use lib.ListN.{length, getD, take, drop, set, replicate, length-replicate, getD-replicate, length-append, length-drop, List·getD-append}
-use lib.Seq.{take-at, drop-at, take-set-le, drop-set-add, getD-append-add, getD-take, getD-drop, ext-getD, length-take-le, drop-length}
+use lib.ListN.{length, getD, take, drop, set, length-append, length-drop, List·getD-append}
+use lib.Seq.{take-at, drop-at, take-set-le, drop-set-add, getD-append-add, getD-drop, ext-getD, drop-length}
 use Rattle.memory.specs.rules.Lists.{table}
 use Rattle.memory.specs.rules.Words.{over}
 use Rattle.extents.specs.stages.Scans.{until}
+use Rattle.memory.proofs.PartLaws.{length-put, getD-put}
 use Rattle.memory.proofs.TableLaws.{length-table, getD-table}
 
 pub until-below : (i : ℕ) (f g : ℕ → ℕ) (k : ℕ) → k < i → until i f g k ≡ f k
@@ -66,49 +67,6 @@ over-none f n s l = over-unique _ n s s l refl (λ i b. sym (until-from 0 f (λ 
 pub over-all : (f g : ℕ → ℕ) (n : ℕ) (s : List ℕ) → n ≤ length s → over (table (until n f g) n) s ≡ over (table f n) s
 over-all f g n s l = over-ext (until n f g) f n s l (λ i b. until-below n f g i b)
 
--- Parts
-
-pub getD-part : (a k : ℕ) (s : List ℕ) (i : ℕ) → i < k → getD (take k (drop a s)) i 0 ≡ getD s (a + i) 0
-getD-part a k s i l = getD-take k (drop a s) i 0 l ∙ getD-drop a s i 0
-
-pub length-part : (a e : ℕ) (s : List ℕ) → a ≤ e → e ≤ length s → length (take (e - a) (drop a s)) ≡ e - a
-length-part a e s l h = length-take-le (e - a) (drop a s) (let q = length-drop a s in omega arith)
-
-pub length-put : (a e : ℕ) (s t : List ℕ) → a ≤ e → e ≤ length s → length t ≡ e - a → length (putMid a (e - a) s t) ≡ length s
-length-put a e s t l h q =
-    length-append (take a s) (t ++ drop (e - a) (drop a s))
-    ∙ (let x = length-append t (drop (e - a) (drop a s)) in
-    let y = length-drop (e - a) (drop a s) in
-    let z = length-drop a s in
-    let r = length-take-le a s (let u : a ≤ length s = omega arith in u) in omega arith)
-
-pub getD-put : (a e : ℕ) (s t : List ℕ) → a ≤ e → e ≤ length s → length t ≡ e - a → (k : ℕ)
-    → (k < a → getD (putMid a (e - a) s t) k 0 ≡ getD s k 0) × (a ≤ k → k < e → getD (putMid a (e - a) s t) k 0 ≡ getD t (k - a) 0) × (e ≤ k → getD (putMid a (e - a) s t) k 0 ≡ getD s k 0)
-getD-put a e s t l h q k = (before, inside, after)
-  where
-    r : length (take a s) ≡ a
-    r = length-take-le a s (let u : a ≤ length s = omega arith in u)
-
-    before : k < a → getD (putMid a (e - a) s t) k 0 ≡ getD s k 0
-    before b = List·getD-append (take a s) (t ++ drop (e - a) (drop a s)) 0 k (omega (arith, r)) ∙ getD-take a s k 0 b
-
-    past : a ≤ k → getD (putMid a (e - a) s t) k 0 ≡ getD (t ++ drop (e - a) (drop a s)) (k - a) 0
-    past b =
-        let x : k ≡ length (take a s) + (k - a) = omega (arith, r) in
-        ap (λ j. getD (putMid a (e - a) s t) j 0) x ∙ getD-append-add (take a s) (t ++ drop (e - a) (drop a s)) (k - a) 0
-
-    inside : a ≤ k → k < e → getD (putMid a (e - a) s t) k 0 ≡ getD t (k - a) 0
-    inside b c = past b ∙ List·getD-append t (drop (e - a) (drop a s)) 0 (k - a) (omega arith)
-
-    after : e ≤ k → getD (putMid a (e - a) s t) k 0 ≡ getD s k 0
-    after b =
-        let x : k - a ≡ length t + (k - e) = omega arith in
-        let y : a + (e - a + (k - e)) ≡ k = omega arith in
-        past (omega arith)
-        ∙ (ap (λ j. getD (t ++ drop (e - a) (drop a s)) j 0) x
-        ∙ (getD-append-add t (drop (e - a) (drop a s)) (k - e) 0
-        ∙ (getD-drop (e - a) (drop a s) (k - e) 0 ∙ (getD-drop a s (e - a + (k - e)) 0 ∙ ap (λ j. getD s j 0) y))))
-
 -- the entries from a up to e are stored
 pub over-part : (f g : ℕ → ℕ) (n : ℕ) (s : List ℕ) (a e : ℕ) (t : List ℕ) → n ≤ length s → a ≤ e → e ≤ n → length t ≡ e - a
     → ((k : ℕ) → k < e - a → getD t k 0 ≡ f (a + k))
@@ -137,18 +95,6 @@ over-part f g n s a e t l b c q h =
 pub over-whole : (f : ℕ → ℕ) (n : ℕ) (s : List ℕ) → n ≡ length s → over (table f n) s ≡ table f n
 over-whole f n s e = ap (λ k. table f n ++ drop k s) (length-table f n ∙ e) ∙ (ap (λ r. table f n ++ r) (drop-length s) ∙ append-nil (table f n))
 
--- the entries from a up to e are one value
-pub part-filled : (a e v : ℕ) (s t : List ℕ) → a ≤ e → e ≤ length s → t ≡ replicate (length (take (e - a) (drop a s))) v
-    → (length (putMid a (e - a) s t) ≡ length s) × ((k : ℕ) → a ≤ k → k < e → getD (putMid a (e - a) s t) k 0 ≡ v) × ((k : ℕ) → e ≤ k → getD (putMid a (e - a) s t) k 0 ≡ getD s k 0)
-part-filled a e v s t b h q =
-    let z : length (take (e - a) (drop a s)) ≡ e - a = length-part a e s b h in
-    let r : t ≡ replicate (e - a) v = q ∙ ap (λ k. replicate k v) z in
-    let l : length t ≡ e - a = ap length r ∙ length-replicate (e - a) v in (
-      length-put a e s t b h l,
-      λ k c d. getD-put a e s t b h l k .1 c d ∙ (ap (λ o. getD o (k - a) 0) r ∙ getD-replicate (e - a) (k - a) v 0 (omega arith)),
-      λ k c. getD-put a e s t b h l k .2 c,
-    )
-
 -- the front up to b is lent and comes back
 pub front-put : (b : ℕ) (s t : List ℕ) → b ≤ length s → length (putMid 0 (b - 0) s t) ≡ length s → (take b (putMid 0 (b - 0) s t) ≡ t) × (drop b (putMid 0 (b - 0) s t) ≡ drop b s)
 front-put b s t l e =
@@ -166,9 +112,3 @@ front-put-add b k v s t l e =
       take-set-le b (putMid 0 (b - 0) s t) (b + k) (getD (putMid 0 (b - 0) s t) (b + k) 0 + v) (omega arith) ∙ f .0,
       drop-set-add b (putMid 0 (b - 0) s t) k (getD (putMid 0 (b - 0) s t) (b + k) 0 + v) ∙ (λ j. set (f .1 j) k (x j + v)),
     )
-
--- what lies behind b, where nothing behind n has changed
-pub behind-same : (n b : ℕ) (s t : List ℕ) → n ≤ b → length t ≡ length s → ((k : ℕ) → n ≤ k → getD t k 0 ≡ getD s k 0) → drop b t ≡ drop b s
-behind-same n b s t l e h =
-    ext-getD 0 (drop b t) (drop b s) (length-drop b t ∙ (ap (λ k. k - b) e ∙ sym (length-drop b s)))
-    (λ i c. getD-drop b t i 0 ∙ (h (b + i) (omega arith) ∙ sym (getD-drop b s i 0)))

@@ -6,10 +6,12 @@ use native.Mathlib.Nat.{le-refl}
 use native.Mathlib.Decide.{ℕ-discrete, decLt}
 use native.Mathlib.Omega.{arith}
 use borrow.Rule.Slice.PartMut.{putMid}
-use lib.ListN.{length, getD, take, drop, set, replicate, length-replicate, getD-replicate, length-set}
+use lib.ListN.{length, getD, take, drop, set, length-set}
 use lib.Seq.{getD-set-same, getD-set-other}
 use Rattle.extents.specs.stages.Bands.{Put}
-use Rattle.extents.proofs.OverLaws.{length-part, length-put, getD-put}
+use Rattle.memory.specs.rules.Lists.{table}
+use Rattle.memory.proofs.TableLaws.{length-table, getD-table}
+use Rattle.memory.proofs.PartLaws.{length-part, length-put, getD-put}
 
 -- what stands there already
 pub put-same : {f : ℕ → ℕ} (a b : ℕ) (s : List ℕ) → ((k : ℕ) → a ≤ k → k < b → getD s k 0 ≡ f k) → Put f a b s s
@@ -91,14 +93,14 @@ put-more-down {f} {a} {b} {c} {s} {e} {t} P Q l u =
     go k x y (no d) = Q .upper k (omega arith) ∙ P .put k (omega arith) y
 
 -- one value in every entry of a part
-pub put-filled : {f : ℕ → ℕ} (a b v : ℕ) (s t : List ℕ) → a ≤ b → b ≤ length s → t ≡ replicate (length (take (b - a) (drop a s))) v
+pub put-filled : {f : ℕ → ℕ} (a b v : ℕ) (s t : List ℕ) → a ≤ b → b ≤ length s → t ≡ table (λ _. v) (length (take (b - a) (drop a s)))
     → ((k : ℕ) → a ≤ k → k < b → f k ≡ v) → Put f a b s (putMid a (b - a) s t)
 put-filled a b v s t l u q h =
-    let r : t ≡ replicate (b - a) v = q ∙ ap (λ k. replicate k v) (length-part a b s l u) in
-    let z : length t ≡ b - a = ap length r ∙ length-replicate (b - a) v in
+    let r : t ≡ table (λ _. v) (b - a) = q ∙ ap (table (λ _. v)) (length-part a b s l u) in
+    let z : length t ≡ b - a = ap length r ∙ length-table (λ _. v) (b - a) in
     record {
       size = length-put a b s t l u z;
-      put = λ k c d. getD-put a b s t l u z k .1 c d ∙ (ap (λ o. getD o (k - a) 0) r ∙ (getD-replicate (b - a) (k - a) v 0 (omega arith) ∙ sym (h k c d)));
+      put = λ k c d. getD-put a b s t l u z k .1 c d ∙ (ap (λ o. getD o (k - a) 0) r ∙ (getD-table (λ _. v) (b - a) (k - a) 0 (omega arith) ∙ sym (h k c d)));
       lower = λ k c. getD-put a b s t l u z k .0 c;
       upper = λ k c. getD-put a b s t l u z k .2 c;
     }

@@ -11,14 +11,14 @@ ghost use Rattle.memory.specs.rules.Masks.{isInk};
 ghost use Rattle.extents.specs.rules.Extents.{columnExtents};
 ghost use Rattle.extents.specs.stages.Scans.{MaskFits, TakesUp, cappedCount, columnExtent};
 ghost use Rattle.extents.specs.stages.Bands.{Put, Counts, BandsCounted, countFrom, bandCount};
-use crate::words::MAX_EXTENT;
-use crate::words::fill;
+use memory::MAX_EXTENT;
+use memory::fill_words;
 
 // The rows of a band.
 const BAND: usize = 32;
 
 // The columns that are counted at a time, and those whose extents are taken up at a time.
-const PIECE: usize = 64;
+const CHUNK: usize = 64;
 
 const TAKEN: usize = 32;
 
@@ -55,25 +55,25 @@ fn count_bands(mask: &[u8], w: usize, h: usize, extents: &mut [u32])
     }
 }
 
-// The counts of the last row of the band from row y on, a piece of its columns at a time.
+// The counts of the last row of the band from row y on, a chunk of its columns at a time.
 fn count_last_row(mask: &[u8], w: usize, y: usize, extents: &mut [u32])
     requires { ⌜ Counts w (now mask) (y * w) ((y + 32) * w) (now extents) ⌝ }
     ensures { λ _. ⌜ Put (cappedCount w (now (mask .entry))) ((y + 31) * w) ((y + 31) * w + w) (now (extents .entry)) (now (extents .exit)) ⌝ }
 {
     let mut x: usize = 0;
-    while PIECE <= w - x {
-        count_last_piece(mask, w, y, x, PIECE, extents);
-        x += PIECE;
+    while CHUNK <= w - x {
+        count_last_chunk(mask, w, y, x, CHUNK, extents);
+        x += CHUNK;
     }
-    count_last_piece(mask, w, y, x, w - x, extents);
+    count_last_chunk(mask, w, y, x, w - x, extents);
 }
 
 // The same of n columns from x on.
-fn count_last_piece(mask: &[u8], w: usize, y: usize, x: usize, n: usize, extents: &mut [u32])
+fn count_last_chunk(mask: &[u8], w: usize, y: usize, x: usize, n: usize, extents: &mut [u32])
     requires { ⌜ (Counts w (now mask) (y * w) ((y + 32) * w) (now extents)) × (x + n ≤ w) × (n ≤ 64) ⌝ }
     ensures { λ _. ⌜ Put (cappedCount w (now (mask .entry))) ((y + 31) * w + x) ((y + 31) * w + x + n) (now (extents .entry)) (now (extents .exit)) ⌝ }
 {
-    let mut counts = [0u8; PIECE];
+    let mut counts = [0u8; CHUNK];
     count_columns(mask, w, y, x, n, &mut counts);
     let at = (y + (BAND - 1)) * w + x;
     if y == 0 {
@@ -156,7 +156,7 @@ fn count_band(mask: &[u8], w: usize, start: usize, end: usize, extents: &mut [u3
     }
 }
 
-// Row y, a piece at a time.
+// Row y, a chunk at a time.
 fn count_row(mask: &[u8], w: usize, y: usize, extents: &mut [u32])
     requires { ⌜ Counts w (now mask) (y * w) (y * w + w) (now extents) ⌝ }
     ensures { λ _. ⌜ Put (cappedCount w (now (mask .entry))) (y * w) (y * w + w) (now (extents .entry)) (now (extents .exit)) ⌝ }
@@ -168,9 +168,9 @@ fn count_row(mask: &[u8], w: usize, y: usize, extents: &mut [u32])
     let at = y * w;
     let end = at + w;
     let mut i = at;
-    while PIECE <= end - i {
-        count_piece(mask, w, i, extents);
-        i += PIECE;
+    while CHUNK <= end - i {
+        count_chunk(mask, w, i, extents);
+        i += CHUNK;
     }
     count_dots(mask, w, i, end, extents);
 }
@@ -187,14 +187,14 @@ fn count_first_row(mask: &[u8], w: usize, extents: &mut [u32])
     }
 }
 
-// A piece of a row: where all is blank, nothing is counted.
-fn count_piece(mask: &[u8], w: usize, from: usize, extents: &mut [u32])
+// A chunk of a row: where all is blank, nothing is counted.
+fn count_chunk(mask: &[u8], w: usize, from: usize, extents: &mut [u32])
     requires { ⌜ (Counts w (now mask) from (from + 64) (now extents)) × (w ≤ from) ⌝ }
     ensures { λ _. ⌜ Put (cappedCount w (now (mask .entry))) from (from + 64) (now (extents .entry)) (now (extents .exit)) ⌝ }
 {
-    let to = from + PIECE;
+    let to = from + CHUNK;
     if is_blank(&mask[from..to]) {
-        fill(&mut extents[from..to], 0);
+        fill_words(&mut extents[from..to], 0);
         return;
     }
     count_dots(mask, w, from, to, extents);
@@ -247,7 +247,7 @@ fn take_band(mask: &[u8], w: usize, h: usize, start: usize, end: usize, extents:
     }
 }
 
-// Row y from the row below, a piece at a time; the plane's last row has its extents.
+// Row y from the row below, a chunk at a time; the plane's last row has its extents.
 fn take_row(mask: &[u8], w: usize, h: usize, y: usize, extents: &mut [u32])
     requires { ⌜ TakesUp w h (now mask) (y * w) (y * w + w) (now extents) ⌝ }
     ensures { λ _. ⌜ Put (columnExtent w h (now (mask .entry))) (y * w) (y * w + w) (now (extents .entry)) (now (extents .exit)) ⌝ }
@@ -259,14 +259,14 @@ fn take_row(mask: &[u8], w: usize, h: usize, y: usize, extents: &mut [u32])
     let mut to = at + w;
     while TAKEN <= to - at {
         let from = to - TAKEN;
-        take_piece(mask, w, h, from, extents);
+        take_chunk(mask, w, h, from, extents);
         to = from;
     }
     take_dots(mask, w, h, at, to, extents);
 }
 
-// A piece of a row: where no dot goes on below, the counts are the extents.
-fn take_piece(mask: &[u8], w: usize, h: usize, from: usize, extents: &mut [u32])
+// A chunk of a row: where no dot goes on below, the counts are the extents.
+fn take_chunk(mask: &[u8], w: usize, h: usize, from: usize, extents: &mut [u32])
     requires { ⌜ (TakesUp w h (now mask) from (from + 32) (now extents)) × (from + 32 + w ≤ w * h) ⌝ }
     ensures { λ _. ⌜ Put (columnExtent w h (now (mask .entry))) from (from + 32) (now (extents .entry)) (now (extents .exit)) ⌝ }
 {

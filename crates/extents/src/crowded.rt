@@ -8,7 +8,7 @@ ghost use Rattle.memory.specs.rules.Masks.{isInk};
 ghost use Rattle.extents.specs.stages.Scans.{Starts, RowTo, RowCounted, noFour, shortExtent, shortExtentAt, PartOfRow};
 ghost use Rattle.extents.specs.stages.Bands.{Put};
 
-// So many turns in a stretch of 64 dots are many: measured, no promise goes by it.
+// So many turns in a chunk of 64 dots are many: measured, no promise goes by it.
 const MANY: u8 = 8;
 
 // The dots of a chunk whose extents are told at once.
@@ -115,7 +115,7 @@ fn wide(x: u8) -> u32
     x as u32
 }
 
-// Whether a stretch has many turns.
+// Whether a chunk has many turns.
 pub fn is_crowded(row: &[u8], x: usize, to: usize) -> bool
     requires { ⌜ (x ≤ to) × (to < length (now row)) × (to ≤ x + 64) ⌝ }
 {

@@ -1,16 +1,12 @@
 // Run extents called by themselves: for each ink dot the length of the run through it, along its row or its column (layout.rs,
 // extent_through). The entry and what it refuses.
 ghost use mathlib.Core.Path.{_≡_};
-ghost use Rattle.extents.specs.rules.Answers.{extentsRefusal, isMaskSide, extentsOutcome, runExtents};
+ghost use Rattle.extents.specs.rules.Answers.{extentsRefusal, extentsOutcome, runExtents};
 use crate::bands::column_extents;
 use crate::rows::row_extents;
-use crate::words::area;
+use memory::area;
 use memory::refuse_if;
-
-// The longest side of a mask, and the most dots.
-const MAX_MASK_SIDE: u32 = 131072;
-
-const MAX_MASK_DOTS: usize = 1073741824;
+use memory::refuse_sides;
 
 // Which runs are asked for.
 pub enum Along {
@@ -57,12 +53,5 @@ fn judge_extents(mask_len: usize, width: u32, height: u32, extents_len: usize) -
     let dots = area(width, height);
     let short = refuse_if(extents_len < dots, 9, 0);
     let length = refuse_if(mask_len != dots, 2, short);
-    let many = refuse_if(MAX_MASK_DOTS < dots, 1, length);
-    refuse_if(!(is_mask_side(width) & is_mask_side(height)), 1, many)
-}
-
-fn is_mask_side(n: u32) -> bool
-    ensures { λ r. ⌜ r ≡ isMaskSide n ⌝ }
-{
-    (0 < n) & (n <= MAX_MASK_SIDE)
+    refuse_sides(width, height, length)
 }

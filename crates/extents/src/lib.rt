@@ -2,13 +2,11 @@
 mod bands;
 mod crowded;
 mod entry;
+mod lengths;
 mod rows;
-mod words;
 
 pub use entry::Along;
 pub use entry::ExtentsAnswer;
 pub use entry::run_extents;
-pub use words::area;
-pub use words::capped;
-pub use words::fill;
-pub use words::stretch_end;
+pub use lengths::capped;
+pub use lengths::chunk_end;

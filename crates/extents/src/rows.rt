@@ -1,10 +1,13 @@
-// Extents along rows: each row is a part of the mask, walked a stretch at a time.
+// Extents along rows: each row is a part of the mask, walked a chunk at a time. Where no two dots join, each is a
+// run of its own; where runs are short or many, crowded.rt tells them without a branch on a dot; else runs are walked. Which way is taken
+// carries no promise.
 ghost use mathlib.Core.Path.{_≡_};
 ghost use mathlib.Core.Bool.{true, false, _&&_};
 ghost use Prim.Native.Nat.{ℕ, _+_, _≤_, _<_};
 ghost use lib.ListN.{length};
 ghost use Rattle.memory.specs.rules.Lists.{table};
 ghost use Rattle.memory.specs.rules.Words.{over};
+ghost use Rattle.memory.specs.rules.Limits.{maxMaskSide};
 ghost use Rattle.memory.specs.rules.Masks.{isInk};
 ghost use Rattle.extents.specs.rules.Extents.{extent, rowExtents};
 ghost use Rattle.extents.specs.stages.Scans.{ScannedTo, MaskFits, RowTo, noFour, singleDot};
@@ -13,9 +16,9 @@ use crate::crowded::counted_extents;
 use crate::crowded::is_crowded;
 use crate::crowded::short_extents;
 use crate::crowded::start_before;
-use crate::words::capped;
-use crate::words::fill;
-use crate::words::stretch_end;
+use crate::lengths::capped;
+use crate::lengths::chunk_end;
+use memory::fill_words;
 
 // Along the rows: each row is a part of the mask and of the extents.
 pub fn row_extents(mask: &[u8], width: u32, height: u32, extents: &mut [u32])
@@ -33,9 +36,9 @@ pub fn row_extents(mask: &[u8], width: u32, height: u32, extents: &mut [u32])
     }
 }
 
-// One row: each dot as a run of its own, then the runs of those stretches where dots join.
+// One row: each dot as a run of its own, then the runs of those chunks where dots join.
 fn extents_of_row(row: &[u8], extents: &mut [u32])
-    requires { ⌜ (length (now row) ≡ length (now extents)) × (length (now row) ≤ 131072) ⌝ }
+    requires { ⌜ (length (now row) ≡ length (now extents)) × (length (now row) ≤ maxMaskSide) ⌝ }
     ensures { λ _. ⌜ now (extents .exit) ≡ table (extent (isInk (now (row .entry))) (length (now (row .entry)))) (length (now (row .entry))) ⌝ }
 {
     single_dots(row, extents);
@@ -60,12 +63,12 @@ fn single_dots(row: &[u8], extents: &mut [u32])
 // So few dots are not worth a look at how their runs lie: measured, no promise goes by it.
 const FEW: usize = 32;
 
-// From the start x on to the next one: a stretch where no two dots join is as it is to be.
+// From the start x on to the next one: a chunk where no two dots join is as it is to be.
 fn extents_from(row: &[u8], x: usize, extents: &mut [u32]) -> usize
     requires { ⌜ (x + 1 < length (now row)) × (RowTo (now row) x (now extents)) ⌝ }
     ensures { λ r. ⌜ (x < r) × (RowTo (now (row .entry)) r (now (extents .exit))) ⌝ }
 {
-    let to = stretch_end(x, row.len() - 1);
+    let to = chunk_end(x, row.len() - 1);
     if !goes_on(row, 1, x, to) {
         return to;
     }
@@ -98,7 +101,7 @@ fn is_short(row: &[u8], x: usize, to: usize) -> bool
     all_short(row, x, to)
 }
 
-// Whether a dot of the stretch and the dot w behind it are ink.
+// Whether a dot of the chunk and the dot w behind it are ink.
 fn goes_on(mask: &[u8], w: usize, from: usize, to: usize) -> bool
     requires { ⌜ (from ≤ to) × (to + w ≤ length (now mask)) ⌝ }
     ensures { λ r. ⌜ (r ≡ false → (k : ℕ) → from ≤ k → k < to → (isInk (now (mask .entry)) k && isInk (now (mask .entry)) (k + w)) ≡ false) ⌝ }
@@ -131,7 +134,7 @@ fn extents_of_run(row: &[u8], x: usize, extents: &mut [u32]) -> usize
 {
     let blank = blank_end(row, x);
     let ink = ink_end(row, blank);
-    fill(&mut extents[blank..ink], capped(ink - blank));
+    fill_words(&mut extents[blank..ink], capped(ink - blank));
     ink
 }
 

@@ -19,7 +19,8 @@ use Rattle.params.specs.declared.LayoutParams.{LayoutParams}
 use Rattle.rounding.specs.rules.Lengths.{_·_, dots}
 use Rattle.grouping.specs.rules.Columns.{cover, covered, enoughCover, columnRuns, columnsOf}
 use Rattle.grouping.specs.stages.Covers.{CoverSteps}
-use Rattle.grouping.specs.stages.LineBoxes.{Lines, Inside, lineBoxes}
+use Rattle.memory.specs.stages.Boxes.{Inside}
+use Rattle.grouping.specs.stages.LineBoxes.{Lines, lineBoxes}
 use Rattle.grouping.specs.rules.HeldLines.{lineBox}
 use Rattle.grouping.specs.rules.BlockRecords.{columnRecord}
 use Rattle.grouping.specs.stages.Counts.{counts}

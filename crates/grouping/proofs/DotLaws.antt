@@ -20,7 +20,7 @@ use Rattle.grouping.specs.rules.Readings.{inBox, listed, columnsAndRows,
 use Rattle.grouping.specs.stages.Dots.{listedAt, FrameWords, RowSpan, ColumnSpan}
 use Rattle.memory.proofs.ListLaws.{keep-snoc-yes, keep-snoc-no, upto-suc, keep-few}
 use Rattle.memory.proofs.PlaceLaws.{count-length, count-below, count-yes, count-no, count-mono, Gap, keep-gap}
-use Rattle.extents.proofs.MaskLaws.{dot-column, dot-row, dot-inside}
+use Rattle.memory.proofs.PlaneLaws.{dot-column, dot-row, dot-inside}
 
 -- where the two shears send a dot, with what was proved of the place
 pub record Place (f : Frame) (kinds : List ℕ) (c y row column : ℕ) : Type 0 where

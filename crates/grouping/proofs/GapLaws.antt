@@ -18,7 +18,8 @@ use Rattle.memory.proofs.TableLaws.{length-table, getD-table}
 use Rattle.memory.specs.declared.rect.Rect.{Rect}
 use Rattle.grouping.specs.rules.Blocks.{lineGap, overlapping, candidates, candidateGaps, leastOf, nearestGaps, noRect}
 use Rattle.grouping.specs.stages.Joining.{leastWith}
-use Rattle.grouping.specs.stages.LineBoxes.{Inside, Lines, ByTop, lineBoxes}
+use Rattle.memory.specs.stages.Boxes.{Inside}
+use Rattle.grouping.specs.stages.LineBoxes.{Lines, ByTop, lineBoxes}
 use Rattle.grouping.specs.rules.HeldLines.{lineBox}
 use Rattle.grouping.specs.stages.Counts.{counts, below}
 use Rattle.memory.proofs.ListLaws.{Each, keep-yes, keep-no}

@@ -18,7 +18,7 @@ use Rattle.grouping.specs.rules.Readings.{differences, pitches}
 use Rattle.union_find.specs.rules.Classes.{firstOf}
 use Rattle.memory.specs.declared.rect.Rect.{Rect}
 use Rattle.grouping.specs.rules.Blocks.{Block, noRect, blockNumber, blocksOf}
-use Rattle.grouping.specs.rules.HeldLines.{linesIn, pitchesBelow}
+use Rattle.grouping.specs.rules.HeldLines.{heldLines, pitchesBelow}
 use Rattle.grouping.specs.stages.Pitches.{lastCentre, pitchOf, walkedPitches, PitchAdded}
 use Rattle.memory.proofs.ListLaws.{Each, each-at, each-sort, each-append, keep-snoc-yes, keep-snoc-no, upto-suc, map-append}
 use Rattle.grouping.proofs.ColumnLaws.{Rising, rising-keep}
@@ -44,23 +44,23 @@ differences-snoc (a ∷ []) c = sym (ap (λ t. cond t [] ((c + 1 - suc a) ∷ []
 differences-snoc (a ∷ (b ∷ l)) c = ap (λ (t : List ℕ). (b - a) ∷ t) (differences-snoc (b ∷ l) c)
 
 module _ (centre number : ℕ → ℕ) where
-  lines-yes : (b i : ℕ) → number i ≡ b → linesIn number b (suc i) ≡ linesIn number b i ++ (i ∷ [])
+  lines-yes : (b i : ℕ) → number i ≡ b → heldLines number b (suc i) ≡ heldLines number b i ++ (i ∷ [])
   lines-yes b i e = ap (keep (λ k. eqb (number k) b)) (upto-suc i) ∙ keep-snoc-yes (λ k. eqb (number k) b) (upto i) i (eq-eqb (number i) b e)
 
-  lines-no : (b i : ℕ) → (number i ≡ b → ⊥) → linesIn number b (suc i) ≡ linesIn number b i
+  lines-no : (b i : ℕ) → (number i ≡ b → ⊥) → heldLines number b (suc i) ≡ heldLines number b i
   lines-no b i e = ap (keep (λ k. eqb (number k) b)) (upto-suc i) ∙ keep-snoc-no (λ k. eqb (number k) b) (upto i) i (ne-eqb (number i) b e)
 
-  last-right : (b i : ℕ) → lastCentre centre number b i ≡ lastPlus (map centre (linesIn number b i))
+  last-right : (b i : ℕ) → lastCentre centre number b i ≡ lastPlus (map centre (heldLines number b i))
   unfolding lastCentre upto table keep lastPlus
   last-right b zero = refl
   last-right b (suc i) = go (ℕ-discrete (number i) b) (last-right b i)
     where
-      go : Dec (number i ≡ b) → lastCentre centre number b i ≡ lastPlus (map centre (linesIn number b i))
-          → cond (eqb (number i) b) (centre i + 1) (lastCentre centre number b i) ≡ lastPlus (map centre (linesIn number b (suc i)))
+      go : Dec (number i ≡ b) → lastCentre centre number b i ≡ lastPlus (map centre (heldLines number b i))
+          → cond (eqb (number i) b) (centre i + 1) (lastCentre centre number b i) ≡ lastPlus (map centre (heldLines number b (suc i)))
       go (yes e) h =
           ap (λ t. cond t (centre i + 1) (lastCentre centre number b i)) (eq-eqb (number i) b e)
           ∙ (add-one (centre i)
-          ∙ sym (ap (λ (t : List ℕ). lastPlus (map centre t)) (lines-yes b i e) ∙ (ap lastPlus (map-append centre (linesIn number b i) (i ∷ [])) ∙ last-snoc (map centre (linesIn number b i)) (centre i))))
+          ∙ sym (ap (λ (t : List ℕ). lastPlus (map centre t)) (lines-yes b i e) ∙ (ap lastPlus (map-append centre (heldLines number b i) (i ∷ [])) ∙ last-snoc (map centre (heldLines number b i)) (centre i))))
       go (no n) h =
           ap (λ t. cond t (centre i + 1) (lastCentre centre number b i)) (ne-eqb (number i) b n) ∙ (h ∙ sym (ap (λ (t : List ℕ). lastPlus (map centre t)) (lines-no b i n)))
 
@@ -68,15 +68,15 @@ module _ (centre number : ℕ → ℕ) where
   pitch : ℕ → List ℕ
   pitch i = pitchOf (lastCentre centre number (number i) i) (centre i)
 
-  own-more : (b i : ℕ) → number i ≡ b → differences (map centre (linesIn number b (suc i))) ≡ differences (map centre (linesIn number b i)) ++ pitch i
+  own-more : (b i : ℕ) → number i ≡ b → differences (map centre (heldLines number b (suc i))) ≡ differences (map centre (heldLines number b i)) ++ pitch i
   unfolding pitch
   own-more b i e =
       ap (λ (t : List ℕ). differences (map centre t)) (lines-yes b i e)
-      ∙ (ap differences (map-append centre (linesIn number b i) (i ∷ []))
-      ∙ (differences-snoc (map centre (linesIn number b i)) (centre i)
-      ∙ ap (λ k. differences (map centre (linesIn number b i)) ++ pitchOf k (centre i)) (sym (last-right b i) ∙ ap (λ k. lastCentre centre number k i) (sym e))))
+      ∙ (ap differences (map-append centre (heldLines number b i) (i ∷ []))
+      ∙ (differences-snoc (map centre (heldLines number b i)) (centre i)
+      ∙ ap (λ k. differences (map centre (heldLines number b i)) ++ pitchOf k (centre i)) (sym (last-right b i) ∙ ap (λ k. lastCentre centre number k i) (sym e))))
 
-  own-same : (b i : ℕ) → (number i ≡ b → ⊥) → differences (map centre (linesIn number b (suc i))) ≡ differences (map centre (linesIn number b i))
+  own-same : (b i : ℕ) → (number i ≡ b → ⊥) → differences (map centre (heldLines number b (suc i))) ≡ differences (map centre (heldLines number b i))
   own-same b i n = ap (λ (t : List ℕ). differences (map centre t)) (lines-no b i n)
 
   -- any count that adds up over lists
@@ -87,8 +87,8 @@ module _ (centre number : ℕ → ℕ) where
     below-same (suc b) i h =
         let x = below-same b i (omega arith) in
         let y = ap m (own-same b i (λ e. omega arith)) in
-        let a = adds (pitchesBelow centre number (suc i) b) (differences (map centre (linesIn number b (suc i)))) in
-        let c = adds (pitchesBelow centre number i b) (differences (map centre (linesIn number b i))) in
+        let a = adds (pitchesBelow centre number (suc i) b) (differences (map centre (heldLines number b (suc i)))) in
+        let c = adds (pitchesBelow centre number i b) (differences (map centre (heldLines number b i))) in
         omega arith
 
     below-more : (b i : ℕ) → number i < b → m (pitchesBelow centre number (suc i) b) ≡ m (pitchesBelow centre number i b) + m (pitch i)
@@ -97,19 +97,19 @@ module _ (centre number : ℕ → ℕ) where
     below-more (suc b) i h = go (ℕ-discrete (number i) b) (λ l. below-more b i l)
       where
         go : Dec (number i ≡ b) → (number i < b → m (pitchesBelow centre number (suc i) b) ≡ m (pitchesBelow centre number i b) + m (pitch i))
-            → m (pitchesBelow centre number (suc i) b ++ differences (map centre (linesIn number b (suc i)))) ≡ m (pitchesBelow centre number i b ++ differences (map centre (linesIn number b i))) + m (pitch i)
+            → m (pitchesBelow centre number (suc i) b ++ differences (map centre (heldLines number b (suc i)))) ≡ m (pitchesBelow centre number i b ++ differences (map centre (heldLines number b i))) + m (pitch i)
         go (yes e) ih =
             let x = below-same b i (omega arith) in
             let y = ap m (own-more b i e) in
-            let z = adds (differences (map centre (linesIn number b i))) (pitch i) in
-            let a = adds (pitchesBelow centre number (suc i) b) (differences (map centre (linesIn number b (suc i)))) in
-            let c = adds (pitchesBelow centre number i b) (differences (map centre (linesIn number b i))) in
+            let z = adds (differences (map centre (heldLines number b i))) (pitch i) in
+            let a = adds (pitchesBelow centre number (suc i) b) (differences (map centre (heldLines number b (suc i)))) in
+            let c = adds (pitchesBelow centre number i b) (differences (map centre (heldLines number b i))) in
             omega arith
         go (no n) ih =
             let x = ih (omega arith) in
             let y = ap m (own-same b i n) in
-            let a = adds (pitchesBelow centre number (suc i) b) (differences (map centre (linesIn number b (suc i)))) in
-            let c = adds (pitchesBelow centre number i b) (differences (map centre (linesIn number b i))) in
+            let a = adds (pitchesBelow centre number (suc i) b) (differences (map centre (heldLines number b (suc i)))) in
+            let c = adds (pitchesBelow centre number i b) (differences (map centre (heldLines number b i))) in
             omega arith
 
     below-none : (b : ℕ) → m (pitchesBelow centre number 0 b) ≡ 0
@@ -294,8 +294,8 @@ pub below-bound : (centre number : ℕ → ℕ) (m n b : ℕ) → ((i : ℕ) →
 unfolding pitchesBelow
 below-bound centre number m n zero h = tt
 below-bound centre number m n (suc b) h =
-    each-append (λ v. v < m) (pitchesBelow centre number n b) (differences (map centre (linesIn number b n))) (below-bound centre number m n b h)
-    (each-difference m (map centre (linesIn number b n)) (each-centre m n centre (linesIn number b n) h (rising-each 0 n (linesIn number b n) (rising-keep (λ i. eqb (number i) b) n))))
+    each-append (λ v. v < m) (pitchesBelow centre number n b) (differences (map centre (heldLines number b n))) (below-bound centre number m n b h)
+    (each-difference m (map centre (heldLines number b n)) (each-centre m n centre (heldLines number b n) h (rising-each 0 n (heldLines number b n) (rising-keep (λ i. eqb (number i) b) n))))
 
 -- the counts of the walk are those of the pitches by blocks
 pub pitch-counts : (centre number : ℕ → ℕ) (values n blocks found : ℕ) (t : List ℕ) → ((i : ℕ) → i < n → number i < blocks) → ((i : ℕ) → i < n → centre i < values)

@@ -2,7 +2,7 @@
 --   frame-one-way      the frame of a page under a slope from -1 to 1 is such a frame
 --   column-rises       along a page row the frame column never falls
 --   row-span           the page rows of the box, from the shears at the ends of its sides
---   turn-low, turn-high    one step of the search in a page row
+--   first-reached-low, first-reached-high    one step of the search in a page row
 --   column-span        the page columns of the box, from two such searches
 use mathlib.Core.Path.{_≡_, refl, sym, ap, _∙_, subst}
 use mathlib.Core.Bool.{Bool, true, false, not, cond, _&&_, _||_, true≢false}
@@ -23,7 +23,7 @@ use Rattle.levelling.specs.rules.Frames.{Frame, PageSides, frame, rowOf, column
 use Rattle.levelling.proofs.ShearLaws.{Steps}
 use Rattle.levelling.proofs.FrameLaws.{shear-steps, shear-x-steps, length-shears}
 use Rattle.grouping.specs.rules.Readings.{inBox}
-use Rattle.grouping.specs.stages.Dots.{Step, FrameWords, OneWay, Sheared, RowSpan, ColumnSpan, isShort, Turn}
+use Rattle.grouping.specs.stages.Dots.{Step, FrameWords, OneWay, Sheared, RowSpan, ColumnSpan, isShort, FirstReached}
 
 -- ---- the frame of a page
 steps-of : (s : Bool) (l : List ℕ) → Steps s l → (i : ℕ) → suc i < length l → Step s (getD l i 0) (getD l (suc i) 0)
@@ -280,19 +280,19 @@ box-not-short r falls x y e = let i = in-box r x y e in go falls (i .0) (i .1) (
 
 module _ {f : Frame} (v : Sheared f) (r : Rect) (falls start : Bool) (way : falls ≡ ltb (getD (f .shear) (f .page-w - 1) 0) (getD (f .shear) 0 0)) (y : ℕ) (ly : y < f .page-h) where
   -- one step of the search
-  pub turn-low : (m : ℕ) → m < f .page-w → isShort r falls start (columnOf f m y) (rowOf f m y) ≡ true → (c : ℕ) → c < m + 1 → isShort r falls start (columnOf f c y) (rowOf f c y) ≡ true
-  turn-low m lm e c l =
+  pub first-reached-low : (m : ℕ) → m < f .page-w → isShort r falls start (columnOf f m y) (rowOf f m y) ≡ true → (c : ℕ) → c < m + 1 → isShort r falls start (columnOf f c y) (rowOf f c y) ≡ true
+  first-reached-low m lm e c l =
       short-before r falls start (columnOf f c y) (rowOf f c y) (columnOf f m y) (rowOf f m y) (column-rises v y c m ly (omega arith) lm) (row-runs v falls way y c m (omega arith) lm) e
 
-  pub turn-high : (m : ℕ) → isShort r falls start (columnOf f m y) (rowOf f m y) ≡ false → (c : ℕ) → m ≤ c → c < f .page-w → isShort r falls start (columnOf f c y) (rowOf f c y) ≡ false
-  turn-high m e c l k = go (isShort r falls start (columnOf f c y) (rowOf f c y)) refl
+  pub first-reached-high : (m : ℕ) → isShort r falls start (columnOf f m y) (rowOf f m y) ≡ false → (c : ℕ) → m ≤ c → c < f .page-w → isShort r falls start (columnOf f c y) (rowOf f c y) ≡ false
+  first-reached-high m e c l k = go (isShort r falls start (columnOf f c y) (rowOf f c y)) refl
     where
       go : (t : Bool) → isShort r falls start (columnOf f c y) (rowOf f c y) ≡ t → t ≡ false
       go false o = refl
-      go true o = absurd (true≢false (sym (turn-low c k o m (omega arith)) ∙ e))
+      go true o = absurd (true≢false (sym (first-reached-low c k o m (omega arith)) ∙ e))
 
 -- the columns from where the row is in the box up to where it is past it
-pub column-span : {f : Frame} {r : Rect} {falls : Bool} {y first end : ℕ} → Turn f r falls true y first → Turn f r falls false y end → ColumnSpan f r y first end
+pub column-span : {f : Frame} {r : Rect} {falls : Bool} {y first end : ℕ} → FirstReached f r falls true y first → FirstReached f r falls false y end → ColumnSpan f r y first end
 column-span {f} {r} {falls} {y} {first} {end} a b =
     record {
       first-inside = a .inside;

@@ -2,12 +2,13 @@
 use mathlib.Core.Path.{_≡_, refl, sym, ap, _∙_}
 use mathlib.Core.List.{List, [], _∷_, _++_, append-nil}
 use borrow.Author.Tests.{lt-ltb, le-ltb}
-use Prim.Native.Nat.{ℕ, _+_, _*_, _≤_, _<_}
+use Prim.Native.Nat.{ℕ, _+_, _-_, _*_, _≤_, _<_}
 use native.Mathlib.Decide.{ℕ-discrete}
 use native.Mathlib.Omega.{arith}
 use native.Mathlib.Numerals.{add-one}
-use lib.ListN.{getD, length, set, drop, length-append, length-drop, length-set}
-use lib.Seq.{drop-append-seam, ext-getD, getD-set-same, getD-set-other, set-append-left}
+use lib.ListN.{getD, length, set, take, drop, length-append, length-drop, length-set}
+use lib.Seq.{length-take-le, drop-append-seam, ext-getD, getD-set-same, getD-set-other, set-append-left}
+use borrow.Rule.Slice.PartMut.{putMid}
 use Rattle.memory.specs.rules.Lists.{table, occurs}
 use Rattle.memory.specs.rules.Words.{over}
 use Rattle.memory.proofs.TableLaws.{length-table, getD-table, table-step}
@@ -60,6 +61,13 @@ counts-more l s m v h =
     ap (λ z. set (over (counts l m) s) v (z + 1)) (over-at (λ k. occurs k l) m s v h)
     ∙ (set-append-left (counts l m) (drop (length (counts l m)) s) v (occurs v l + 1) (omega arith)
     ∙ ((λ i. counts-set l m v h i ++ drop (a i) s) ∙ ap (λ k. counts (l ++ (v ∷ [])) m ++ drop k s) (sym b)))
+
+-- words of the front lent and filled: `fill_words(&mut t[0..m], v)`
+pub front-filled : (v m : ℕ) (t part : List ℕ) → m ≤ length t → part ≡ table (λ _. v) (length (take (m - 0) (drop 0 t))) → putMid 0 (m - 0) t part ≡ over (table (λ _. v) m) t
+front-filled v m t part l e =
+    let z : m - 0 ≡ m = omega arith in
+    let long : length (take (m - 0) (drop 0 t)) ≡ m = length-take-le (m - 0) (drop 0 t) (omega arith) ∙ z in
+    (λ i. (e ∙ ap (table (λ _. v)) long) i ++ drop (z i) t) ∙ ap (λ (k : ℕ). table (λ _. v) m ++ drop k t) (sym (length-table (λ _. v) m))
 
 -- from cleared words to counts, and back to what the words were before
 pub counts-start : (t₀ t : List ℕ) (m : ℕ) → t ≡ over (table (λ v. 0) m) t₀ → t ≡ over (counts [] m) t

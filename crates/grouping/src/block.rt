@@ -13,20 +13,21 @@ ghost use Rattle.grouping.specs.stages.Joining.{leastWith, joins, Joined
 ghost use Rattle.grouping.specs.stages.Numbering.{withBlocks};
 ghost use Rattle.memory.specs.rules.Rects.{height};
 ghost use Rattle.sorting.specs.rules.Units.{median};
-ghost use Rattle.grouping.specs.stages.LineBoxes.{Inside, Lines, ByTop, Groupable, lineBoxes};
+ghost use Rattle.memory.specs.stages.Boxes.{Inside};
+ghost use Rattle.grouping.specs.stages.LineBoxes.{Lines, ByTop, Groupable, lineBoxes};
 ghost use Rattle.smoothing.specs.rules.LineRecords.{lineWords};
 ghost use Rattle.grouping.specs.rules.BlockRecords.{blockWords, blockRecord};
 ghost use Rattle.grouping.specs.rules.HeldLines.{lineBox};
 ghost use Rattle.memory.specs.rules.Records.{encoded};
 ghost use Rattle.grouping.specs.stages.Counts.{counts};
-use crate::counts::clear;
 use crate::counts::count_below;
 use crate::number::number_blocks;
 use crate::number::write_numbers;
 use crate::record::write_blocks;
 use memory::Rect;
-use memory::greater;
-use memory::lesser;
+use memory::fill_words;
+use memory::max_u32;
+use memory::min_u32;
 use memory::wide;
 use params::LayoutParams;
 use smoothing::LINE_WORDS;
@@ -61,7 +62,7 @@ fn number_lines(lines: &[u32], n: usize, sheet: LayoutParams, h: u32, scratch: &
     ensures { λ _. ⌜ ((k : ℕ) → k < n → getD (now (scratch .exit)) k 0 ≡ blockNumber (blockFirsts sheet (lineBoxes (now (lines .entry)) n)) k) ⌝ }
 {
     let limits = gap_limits(lines, n, sheet, h, scratch);
-    let limit = lesser(limits.cap, limits.most);
+    let limit = min_u32(limits.cap, limits.most);
     let overlap = sheet.block_min_overlap;
     join_lines(lines, n, overlap, limit, scratch);
     number_blocks(scratch, n);
@@ -95,8 +96,8 @@ fn shared_columns(a: Rect, b: Rect) -> u32
     requires { ⌜ a .x1 + 1 ≤ 4294967295 ⌝ }
     ensures { λ r. ⌜ r ≡ sharedColumns a b ⌝ }
 {
-    let end = lesser(a.x1, b.x1) + 1;
-    let start = greater(a.x0, b.x0);
+    let end = min_u32(a.x1, b.x1) + 1;
+    let start = max_u32(a.x0, b.x0);
     if end < start { 0 } else { end - start }
 }
 
@@ -106,7 +107,7 @@ fn overlaps(overlap: f64, a: Rect, b: Rect) -> bool
     ensures { λ r. ⌜ r ≡ overlapping overlap a b ⌝ }
 {
     let shared = shared_columns(a, b);
-    let narrow = lesser(a.width(), b.width());
+    let narrow = min_u32(a.width(), b.width());
     (0 < shared) & (overlap * (narrow as f64) <= shared as f64)
 }
 
@@ -179,7 +180,7 @@ fn count_heights(lines: &[u32], n: usize, h: u32, table: &mut [u32])
     requires { ⌜ ((w : ℕ) × Lines w h n (now lines)) × (n ≤ 4294967295) × (h < 4294967295) × (h + 1 ≤ length (now table)) ⌝ }
     ensures { λ _. ⌜ now (table .exit) ≡ over (counts (map height (lineBoxes (now (lines .entry)) n)) (h + 1)) (now (table .entry)) ⌝ }
 {
-    clear(table, (h as usize) + 1);
+    fill_words(&mut table[0..(h as usize) + 1], 0);
     let mut i = 0;
     while i < n {
         let v = wide(line_box(lines, i).height());
@@ -204,7 +205,7 @@ fn count_gaps(lines: &[u32], n: usize, overlap: f64, cap: u32, h: u32, table: &m
     ensures { λ r. ⌜ (r ≡ length (nearestGaps overlap cap (lineBoxes (now (lines .entry)) n)))
         × (now (table .exit) ≡ over (counts (nearestGaps overlap cap (lineBoxes (now (lines .entry)) n)) h) (now (table .entry))) ⌝ }
 {
-    clear(table, h as usize);
+    fill_words(&mut table[0..h as usize], 0);
     let mut found = 0;
     let mut i = 0;
     while i < n {

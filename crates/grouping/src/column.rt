@@ -14,7 +14,7 @@ ghost use Rattle.grouping.specs.stages.Covers.{extended, CoverSteps};
 ghost use Rattle.grouping.specs.stages.LineBoxes.{Lines, lineBoxes};
 ghost use Rattle.grouping.specs.rules.BlockRecords.{columnRecord};
 use crate::counts::count_field;
-use memory::greater;
+use memory::max_u32;
 use params::LayoutParams;
 
 // A column of the page: its first and its last frame column.
@@ -66,7 +66,7 @@ fn sum_cover(counts: &mut [u32], w: usize) -> u32
     while x < w {
         depth = depth + counts[x];
         counts[x] = depth;
-        busiest = greater(busiest, depth);
+        busiest = max_u32(busiest, depth);
         depth = depth - counts[w + x];
         x += 1;
     }

@@ -8,27 +8,16 @@ ghost use Rattle.memory.specs.rules.Words.{over};
 ghost use Rattle.smoothing.specs.rules.LineRecords.{lineWords};
 ghost use Rattle.memory.specs.rules.Records.{fields};
 ghost use Rattle.grouping.specs.stages.Counts.{counts, below};
+use memory::fill_words;
 use memory::wide;
 use smoothing::LINE_WORDS;
-
-// The first m words become 0.
-pub fn clear(words: &mut [u32], m: usize)
-    requires { ⌜ m ≤ length (now words) ⌝ }
-    ensures { λ _. ⌜ now (words .exit) ≡ over (table (λ (v : ℕ). 0) m) (now (words .entry)) ⌝ }
-{
-    let mut i = 0;
-    while i < m {
-        words[i] = 0;
-        i += 1;
-    }
-}
 
 // Counts the values, all below m, of word `field` of the n lines.
 pub fn count_field(lines: &[u32], n: usize, field: usize, table: &mut [u32], m: usize)
     requires { ⌜ (n * lineWords ≤ length (now lines)) × (field < lineWords) × (n ≤ 4294967295) × (m ≤ length (now table)) × ((i : ℕ) → i < n → getD (now lines) (i * lineWords + field) 0 < m) ⌝ }
     ensures { λ _. ⌜ now (table .exit) ≡ over (counts (fields lineWords field (now (lines .entry)) n) m) (now (table .entry)) ⌝ }
 {
-    clear(table, m);
+    fill_words(&mut table[0..m], 0);
     let mut i = 0;
     while i < n {
         let v = wide(lines[i * LINE_WORDS + field]);

@@ -18,6 +18,7 @@ pub use dots::count_dots;
 pub use dots::write_dots;
 pub use pitch::median_pitch;
 pub use pitch::twenty_line_measure;
+pub use record::BLOCK_WORDS;
 pub use summary::Summary;
 pub use summary::Totals;
 pub use summary::median_glyph_height;

@@ -8,7 +8,7 @@ ghost use Rattle.sorting.specs.rules.Units.{median};
 ghost use Rattle.grouping.specs.rules.Readings.{twentyOf};
 ghost use Rattle.grouping.specs.rules.HeldLines.{centreAt, blockAt, pitchesBelow};
 ghost use Rattle.grouping.specs.stages.Pitches.{walkedPitches, lastCentre, PitchAdded, BlockedLines};
-use crate::counts::clear;
+use memory::fill_words;
 use memory::wide;
 use smoothing::LINE_WORDS;
 use sorting::median_of_counts;
@@ -33,7 +33,7 @@ pub fn median_pitch(lines: &[u32], n: usize, blocks: usize, h: u32, scratch: &mu
     ensures { λ r. ⌜ (r ≡ median (pitchesBelow (centreAt (now (lines .entry))) (blockAt (now (lines .entry))) n blocks)) × (r ≤ 2 * h) ⌝ }
 {
     let values = 2 * (h as usize);
-    clear(scratch, values + blocks);
+    fill_words(&mut scratch[0..values + blocks], 0);
     let found = count_pitches(lines, n, blocks, values, scratch);
     median_of_counts(&scratch[..values], found)
 }

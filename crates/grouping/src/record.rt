@@ -17,7 +17,7 @@ use memory::Rect;
 use memory::wide;
 
 // The words of a block.
-const BLOCK_WORDS: usize = 5;
+pub const BLOCK_WORDS: usize = 5;
 
 // Writes the record of each block from the word `at` on, from the n lines before it and the numbers of their blocks; answers how many
 // there are.

@@ -4,11 +4,11 @@ ghost use Prim.Native.Nat.{_-_, _<_, min, max};
 ghost use lib.ListN.{getD, length};
 ghost use lib.Dec.{ltb};
 ghost use Rattle.levelling.specs.rules.Frames.{rowOf, columnOf};
-ghost use Rattle.grouping.specs.stages.Dots.{frameBy, Sheared, RowSpan, ColumnSpan, isShort, Turn};
+ghost use Rattle.grouping.specs.stages.Dots.{frameBy, Sheared, RowSpan, ColumnSpan, isShort, FirstReached};
 use crate::dots::Sides;
 use memory::Rect;
-use memory::larger;
-use memory::smaller;
+use memory::max_usize;
+use memory::min_usize;
 use memory::wide;
 
 // From one number to another.
@@ -23,8 +23,8 @@ pub fn row_span(shear: &[u32], shear_x: &[u32], sides: Sides, r: Rect) -> Span
     requires { ⌜ Sheared (frameBy sides (now shear) (now «shear_x»)) ⌝ }
     ensures { λ s. ⌜ RowSpan (frameBy sides (now (shear .entry)) (now («shear_x» .entry))) r (s .from) (s .to) ⌝ }
 {
-    let top = smaller(r.y0 as usize, sides.h - 1);
-    let bottom = smaller(r.y1 as usize, sides.h - 1);
+    let top = min_usize(r.y0 as usize, sides.h - 1);
+    let bottom = min_usize(r.y1 as usize, sides.h - 1);
     let columns = reach(r.x0, r.x1, ends(shear_x, top, bottom), sides.page_w - 1);
     let first = columns.from;
     let last = columns.to;
@@ -39,8 +39,8 @@ fn ends(table: &[u32], a: usize, b: usize) -> Span
     let p = wide(table[a]);
     let q = wide(table[b]);
     Span {
-        from: smaller(p, q),
-        to: larger(p, q),
+        from: min_usize(p, q),
+        to: max_usize(p, q),
     }
 }
 
@@ -49,8 +49,8 @@ fn reach(low: u32, high: u32, by: Span, last: usize) -> Span
     ensures { λ s. ⌜ (s .from ≡ min (low - by .to) last) × (s .to ≡ min (high - by .from) last) ⌝ }
 {
     Span {
-        from: smaller(less(wide(low), by.to), last),
-        to: smaller(less(wide(high), by.from), last),
+        from: min_usize(less(wide(low), by.to), last),
+        to: min_usize(less(wide(high), by.from), last),
     }
 }
 
@@ -69,13 +69,13 @@ pub fn column_span(shear: &[u32], shear_x: &[u32], sides: Sides, r: Rect, y: usi
     let last = sides.page_w - 1;
     let falls = wide(shear[last]) < wide(shear[0]);
     Span {
-        from: turn(shear, shear_x, sides, r, falls, true, y),
-        to: turn(shear, shear_x, sides, r, falls, false, y),
+        from: first_reached(shear, shear_x, sides, r, falls, true, y),
+        to: first_reached(shear, shear_x, sides, r, falls, false, y),
     }
 }
 
 // The first column of page row y whose dot is no longer before the box (`start`), or no longer short of its end.
-fn turn(
+fn first_reached(
     shear: &[u32],
     shear_x: &[u32],
     sides: Sides,
@@ -85,7 +85,7 @@ fn turn(
     y: usize,
 ) -> usize
     requires { ⌜ Sheared (frameBy sides (now shear) (now «shear_x»)) × (falls ≡ ltb (getD (now shear) (sides .«page_w» - 1) 0) (getD (now shear) 0 0)) × (y < sides .«page_h») ⌝ }
-    ensures { λ n. ⌜ Turn (frameBy sides (now (shear .entry)) (now («shear_x» .entry))) r falls start y n ⌝ }
+    ensures { λ n. ⌜ FirstReached (frameBy sides (now (shear .entry)) (now («shear_x» .entry))) r falls start y n ⌝ }
 {
     let mut low = 0;
     let mut high = sides.page_w;

@@ -10,7 +10,7 @@ use lib.IntN.{pos}
 use lib.Ieee.{Float, le, fin}
 use lib.ListN.{length, getD}
 use Rattle.memory.specs.rules.Floats.{floatAt}
-use Rattle.memory.specs.rules.Limits.{storeWords, maxCapacity}
+use Rattle.memory.specs.rules.Limits.{storeWords, maxPageSide, maxCapacity}
 use Rattle.memory.specs.rules.Refusals.{refuseIf}
 use Rattle.memory.proofs.BoolLaws.{and-left, and-right}
 use Rattle.rounding.specs.rules.Drift.{WithinOne}
@@ -47,12 +47,12 @@ limited g e =
     record {
       sides =
           record {
-            wide = ltb-true 0 (g .page-w) (and-left (ltb 0 (g .page-w)) (leb (g .page-w) 8192) ew);
-            high = ltb-true 0 (g .page-h) (and-left (ltb 0 (g .page-h)) (leb (g .page-h) 8192) eh);
-            w-fits = leb-true (g .page-w) 8192 (and-right (ltb 0 (g .page-w)) (leb (g .page-w) 8192) ew);
-            h-fits = leb-true (g .page-h) 8192 (and-right (ltb 0 (g .page-h)) (leb (g .page-h) 8192) eh);
+            wide = ltb-true 0 (g .page-w) (and-left (ltb 0 (g .page-w)) (leb (g .page-w) maxPageSide) ew);
+            high = ltb-true 0 (g .page-h) (and-left (ltb 0 (g .page-h)) (leb (g .page-h) maxPageSide) eh);
+            w-fits = leb-true (g .page-w) maxPageSide (and-right (ltb 0 (g .page-w)) (leb (g .page-w) maxPageSide) ew);
+            h-fits = leb-true (g .page-h) maxPageSide (and-right (ltb 0 (g .page-h)) (leb (g .page-h) maxPageSide) eh);
           };
-      few = leb-true (g .capacity) 65535 (and-right (ltb 0 (g .capacity)) (leb (g .capacity) 65535) ec);
+      few = leb-true (g .capacity) maxCapacity (and-right (ltb 0 (g .capacity)) (leb (g .capacity) maxCapacity) ec);
       within = (to-T low (and-left low high et), to-T high (and-right low high et));
     }
 

@@ -1,21 +1,23 @@
 -- A part of words, after others are put over the front or from a place on.
-use mathlib.Core.Path.{_≡_, refl, sym, ap, _∙_}
+use mathlib.Core.Path.{_≡_, refl, sym, ap, _∙_, subst}
 use mathlib.Core.List.{List, _++_}
 use Prim.Native.Nat.{ℕ, _+_, _-_, _≤_, _<_}
 use native.Mathlib.Omega.{arith}
 use lib.ListN.{length, getD, take, drop, length-append, length-drop, take-append-drop}
-use lib.Seq.{take-append-le, drop-append-le, take-at, drop-at, drop-drop, length-take-le, getD-take, getD-drop}
+use lib.Seq.{take-append-le, drop-append-le, take-at, drop-at, drop-drop, length-take-le}
 use Rattle.memory.specs.rules.Words.{over, putAt}
+use Rattle.memory.proofs.PartLaws as memory
+use Rattle.memory.proofs.PartLaws.{getD-part}
 use Rattle.judging.specs.rules.Header.{part}
 
 pub length-part : (a n : ℕ) (s : List ℕ) → a + n ≤ length s → length (part a n s) ≡ n
 unfolding part
-length-part a n s h = length-take-le n (drop a s) (let e = length-drop a s in omega arith)
+length-part a n s h = subst (λ k. length (take k (drop a s)) ≡ k) (let q : a + n - a ≡ n = omega arith in q) (memory.length-part a (a + n) s (omega arith) h)
 
 -- word j of a part
-pub part-word : (a n : ℕ) (s : List ℕ) (j d : ℕ) → j < n → getD (part a n s) j d ≡ getD s (a + j) d
+pub part-word : (a n : ℕ) (s : List ℕ) (j : ℕ) → j < n → getD (part a n s) j 0 ≡ getD s (a + j) 0
 unfolding part
-part-word a n s j d h = getD-take n (drop a s) j d h ∙ getD-drop a s j d
+part-word a n s j h = getD-part a n s j h
 
 -- a part of the first words
 pub part-append : (a n : ℕ) (x y : List ℕ) → a + n ≤ length x → part a n (x ++ y) ≡ part a n x

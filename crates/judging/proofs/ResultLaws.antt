@@ -16,7 +16,7 @@ use lib.Seq.{getD-take, length-take-le}
 use Rattle.memory.specs.rules.Lists.{table, greatest}
 use Rattle.memory.proofs.BoolLaws.{and-left, and-right}
 use Rattle.params.specs.rules.Valid as Valid
-use Rattle.params.specs.rules.Valid.{one, tenThousand, lengthOk}
+use Rattle.params.specs.rules.Valid.{floatOne, tenThousand, lengthOk}
 use Rattle.memory.proofs.GreatestLaws.{greatest-more}
 use Rattle.memory.specs.rules.Masks.{isMask}
 use Rattle.memory.proofs.MaskLaws.{mask-by-greatest}
@@ -24,7 +24,11 @@ use Rattle.judging.specs.rules.Header.{part}
 use Rattle.memory.specs.rules.Floats.{floatAt}
 use Rattle.memory.specs.rules.Limits.{maxLines, noLine}
 use Rattle.segmenting.specs.rules.Results.{rulesAt, graphicsAt, glyphRecordsAt, linesAt, blocksAt}
-use Rattle.judging.specs.rules.Views.{ruleCount, graphicCount, glyphCount, lineCount, blockCount}
+use Rattle.segmenting.specs.stages.Places.{resultPlaces}
+use Rattle.segmenting.specs.declared.places.ResultPlaces.{ResultPlaces}
+use Rattle.smoothing.specs.rules.LineRecords.{lineWords, glyphWords}
+use Rattle.grouping.specs.rules.BlockRecords.{blockWords}
+use Rattle.judging.specs.rules.Views.{boxLength, glyphLineAt, glyphHeightAt, lineBlockAt, blockLinesAt, ruleCount, graphicCount, glyphCount, lineCount, blockCount}
 use Rattle.judging.specs.rules.Spoiled.{every, boxOk, boxesOk, fieldsOk, kindOk, kindsOk, unitOk, countsOk}
 use Rattle.judging.specs.stages.Judged.{listsOk, wordsOk}
 use Rattle.judging.proofs.PartLaws.{part-word}
@@ -67,18 +71,18 @@ record-ends at i n k l = let a : suc i * k ≤ n * k = mul-le-mul-right k l in o
 word-there : (at n k i j : ℕ) (s : List ℕ) → i < n → j < k → getD (part at (n * k) s) (i * k + j) 0 ≡ getD s (at + i * k + j) 0
 word-there at n k i j s l b =
     let e = record-ends at i n k l in
-    part-word at (n * k) s (i * k + j) 0 (omega arith) ∙ ap (λ z. getD s z 0) (let q : at + (i * k + j) ≡ at + i * k + j = omega arith in q)
+    part-word at (n * k) s (i * k + j) (omega arith) ∙ ap (λ z. getD s z 0) (let q : at + (i * k + j) ≡ at + i * k + j = omega arith in q)
 
 -- the tests on the words themselves
-abbrev pub boxAt : ℕ → ℕ → List ℕ → ℕ → ℕ → ℕ → Bool
-boxAt w h s at k i = boxOk w h s (at + i * k)
+abbrev pub boxOkAt : ℕ → ℕ → List ℕ → ℕ → ℕ → ℕ → Bool
+boxOkAt w h s at k i = boxOk w h s (at + i * k)
 
-pub boxes-there : (w h at k n : ℕ) (s : List ℕ) (b : Bool) (i : ℕ) → 4 ≤ k → i ≡ n → b ≡ every (boxAt w h s at k) i → b ≡ boxesOk w h k (part at (n * k) s) n
+pub boxes-there : (w h at k n : ℕ) (s : List ℕ) (b : Bool) (i : ℕ) → 4 ≤ k → i ≡ n → b ≡ every (boxOkAt w h s at k) i → b ≡ boxesOk w h k (part at (n * k) s) n
 unfolding boxesOk
-boxes-there w h at k n s b i f q e = e ∙ (ap (every (boxAt w h s at k)) q ∙ every-same _ _ n (λ j l. sym (one j l)))
+boxes-there w h at k n s b i f q e = e ∙ (ap (every (boxOkAt w h s at k)) q ∙ every-same _ _ n (λ j l. sym (each-box j l)))
   where
-    one : (j : ℕ) → j < n → boxOk w h (part at (n * k) s) (j * k) ≡ boxOk w h s (at + j * k)
-    one j l =
+    each-box : (j : ℕ) → j < n → boxOk w h (part at (n * k) s) (j * k) ≡ boxOk w h s (at + j * k)
+    each-box j l =
         let z : j * k + 0 ≡ j * k = omega arith in
         let y : at + j * k + 0 ≡ at + j * k = omega arith in
         let x0 = ap (λ m. getD (part at (n * k) s) m 0) (sym z) ∙ (word-there at n k j 0 s l (omega arith) ∙ ap (λ m. getD s m 0) y) in
@@ -143,57 +147,57 @@ finite-is (inf false) = refl
 finite-is (fin s m e) = refl
 
 module _ (case : ℕ) (x : Float) (b : Bool) (e : b ≡ finite x) where
-  pub assumed-is : case ≡ 0 → (not (not b || lt x Valid.zero || lt tenThousand x) && not (lt x one)) ≡ cond (eqb case 0) (lengthOk x && not (lt x one)) (finite x && le one x)
-  assumed-is q = ap (λ t. not (not t || lt x Valid.zero || lt tenThousand x) && not (lt x one)) e ∙ sym (rw (eq-eqb case 0 q))
+  pub assumed-is : case ≡ 0 → (not (not b || lt x Valid.floatZero || lt tenThousand x) && not (lt x floatOne)) ≡ cond (eqb case 0) (lengthOk x && not (lt x floatOne)) (finite x && le floatOne x)
+  assumed-is q = ap (λ t. not (not t || lt x Valid.floatZero || lt tenThousand x) && not (lt x floatOne)) e ∙ sym (rw (eq-eqb case 0 q))
 
-  pub measured-is : (case ≡ 0 → ⊥) → (b && le one x) ≡ cond (eqb case 0) (lengthOk x && not (lt x one)) (finite x && le one x)
-  measured-is q = ap (λ t. t && le one x) e ∙ sym (rw (ne-eqb case 0 q))
+  pub measured-is : (case ≡ 0 → ⊥) → (b && le floatOne x) ≡ cond (eqb case 0) (lengthOk x && not (lt x floatOne)) (finite x && le floatOne x)
+  measured-is q = ap (λ t. t && le floatOne x) e ∙ sym (rw (ne-eqb case 0 q))
 
 -- ---- the lists
 
 most : (h : ℕ) → _≡_ {A = ℕ → Bool} (λ v. ltb v (h + 1)) (λ v. leb v h)
 most h = λ i v. (ap (ltb v) (add-one h) ∙ leb·suc-suc v h) i
 
-pub lists-by : (w h : ℕ) (s : List ℕ) (at P r g y l b : ℕ) (t₁ t₂ t₃ t₄ t₅ t₆ t₇ t₈ t₉ : Bool)
-    → t₁ ≡ fieldsOk (λ v. ltb v (h + 1)) 8 6 (part (at + 2 * w + 22 * P) (l * 8) s) l
-    → t₂ ≡ fieldsOk (λ v. ltb v (l + 1)) 5 4 (part (at + 2 * w + 30 * P) (b * 5) s) b
-    → t₃ ≡ boxesOk w h 4 (part (at + 2 * w) (r * 4) s) r
-    → t₄ ≡ boxesOk w h 4 (part (at + 2 * w + 12 * P) (g * 4) s) g
-    → t₅ ≡ boxesOk w h 6 (part (at + 2 * w + 16 * P) (y * 6) s) y
-    → t₆ ≡ boxesOk w h 8 (part (at + 2 * w + 22 * P) (l * 8) s) l
-    → t₇ ≡ boxesOk w h 5 (part (at + 2 * w + 30 * P) (b * 5) s) b
-    → t₈ ≡ fieldsOk (λ v. eqb v noLine || ltb v l) 6 5 (part (at + 2 * w + 16 * P) (y * 6) s) y
-    → t₉ ≡ fieldsOk (λ v. ltb v b) 8 7 (part (at + 2 * w + 22 * P) (l * 8) s) l
+-- the places of the lists, one by one
+pub places-are : (q : ResultPlaces) (w P : ℕ) → q ≡ resultPlaces w P → (q .rules ≡ rulesAt w) × (q .graphics ≡ graphicsAt w P) × (q .glyphs ≡ glyphRecordsAt w P) × (q .lines ≡ linesAt w P) × (q .blocks ≡ blocksAt w P)
+places-are q w P e =
+    (ap (λ (z : ResultPlaces). z .rules) e, ap (λ (z : ResultPlaces). z .graphics) e, ap (λ (z : ResultPlaces). z .glyphs) e, ap (λ (z : ResultPlaces). z .lines) e, ap (λ (z : ResultPlaces). z .blocks) e)
+
+pub lists-by : (w h : ℕ) (s : List ℕ) (at P r g y l b : ℕ) (q : ResultPlaces) → q ≡ resultPlaces w P → (t₁ t₂ t₃ t₄ t₅ t₆ t₇ t₈ t₉ : Bool)
+    → t₁ ≡ fieldsOk (λ v. ltb v (h + 1)) lineWords glyphHeightAt (part (at + q .lines) (l * lineWords) s) l
+    → t₂ ≡ fieldsOk (λ v. ltb v (l + 1)) blockWords blockLinesAt (part (at + q .blocks) (b * blockWords) s) b
+    → t₃ ≡ boxesOk w h boxLength (part (at + q .rules) (r * boxLength) s) r
+    → t₄ ≡ boxesOk w h boxLength (part (at + q .graphics) (g * boxLength) s) g
+    → t₅ ≡ boxesOk w h glyphWords (part (at + q .glyphs) (y * glyphWords) s) y
+    → t₆ ≡ boxesOk w h lineWords (part (at + q .lines) (l * lineWords) s) l
+    → t₇ ≡ boxesOk w h blockWords (part (at + q .blocks) (b * blockWords) s) b
+    → t₈ ≡ fieldsOk (λ v. eqb v noLine || ltb v l) glyphWords glyphLineAt (part (at + q .glyphs) (y * glyphWords) s) y
+    → t₉ ≡ fieldsOk (λ v. ltb v b) lineWords lineBlockAt (part (at + q .lines) (l * lineWords) s) l
     → (t₁ && t₂ && t₃ && t₄ && t₅ && t₆ && t₇ && t₈ && t₉) ≡ listsOk w h s at P r g y l b
 unfolding listsOk
-lists-by w h s at P r g y l b t₁ t₂ t₃ t₄ t₅ t₆ t₇ t₈ t₉ e₁ e₂ e₃ e₄ e₅ e₆ e₇ e₈ e₉ =
-    let a₁ : at + 2 * w ≡ at + rulesAt w = omega arith in
-    let a₂ : at + 2 * w + 12 * P ≡ at + graphicsAt w P = omega arith in
-    let a₃ : at + 2 * w + 16 * P ≡ at + glyphRecordsAt w P = omega arith in
-    let a₄ : at + 2 * w + 22 * P ≡ at + linesAt w P = omega arith in
-    let a₅ : at + 2 * w + 30 * P ≡ at + blocksAt w P = omega arith in
-    let f₁ = e₁ ∙ (λ i. fieldsOk (most h i) 8 6 (part (a₄ i) (l * 8) s) l) in
-    let f₂ = e₂ ∙ (λ i. fieldsOk (most l i) 5 4 (part (a₅ i) (b * 5) s) b) in
-    let f₃ = e₃ ∙ (λ i. boxesOk w h 4 (part (a₁ i) (r * 4) s) r) in
-    let f₄ = e₄ ∙ (λ i. boxesOk w h 4 (part (a₂ i) (g * 4) s) g) in
-    let f₅ = e₅ ∙ (λ i. boxesOk w h 6 (part (a₃ i) (y * 6) s) y) in
-    let f₆ = e₆ ∙ (λ i. boxesOk w h 8 (part (a₄ i) (l * 8) s) l) in
-    let f₇ = e₇ ∙ (λ i. boxesOk w h 5 (part (a₅ i) (b * 5) s) b) in
-    let f₈ = e₈ ∙ (λ i. fieldsOk (λ v. eqb v noLine || ltb v l) 6 5 (part (a₃ i) (y * 6) s) y) in
-    let f₉ = e₉ ∙ (λ i. fieldsOk (λ v. ltb v b) 8 7 (part (a₄ i) (l * 8) s) l) in
+lists-by w h s at P r g y l b q e t₁ t₂ t₃ t₄ t₅ t₆ t₇ t₈ t₉ e₁ e₂ e₃ e₄ e₅ e₆ e₇ e₈ e₉ =
+    let f₁ = e₁ ∙ (λ i. fieldsOk (most h i) lineWords glyphHeightAt (part (at + e i .lines) (l * lineWords) s) l) in
+    let f₂ = e₂ ∙ (λ i. fieldsOk (most l i) blockWords blockLinesAt (part (at + e i .blocks) (b * blockWords) s) b) in
+    let f₃ = e₃ ∙ (λ i. boxesOk w h boxLength (part (at + e i .rules) (r * boxLength) s) r) in
+    let f₄ = e₄ ∙ (λ i. boxesOk w h boxLength (part (at + e i .graphics) (g * boxLength) s) g) in
+    let f₅ = e₅ ∙ (λ i. boxesOk w h glyphWords (part (at + e i .glyphs) (y * glyphWords) s) y) in
+    let f₆ = e₆ ∙ (λ i. boxesOk w h lineWords (part (at + e i .lines) (l * lineWords) s) l) in
+    let f₇ = e₇ ∙ (λ i. boxesOk w h blockWords (part (at + e i .blocks) (b * blockWords) s) b) in
+    let f₈ = e₈ ∙ (λ i. fieldsOk (λ v. eqb v noLine || ltb v l) glyphWords glyphLineAt (part (at + e i .glyphs) (y * glyphWords) s) y) in
+    let f₉ = e₉ ∙ (λ i. fieldsOk (λ v. ltb v b) lineWords lineBlockAt (part (at + e i .lines) (l * lineWords) s) l) in
     λ i. f₁ i && f₂ i && f₃ i && f₄ i && f₅ i && f₆ i && f₇ i && f₈ i && f₉ i
 
 -- ---- the figures: words 10 to 24
 
 -- the unit by its case, the counts by their limits
 abbrev pub unitBy : ℕ → Float → Bool
-unitBy case x = cond (eqb case 0) (lengthOk x && not (lt x one)) (finite x && le one x)
+unitBy case x = cond (eqb case 0) (lengthOk x && not (lt x floatOne)) (finite x && le floatOne x)
 
 abbrev pub countsBy : ℕ → ℕ → ℕ → ℕ → ℕ → ℕ → ℕ → ℕ → Bool
 countsBy r g y l b k w P = leb r (3 * P) && leb g P && leb y P && leb l P && leb l maxLines && leb b P && leb k w
 
 pub figure-word : (s : List ℕ) (j : ℕ) → j < 15 → getD (part 10 15 s) j 0 ≡ getD s (10 + j) 0
-figure-word s j h = part-word 10 15 s j 0 h
+figure-word s j h = part-word 10 15 s j h
 
 pub figure-float : (s : List ℕ) → floatAt (part 10 15 s) 1 ≡ floatAt s 11
 figure-float s = λ i. floatOf (figure-word s 1 (omega arith) i) (figure-word s 2 (omega arith) i)

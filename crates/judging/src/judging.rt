@@ -3,11 +3,11 @@ ghost use mathlib.Core.Bool.{not, _&&_};
 ghost use mathlib.Core.Path.{_≡_};
 ghost use Prim.Native.Nat.{_*_, _≤_};
 ghost use lib.ListN.{length};
-ghost use Rattle.memory.specs.rules.Limits.{maxPageSide, maxFrameWidth, maxFrameHeight, maxCapacity, storeWords};
+ghost use Rattle.memory.specs.rules.Limits.{storeWords};
 ghost use Rattle.memory.specs.rules.Refusals.{refuseIf};
 ghost use Rattle.memory.specs.rules.Words.{wordAt};
 ghost use Rattle.judging.specs.rules.Leaves.{leafOf};
-ghost use Rattle.judging.specs.rules.Header.{held};
+ghost use Rattle.judging.specs.rules.Header.{headerWords, listsAt, held};
 ghost use Rattle.judging.specs.rules.Spoiled.{sideOk, capacityOk, skewOk, slopeOk, stateSpoiled, limitsOk};
 ghost use Rattle.judging.specs.rules.Refusals.{leafRefusal, placeRefusal, headRefusal};
 use crate::words::CAPACITY;
@@ -19,23 +19,26 @@ use crate::words::SEGMENTED;
 use crate::words::SKEW;
 use crate::words::SLOPE;
 use crate::words::STATE;
-use extents::area;
+use memory::MAX_CAPACITY;
+use memory::MAX_PAGE_SIDE;
+use memory::area;
 use memory::float_at;
 use memory::is_mask;
 use memory::refuse_if;
+use memory::store_words;
 use memory::word_at;
 use params::LayoutParams;
 
 fn side_ok(n: u32) -> bool
     ensures { λ r. ⌜ r ≡ sideOk n ⌝ }
 {
-    (0 < n) & (n <= 8192)
+    (0 < n) & (n <= MAX_PAGE_SIDE)
 }
 
 fn capacity_ok(n: u32) -> bool
     ensures { λ r. ⌜ r ≡ capacityOk n ⌝ }
 {
-    (0 < n) & (n <= 65535)
+    (0 < n) & (n <= MAX_CAPACITY)
 }
 
 fn skew_ok(x: f64) -> bool
@@ -83,17 +86,15 @@ pub fn judge_leaf(
     refuse_if(!wide | !high, 1, by_length)
 }
 
-// The words of a store that a page and its frame ask.
-pub fn store_words(page_w: u32, w: u32, h: u32, capacity: u32) -> usize
-    requires { ⌜ («page_w» ≤ maxPageSide) × (w ≤ maxFrameWidth) × (h ≤ maxFrameHeight) × (capacity ≤ maxCapacity) ⌝ }
-    ensures { λ r. ⌜ r ≡ storeWords «page_w» w h capacity ⌝ }
+// Where the lists begin: behind the header and both shears.
+pub fn lists_at(page_w: u32, h: u32) -> usize
+    ensures { λ r. ⌜ r ≡ listsAt «page_w» h ⌝ }
 {
-    HEADER + page_w as usize + h as usize + 2 * (w as usize) + 40 * (capacity as usize)
+    HEADER + page_w as usize + h as usize
 }
 
 // What levelling is lent: 9 by the frame, 16 and 17 by the state word, else 0.
 pub fn judge_place(page_w: u32, w: u32, h: u32, capacity: u32, store: &[u32], ink: usize) -> u32
-    requires { ⌜ («page_w» ≤ maxPageSide) × (w ≤ maxFrameWidth) × (h ≤ maxFrameHeight) × (capacity ≤ maxCapacity) ⌝ }
     ensures { λ r. ⌜ r ≡ placeRefusal (storeWords «page_w» w h capacity) (w * h) (length (now (store .entry))) ink (wordAt (now (store .entry)) 0) ⌝ }
 {
     let state = word_at(store, STATE);
@@ -119,7 +120,7 @@ fn limits_ok(page_w: u32, page_h: u32, capacity: u32, skew: f64, slope: f64) -> 
 // What a header of 64 words says, for every call but levelling and clearing: 16 for the state word, `number` where it is too early for
 // the call, 16 for sizes, capacity, skew and slope, else 0.
 fn judge_words(store: &[u32], early: bool, number: u32) -> u32
-    requires { ⌜ 64 ≤ length (now store) ⌝ }
+    requires { ⌜ headerWords ≤ length (now store) ⌝ }
     ensures { λ r. ⌜ r ≡ refuseIf (stateSpoiled (held (now (store .entry)))) 16 (refuseIf early number (refuseIf (not (limitsOk (held (now (store .entry))))) 16 0)) ⌝ }
 {
     let state = store[STATE];

@@ -5,12 +5,11 @@ ghost use Prim.Native.Nat.{_≤_, _<_};
 ghost use lib.Dec.{eqb};
 ghost use lib.ListN.{length};
 ghost use Rattle.memory.specs.rules.Limits.{maxFrameWidth, maxFrameHeight};
-ghost use Rattle.judging.specs.rules.Header.{held, frameHeld};
+ghost use Rattle.judging.specs.rules.Header.{headerWords, held, frameHeld};
 ghost use Rattle.judging.specs.rules.Spoiled.{limitsOk};
 ghost use Rattle.judging.specs.rules.Refusals.{headRefusal};
 ghost use Rattle.judging.specs.stages.Judged.{frameJudged};
 use crate::judging::judge_head;
-use crate::judging::store_words;
 use crate::shears::frame_differs;
 use crate::words::CAPACITY;
 use crate::words::EMPTY;
@@ -21,6 +20,7 @@ use crate::words::STATE;
 use levelling::FrameSize;
 use memory::float_at;
 use memory::refuse_if;
+use memory::store_words;
 use memory::word_at;
 
 // The header of a store for a reading that needs only a levelled page.
@@ -33,7 +33,7 @@ pub fn level_head(store: &[u32]) -> u32
 
 // The sides of the frame that the held slope gives.
 pub fn frame_held(store: &[u32]) -> FrameSize
-    requires { ⌜ (64 ≤ length (now store)) × (limitsOk (held (now store)) ≡ true) ⌝ }
+    requires { ⌜ (headerWords ≤ length (now store)) × (limitsOk (held (now store)) ≡ true) ⌝ }
     ensures { λ r. ⌜ (r .w ≡ frameHeld (held (now (store .entry))) .w) × (r .h ≡ frameHeld (held (now (store .entry))) .h) × (r .w ≤ maxFrameWidth) × (r .h ≤ maxFrameHeight) ⌝ }
 {
     let slope = float_at(store, SLOPE);
@@ -42,7 +42,7 @@ pub fn frame_held(store: &[u32]) -> FrameSize
 
 // What follows the header, by that frame: 9 for the store, 9, 16 for frame and shears, 8, else 0.
 pub fn judge_frame(store: &[u32], w: u32, h: u32, lacking: bool, bad: bool) -> u32
-    requires { ⌜ (64 ≤ length (now store)) × (limitsOk (held (now store)) ≡ true) × (w ≡ frameHeld (held (now store)) .w) × (h ≡ frameHeld (held (now store)) .h) × (w ≤ maxFrameWidth) × (h ≤ maxFrameHeight) ⌝ }
+    requires { ⌜ (headerWords ≤ length (now store)) × (limitsOk (held (now store)) ≡ true) × (w ≡ frameHeld (held (now store)) .w) × (h ≡ frameHeld (held (now store)) .h) × (w ≤ maxFrameWidth) × (h ≤ maxFrameHeight) ⌝ }
     ensures { λ r. ⌜ r ≡ frameJudged (now (store .entry)) lacking bad ⌝ }
 {
     let page_w = store[PAGE_WIDTH];

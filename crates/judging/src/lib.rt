@@ -11,6 +11,7 @@ mod words;
 pub use judging::is_page;
 pub use judging::judge_leaf;
 pub use judging::judge_place;
+pub use judging::lists_at;
 pub use levels::frame_held;
 pub use levels::judge_frame;
 pub use levels::level_head;

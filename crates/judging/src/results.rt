@@ -6,26 +6,35 @@ ghost use lib.Dec.{eqb, ltb, leb};
 ghost use lib.Ieee.{lt, le};
 ghost use lib.Ieee.Scale.{finite};
 ghost use lib.ListN.{length, take};
-ghost use Rattle.memory.specs.rules.Limits.{maxPageSide, maxFrameWidth, maxFrameHeight, maxCapacity, maxLines, storeWords};
-ghost use Rattle.params.specs.rules.Valid.{one, lengthOk};
+ghost use Rattle.memory.specs.rules.Limits.{maxPageSide, maxFrameWidth, maxFrameHeight, maxCapacity, maxLines, noLine, storeWords};
+ghost use Rattle.params.specs.rules.Valid.{floatOne, lengthOk};
 ghost use Rattle.memory.specs.rules.Masks.{isMask};
 ghost use Rattle.segmenting.specs.rules.Figures.{figuresLength};
 ghost use Rattle.segmenting.specs.rules.Results.{resultWords};
 ghost use Rattle.judging.specs.stages.Judged.{listsOk, wordsOk};
 ghost use Rattle.judging.specs.rules.Header.{part, figuresAt, listsAt};
 ghost use Rattle.judging.specs.rules.Spoiled.{boxOk, boxesOk, fieldsOk, kindOk, kindsOk};
+use crate::judging::lists_at;
+use crate::words::BLOCK_LINES;
 use crate::words::BLOCKS;
 use crate::words::COLUMNS;
 use crate::words::FIGURES;
+use crate::words::GLYPH_HEIGHT;
+use crate::words::GLYPH_LINE;
 use crate::words::GLYPHS;
 use crate::words::GRAPHICS;
-use crate::words::HEADER;
+use crate::words::LINE_BLOCK;
 use crate::words::LINES;
 use crate::words::RULES;
 use crate::words::UNIT;
+use grouping::BLOCK_WORDS;
+use memory::MAX_LINES;
+use memory::NO_LINE;
 use memory::float_at;
-use smoothing::MAX_LINES;
-use smoothing::NO_LINE;
+use segmenting::BOX_WORDS;
+use segmenting::result_places;
+use smoothing::GLYPH_WORDS;
+use smoothing::LINE_WORDS;
 
 // Whether the four words from p on are a box inside a frame.
 fn box_ok(words: &[u32], p: usize, w: u32, h: u32) -> bool
@@ -40,7 +49,7 @@ fn box_ok(words: &[u32], p: usize, w: u32, h: u32) -> bool
 }
 
 // Whether the n records from word `at` on, each of so many words, begin with a box inside a frame.
-fn boxes_ok(words: &[u32], at: usize, width: usize, n: usize, w: u32, h: u32) -> bool
+fn boxes_ok(words: &[u32], at: usize, width: usize, n: u32, w: u32, h: u32) -> bool
     requires { ⌜ (at + n * width ≤ length (now words)) × (4 ≤ width) ⌝ }
     ensures { λ r. ⌜ r ≡ boxesOk w h width (part at (n * width) (now (words .entry))) n ⌝ }
 {
@@ -57,7 +66,7 @@ fn boxes_ok(words: &[u32], at: usize, width: usize, n: usize, w: u32, h: u32) ->
 }
 
 // Whether word `field` of each of them is below a limit.
-fn fields_below(words: &[u32], at: usize, width: usize, field: usize, n: usize, limit: u32) -> bool
+fn fields_below(words: &[u32], at: usize, width: usize, field: usize, n: u32, limit: u32) -> bool
     requires { ⌜ (at + n * width ≤ length (now words)) × (field < width) ⌝ }
     ensures { λ r. ⌜ r ≡ fieldsOk (λ v. ltb v limit) width field (part at (n * width) (now (words .entry))) n ⌝ }
 {
@@ -73,25 +82,17 @@ fn fields_below(words: &[u32], at: usize, width: usize, field: usize, n: usize, 
     ok
 }
 
-// Whether it is the mark or below a limit.
-fn fields_marked(
-    words: &[u32],
-    at: usize,
-    width: usize,
-    field: usize,
-    n: usize,
-    mark: u32,
-    limit: u32,
-) -> bool
+// Whether it is the mark of no line or below a limit.
+fn fields_marked(words: &[u32], at: usize, width: usize, field: usize, n: u32, limit: u32) -> bool
     requires { ⌜ (at + n * width ≤ length (now words)) × (field < width) ⌝ }
-    ensures { λ r. ⌜ r ≡ fieldsOk (λ v. eqb v mark || ltb v limit) width field (part at (n * width) (now (words .entry))) n ⌝ }
+    ensures { λ r. ⌜ r ≡ fieldsOk (λ v. eqb v noLine || ltb v limit) width field (part at (n * width) (now (words .entry))) n ⌝ }
 {
     let mut ok = true;
     let mut p = at;
     let mut i = 0;
     while i < n {
         let v = words[p + field];
-        ok = ok & ((v == mark) | (v < limit));
+        ok = ok & ((v == NO_LINE) | (v < limit));
         p += width;
         i += 1;
     }
@@ -129,7 +130,7 @@ fn is_finite(v: f64) -> bool
 
 // Whether a unit may stand, by its case.
 fn unit_ok(case: u32, x: f64) -> bool
-    ensures { λ r. ⌜ r ≡ cond (eqb case 0) (lengthOk x && not (lt x one)) (finite x && le one x) ⌝ }
+    ensures { λ r. ⌜ r ≡ cond (eqb case 0) (lengthOk x && not (lt x floatOne)) (finite x && le floatOne x) ⌝ }
 {
     let real = is_finite(x);
     if case == 0 {
@@ -175,24 +176,31 @@ fn lists_ok(
     lines: u32,
     blocks: u32,
 ) -> bool
-    requires { ⌜ (at + resultWords w capacity ≤ length (now store)) × (at ≤ 65536) × (w ≤ maxFrameWidth) × (h ≤ maxFrameHeight) × (capacity ≤ maxCapacity) ⌝ ∗ ⌜ (rules ≤ 3 * capacity) × (graphics ≤ capacity) × (glyphs ≤ capacity) × (lines ≤ capacity) × (blocks ≤ capacity) ⌝ }
+    requires { ⌜ (at + resultWords w capacity ≤ length (now store)) × (at ≤ listsAt maxPageSide maxFrameHeight) × (w ≤ maxFrameWidth) × (h ≤ maxFrameHeight) × (capacity ≤ maxCapacity) ⌝ ∗ ⌜ (rules ≤ 3 * capacity) × (graphics ≤ capacity) × (glyphs ≤ capacity) × (lines ≤ capacity) × (blocks ≤ capacity) ⌝ }
     ensures { λ r. ⌜ r ≡ listsOk w h (now (store .entry)) at capacity rules graphics glyphs lines blocks ⌝ }
 {
-    let p = capacity as usize;
-    let rules_at = at + 2 * (w as usize);
-    let graphics_at = rules_at + 12 * p;
-    let glyphs_at = rules_at + 16 * p;
-    let lines_at = rules_at + 22 * p;
-    let blocks_at = rules_at + 30 * p;
-    let a = fields_below(store, lines_at, 8, 6, lines as usize, h + 1);
-    let b = fields_below(store, blocks_at, 5, 4, blocks as usize, lines + 1);
-    let c = boxes_ok(store, rules_at, 4, rules as usize, w, h);
-    let d = boxes_ok(store, graphics_at, 4, graphics as usize, w, h);
-    let e = boxes_ok(store, glyphs_at, 6, glyphs as usize, w, h);
-    let f = boxes_ok(store, lines_at, 8, lines as usize, w, h);
-    let g = boxes_ok(store, blocks_at, 5, blocks as usize, w, h);
-    let i = fields_marked(store, glyphs_at, 6, 5, glyphs as usize, NO_LINE, lines);
-    let j = fields_below(store, lines_at, 8, 7, lines as usize, blocks);
+    let places = result_places(w as usize, capacity as usize);
+    let rules_at = at + places.rules;
+    let graphics_at = at + places.graphics;
+    let glyphs_at = at + places.glyphs;
+    let lines_at = at + places.lines;
+    let blocks_at = at + places.blocks;
+    let a = fields_below(store, lines_at, LINE_WORDS, GLYPH_HEIGHT, lines, h + 1);
+    let b = fields_below(
+        store,
+        blocks_at,
+        BLOCK_WORDS,
+        BLOCK_LINES,
+        blocks,
+        lines + 1,
+    );
+    let c = boxes_ok(store, rules_at, BOX_WORDS, rules, w, h);
+    let d = boxes_ok(store, graphics_at, BOX_WORDS, graphics, w, h);
+    let e = boxes_ok(store, glyphs_at, GLYPH_WORDS, glyphs, w, h);
+    let f = boxes_ok(store, lines_at, LINE_WORDS, lines, w, h);
+    let g = boxes_ok(store, blocks_at, BLOCK_WORDS, blocks, w, h);
+    let i = fields_marked(store, glyphs_at, GLYPH_WORDS, GLYPH_LINE, glyphs, lines);
+    let j = fields_below(store, lines_at, LINE_WORDS, LINE_BLOCK, lines, blocks);
     a & b & c & d & e & f & g & i & j
 }
 
@@ -221,7 +229,7 @@ pub fn words_ok(store: &[u32], page_w: u32, w: u32, h: u32, capacity: u32) -> bo
     if !(unit & few) {
         return false;
     }
-    let at = HEADER + page_w as usize + h as usize;
+    let at = lists_at(page_w, h);
     lists_ok(
         store,
         at,

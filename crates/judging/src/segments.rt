@@ -3,14 +3,13 @@ ghost use mathlib.Core.Path.{_≡_};
 ghost use mathlib.Core.Bool.{true};
 ghost use Prim.Native.Nat.{_+_, _-_, _*_, _≤_};
 ghost use lib.ListN.{length};
-ghost use Rattle.memory.specs.rules.Limits.{maxFrameWidth, maxFrameHeight, maxCapacity};
+ghost use Rattle.memory.specs.rules.Limits.{maxMaskDots};
 ghost use Rattle.segmenting.specs.rules.Answers as Answers;
 ghost use Rattle.segmenting.specs.rules.Answers.{segmentPlane};
-ghost use Rattle.judging.specs.rules.Header.{held};
+ghost use Rattle.judging.specs.rules.Header.{headerWords, held};
 ghost use Rattle.judging.specs.rules.Spoiled.{limitsOk, inkSpoiled};
 ghost use Rattle.judging.specs.stages.Judged.{lengthRefusal, behindRefusal, segmentJudged};
 use crate::judging::judge_head;
-use crate::judging::store_words;
 use crate::shears::frame_differs;
 use crate::words::CAPACITY;
 use crate::words::EMPTY;
@@ -18,10 +17,12 @@ use crate::words::PAGE_HEIGHT;
 use crate::words::PAGE_WIDTH;
 use crate::words::SLOPE;
 use crate::words::STATE;
-use extents::area;
+use memory::area;
 use memory::float_at;
 use memory::is_mask;
 use memory::refuse_if;
+use memory::scratch_words;
+use memory::store_words;
 use memory::word_at;
 use params::LayoutParams;
 
@@ -35,18 +36,17 @@ fn ink_spoiled(ink: &[u8], dots: usize) -> bool
 
 // 9 where planes or scratch are too short, else 0.
 fn judge_lengths(dots: usize, capacity: u32, ink: usize, kinds: usize, scratch: usize) -> u32
-    requires { ⌜ (dots ≤ maxFrameWidth * maxFrameHeight) × (capacity ≤ maxCapacity) ⌝ }
+    requires { ⌜ dots ≤ maxMaskDots ⌝ }
     ensures { λ r. ⌜ r ≡ lengthRefusal dots capacity ink kinds scratch 0 ⌝ }
 {
-    let need = 4 * dots + 16 * (capacity as usize) + 64;
-    let by_scratch = refuse_if(scratch < need, 9, 0);
+    let by_scratch = refuse_if(scratch < scratch_words(dots, capacity), 9, 0);
     let by_kinds = refuse_if(kinds < dots, 9, by_scratch);
     refuse_if(ink < dots, 9, by_kinds)
 }
 
 // What follows the header: 9 for the lengths, 16 for frame, shears and ink bytes, else 0.
 fn judge_behind(store: &[u32], ink: &[u8], kinds: usize, scratch: usize) -> u32
-    requires { ⌜ (64 ≤ length (now store)) × (limitsOk (held (now store)) ≡ true) ⌝ }
+    requires { ⌜ (headerWords ≤ length (now store)) × (limitsOk (held (now store)) ≡ true) ⌝ }
     ensures { λ r. ⌜ r ≡ behindRefusal (now (store .entry)) (now (ink .entry)) kinds scratch 0 ⌝ }
 {
     let page_w = store[PAGE_WIDTH];

@@ -4,11 +4,10 @@ ghost use mathlib.Core.Path.{_≡_};
 ghost use Prim.Native.Nat.{_≤_};
 ghost use lib.ListN.{length};
 ghost use Rattle.judging.specs.stages.Judged.{restRefusal};
-ghost use Rattle.judging.specs.rules.Header.{held};
+ghost use Rattle.judging.specs.rules.Header.{headerWords, held};
 ghost use Rattle.judging.specs.rules.Spoiled.{resultsSpoiled, limitsOk};
 ghost use Rattle.judging.specs.rules.Refusals.{resultRefusal};
 use crate::judging::judge_head;
-use crate::judging::store_words;
 use crate::results::planes_ok;
 use crate::results::words_ok;
 use crate::shears::frame_differs;
@@ -18,14 +17,15 @@ use crate::words::PAGE_WIDTH;
 use crate::words::SEGMENTED;
 use crate::words::SLOPE;
 use crate::words::STATE;
-use extents::area;
+use memory::area;
 use memory::float_at;
 use memory::refuse_if;
+use memory::store_words;
 use memory::word_at;
 
 // What follows the header: 9 for the store, the planes and an output of fixed length, 16 for frame, shears, planes and results, else 0.
 fn judge_rest(store: &[u32], ink: &[u8], kinds: &[u8], lacking: bool) -> u32
-    requires { ⌜ (64 ≤ length (now store)) × (limitsOk (held (now store)) ≡ true) ⌝ }
+    requires { ⌜ (headerWords ≤ length (now store)) × (limitsOk (held (now store)) ≡ true) ⌝ }
     ensures { λ r. ⌜ r ≡ restRefusal (now (store .entry)) (now (ink .entry)) (now (kinds .entry)) lacking ⌝ }
 {
     let page_w = store[PAGE_WIDTH];

@@ -42,6 +42,15 @@ pub const HEADER: usize = 64;
 // How many words the figures take.
 pub const FIGURES_LENGTH: usize = 15;
 
+// Words of a record: a glyph's line, a line's glyph height and block, a block's count of lines.
+pub const GLYPH_LINE: usize = 5;
+
+pub const GLYPH_HEIGHT: usize = 6;
+
+pub const LINE_BLOCK: usize = 7;
+
+pub const BLOCK_LINES: usize = 4;
+
 // The states.
 pub const EMPTY: u32 = 0;
 

@@ -4,6 +4,7 @@ use mathlib.Core.List.{[]}
 use Prim.Native.Nat.{ℕ, zero, suc, _+_, _-_, _*_, _/_, _%_, _≤_, _<_, min, max}
 use native.Mathlib.Nat.{le-trans, suc-mul, mul-suc, mul-add, mul-le-mul-left, mul-le-mul-right}
 use native.Mathlib.Omega.{arith}
+use Rattle.memory.specs.rules.Limits.{maxMaskSide}
 use Rattle.labelling.specs.rules.Components.{absorbed}
 use Rattle.labelling.specs.stages.Absorbing.{columnSum, absorbedRun}
 use Rattle.labelling.specs.declared.component.Component.{Component}
@@ -52,8 +53,8 @@ absorb-run w s (suc d) p hw h =
     ∙ (λ i. record { area = e₀ i; x0 = e₁ i; y0 = e₂ i; x1 = e₃ i; y1 = e₄ i; «sum_x» = e₅ i; «sum_y» = e₆ i })
 
 -- the products that are added fit
-pub between-small : (b z k : ℕ) → b ≤ 131072 → z ≤ k → b * z ≤ 131072 * k
-between-small b z k h l = le-trans (mul-le-mul-right z h) (mul-le-mul-left 131072 l)
+pub between-small : (b z k : ℕ) → b ≤ maxMaskSide → z ≤ k → b * z ≤ maxMaskSide * k
+between-small b z k h l = le-trans (mul-le-mul-right z h) (mul-le-mul-left maxMaskSide l)
 
 -- the sum of the columns of a run: half of its dots times its first and last column
 column-half : (x d : ℕ) → suc d * (x + (x + d)) / 2 ≡ columnSum x (suc d)

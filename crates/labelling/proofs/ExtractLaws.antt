@@ -15,7 +15,7 @@ use Rattle.memory.specs.rules.Lists.{countIf}
 use Rattle.memory.specs.rules.Masks.{isInk}
 use Rattle.labelling.specs.stages.InkRuns.{inkBefore, differ, appendIf, turns, runCount}
 use Rattle.labelling.specs.stages.Extraction.{rowTurns, RowRoom, RowScan, ScanRoom, Scanned, RowExtracted, PlaneRoom, Extracted}
-use Rattle.labelling.proofs.CountLaws.{count-zero, count-full}
+use Rattle.memory.proofs.PlaceLaws.{count-zero, count-full}
 use Rattle.labelling.proofs.TurnLaws.{bit, scanned}
 use Rattle.labelling.proofs.ScanLaws.{turns-still, append-step, turns-inner, turns-last, inkBefore-inner, turns-room, turns-fit}
 use Rattle.labelling.proofs.RunLabelLaws.{inkBefore-row, turns-even}
@@ -222,7 +222,7 @@ module _ {row : List ℕ} {base : ℕ} {s₀ s : List ℕ} {at k before x : ℕ}
           rest = rest-on s s₀ (suc k) (suc (k + 1)) k (base + x) (omega arith) (omega arith) (S .rest);
         }
 
--- Dots read in blocks
+-- Dots read in chunks
 
 pub ink-none : (m : List ℕ) → 0 ≡ countIf (isInk m) 0
 unfolding countIf
@@ -288,7 +288,7 @@ module _ {row : List ℕ} {base : ℕ} {s₀ s : List ℕ} {at k before x : ℕ}
         rest = S .rest;
       }
 
-  -- a block whose dots are all as the one before has no turns
+  -- a chunk whose dots are all as the one before has no turns
   pub scan-still : (d : ℕ) → x + d ≤ length row → countIf (isInk (take d (drop x row))) d ≡ d * before → RowScan row base s₀ s at k before (x + d)
   scan-still d l e = go (inkBefore (suc (length row)) row x) refl
     where
@@ -365,13 +365,13 @@ module _ {row : List ℕ} {from to base : ℕ} {s₀ s : List ℕ} {at k x : ℕ
 
 -- d dots from `from` on, which are counted at once
 module _ (d : ℕ) (row : List ℕ) (from : ℕ) (h : from + d ≤ length row) where
-  pub block-long : length (take (from + d - from) (drop from row)) ≡ d
-  block-long = let e : from + d - from ≡ d = omega arith in rw e (length-take-le d (drop from row) (simp length-drop (omega arith)))
+  pub chunk-long : length (take (from + d - from) (drop from row)) ≡ d
+  chunk-long = let e : from + d - from ≡ d = omega arith in rw e (length-take-le d (drop from row) (simp length-drop (omega arith)))
 
--- a block that is passed over
-pub block-still : (d : ℕ) (row : List ℕ) (from base : ℕ) (s : List ℕ) (at count : ℕ) → ScanRoom row from (from + d) base s at
+-- a chunk that is passed over
+pub chunk-still : (d : ℕ) (row : List ℕ) (from base : ℕ) (s : List ℕ) (at count : ℕ) → ScanRoom row from (from + d) base s at
     → count ≡ countIf (isInk (take (from + d - from) (drop from row))) d → count ≡ d * (at % 2) → Scanned row from (from + d) base s s at at
-block-still d row from base s at count A e c =
+chunk-still d row from base s at count A e c =
     record {
       len = refl;
       short = omega arith;

@@ -1,5 +1,3 @@
--- counting the numbers that pass a test
-pub mod CountLaws
 -- the least or the greatest of some numbers
 pub mod ExtremeLaws
 -- a range of numbers, with one more
@@ -26,7 +24,7 @@ pub mod NumberLaws
 pub mod ExtractLaws
 -- turns written and runs linked, row by row
 pub mod RowLinkLaws
--- turns told a block at a time, then written
+-- turns told a chunk at a time, then written
 pub mod ToldLaws
 -- turns of the dots that pass a test, by ink and marks
 pub mod MarkedLaws

@@ -18,30 +18,30 @@ use Rattle.memory.proofs.PartLaws.{part-is-table}
 use Rattle.memory.proofs.CountLaws.{count-none}
 use Rattle.memory.specs.rules.Masks.{isInk}
 use Rattle.labelling.specs.stages.InkRuns.{differ, turns}
-use Rattle.labelling.specs.stages.Extraction.{RowScan, ScanRoom, Scanned, TurnsTold, ToldRoom, ToldWritten, RowRoom, RowExtracted, PlaneRoom}
+use Rattle.labelling.specs.stages.Extraction.{RowScan, ScanRoom, Scanned, TurnsTold, ToldRoom, ToldWritten, RowRoom, RowExtracted}
 use Rattle.labelling.specs.stages.Marked.{passes, passing, rowPassing, MarkedScanRoom, MarkedScanned, MarkedRowRoom, MarkedRowLeft, MarkedRoom, MarkedLeft}
 use Rattle.labelling.specs.declared.marked.Test.{Test}
 use Rattle.labelling.specs.declared.marked.Test.the-variants.{First, Second, Neither}
-use Rattle.labelling.proofs.CountLaws.{count-zero}
+use Rattle.memory.proofs.PlaceLaws.{count-zero}
 use Rattle.labelling.proofs.ScanLaws.{turns-fit}
 use Rattle.labelling.proofs.RunLabelLaws.{turns-even}
-use Rattle.labelling.proofs.ExtractLaws.{ink-bit, turn-bit, ink-more, block-still, ScanSweep, sweep-none, sweep-room, sweep-more, sweep-done, scan-start, scan-asks, scan-blank, scan-room-end, scan-ink, PlaneScan, plane-none, plane-inside, plane-row, plane-more, plane-done}
-use Rattle.labelling.proofs.ToldLaws.{blockBefore, before-long, told-room, written-within, written-scanned}
+use Rattle.labelling.proofs.ExtractLaws.{ink-bit, turn-bit, ink-more, chunk-still, ScanSweep, sweep-none, sweep-room, sweep-more, sweep-done, scan-start, scan-asks, scan-blank, scan-room-end, scan-ink, PlaneScan, plane-none, plane-inside, plane-row, plane-more, plane-done}
+use Rattle.labelling.proofs.ToldLaws.{chunkBefore, before-long, told-room, written-within, written-scanned}
 
 -- The mask, dot by dot
 
 module _ (t : Test) (ink marks : List ℕ) (n : ℕ) where
   pub passing-length : length (passing t ink marks n) ≡ n
   unfolding passing
-  passing-length = length-table (λ i. cond (passes t (getD ink i 0) (getD marks i 0)) 1 0) n
+  passing-length = length-table (λ i. cond (passes t (isInk ink i) (getD marks i 0)) 1 0) n
 
-  pub passing-at : (i : ℕ) → i < n → getD (passing t ink marks n) i 0 ≡ cond (passes t (getD ink i 0) (getD marks i 0)) 1 0
+  pub passing-at : (i : ℕ) → i < n → getD (passing t ink marks n) i 0 ≡ cond (passes t (isInk ink i) (getD marks i 0)) 1 0
   unfolding passing
-  passing-at i l = getD-table (λ i. cond (passes t (getD ink i 0) (getD marks i 0)) 1 0) n i 0 l
+  passing-at i l = getD-table (λ i. cond (passes t (isInk ink i) (getD marks i 0)) 1 0) n i 0 l
 
-  pub passing-ink : (i : ℕ) → i < n → isInk (passing t ink marks n) i ≡ passes t (getD ink i 0) (getD marks i 0)
+  pub passing-ink : (i : ℕ) → i < n → isInk (passing t ink marks n) i ≡ passes t (isInk ink i) (getD marks i 0)
   unfolding isInk
-  passing-ink i l = ap (ltb 0) (passing-at i l) ∙ go (passes t (getD ink i 0) (getD marks i 0))
+  passing-ink i l = ap (ltb 0) (passing-at i l) ∙ go (passes t (isInk ink i) (getD marks i 0))
     where
       go : (b : Bool) → ltb 0 (cond b 1 0) ≡ b
       go true = refl
@@ -50,20 +50,20 @@ module _ (t : Test) (ink marks : List ℕ) (n : ℕ) where
   -- the mask tells the dots of other ink and other marks that are the same there
   pub passing-ext : (ink' marks' : List ℕ) → ((i : ℕ) → i < n → getD ink i 0 ≡ getD ink' i 0) → ((i : ℕ) → i < n → getD marks i 0 ≡ getD marks' i 0)
       → passing t ink marks n ≡ passing t ink' marks' n
-  unfolding passing
+  unfolding passing isInk
   passing-ext ink' marks' hi hm =
-      table-ext (λ i. cond (passes t (getD ink i 0) (getD marks i 0)) 1 0) (λ i. cond (passes t (getD ink' i 0) (getD marks' i 0)) 1 0) n
-      (λ i l. ap (λ z. cond (passes t z (getD marks i 0)) 1 0) (hi i l) ∙ ap (λ z. cond (passes t (getD ink' i 0) z) 1 0) (hm i l))
+      table-ext (λ i. cond (passes t (isInk ink i) (getD marks i 0)) 1 0) (λ i. cond (passes t (isInk ink' i) (getD marks' i 0)) 1 0) n
+      (λ i l. ap (λ z. cond (passes t (ltb 0 z) (getD marks i 0)) 1 0) (hi i l) ∙ ap (λ z. cond (passes t (isInk ink' i) z) 1 0) (hm i l))
 
   -- a part of the mask is the mask of the parts
   pub passing-part : (a d : ℕ) → a + d ≤ n → take d (drop a (passing t ink marks n)) ≡ passing t (take d (drop a ink)) (drop a marks) d
-  unfolding passing
+  unfolding passing isInk
   passing-part a d h =
       part-is-table (passing t ink marks n) a d 0 (let e = passing-length in omega arith)
-      ∙ table-ext (λ i. getD (passing t ink marks n) (a + i) 0) (λ i. cond (passes t (getD (take d (drop a ink)) i 0) (getD (drop a marks) i 0)) 1 0) d
+      ∙ table-ext (λ i. getD (passing t ink marks n) (a + i) 0) (λ i. cond (passes t (isInk (take d (drop a ink)) i) (getD (drop a marks) i 0)) 1 0) d
       (λ i l. passing-at (a + i) (omega arith)
-      ∙ (ap (λ z. cond (passes t z (getD marks (a + i) 0)) 1 0) (sym (getD-take d (drop a ink) i 0 l ∙ getD-drop a ink i 0))
-      ∙ ap (λ z. cond (passes t (getD (take d (drop a ink)) i 0) z) 1 0) (sym (getD-drop a marks i 0))))
+      ∙ (ap (λ z. cond (passes t (ltb 0 z) (getD marks (a + i) 0)) 1 0) (sym (getD-take d (drop a ink) i 0 l ∙ getD-drop a ink i 0))
+      ∙ ap (λ z. cond (passes t (isInk (take d (drop a ink)) i) z) 1 0) (sym (getD-drop a marks i 0))))
 
 bit-again : (b : Bool) → _≡_ {A = ℕ} (cond b 1 0) (cond (eqb (cond b 1 0) 0) 0 1)
 bit-again true = refl
@@ -87,32 +87,31 @@ pub byte-small : (b : Bool) → boolByte b ≤ 1
 byte-small true = omega arith
 byte-small false = omega arith
 
-pub passes-told : (t d : Test) (ink mark : ℕ) → t ≡ d → boolByte (passes d ink mark) ≡ cond (passes t ink mark) 1 0
+pub passes-told : (t d : Test) (ink : Bool) (mark : ℕ) → t ≡ d → boolByte (passes d ink mark) ≡ cond (passes t ink mark) 1 0
 passes-told t d ink mark e = subst (λ z. boolByte (passes d ink mark) ≡ cond (passes z ink mark) 1 0) (sym e) (byte-bit (passes d ink mark))
 
--- Counts of a block
+-- Counts of a chunk
 
 pub byte-more : (m : List ℕ) (i count : ℕ) → count ≡ countIf (isInk m) i → count + boolByte (ltb 0 (getD m i 0)) ≡ countIf (isInk m) (i + 1)
 unfolding isInk
 byte-more m i count e = ink-more m i count _ e (byte-bit (ltb 0 (getD m i 0)) ∙ sym (ink-bit m i))
 
 pub passing-more : (t : Test) (ink marks : List ℕ) (n i count here : ℕ) → i < n → count ≡ countIf (isInk (passing t ink marks n)) i
-    → here ≡ cond (passes t (getD ink i 0) (getD marks i 0)) 1 0 → count + here ≡ countIf (isInk (passing t ink marks n)) (i + 1)
+    → here ≡ cond (passes t (isInk ink i) (getD marks i 0)) 1 0 → count + here ≡ countIf (isInk (passing t ink marks n)) (i + 1)
 passing-more t ink marks n i count here l e h =
     ink-more (passing t ink marks n) i count here e
-    (h ∙ (bit-again (passes t (getD ink i 0) (getD marks i 0)) ∙ ap (λ z. cond (eqb z 0) 0 1) (sym (passing-at t ink marks n i l))))
+    (h ∙ (bit-again (passes t (isInk ink i) (getD marks i 0)) ∙ ap (λ z. cond (eqb z 0) 0 1) (sym (passing-at t ink marks n i l))))
 
 -- no ink: none that passes
-blank-fails : (t : Test) (ink mark : ℕ) → ltb 0 ink ≡ false → passes t ink mark ≡ false
+blank-fails : (t : Test) (ink : Bool) (mark : ℕ) → ink ≡ false → passes t ink mark ≡ false
 blank-fails First ink mark e = ap (λ b. b && eqb (mark % 2) 1) e
 blank-fails Second ink mark e = ap (λ b. b && ltb 1 mark) e
 blank-fails Neither ink mark e = ap (λ b. b && eqb mark 0) e
 
 pub passing-blank : (t : Test) (ink marks : List ℕ) (n : ℕ) → countIf (isInk ink) n ≡ 0 → 0 ≡ countIf (isInk (passing t ink marks n)) n
-unfolding isInk
 passing-blank t ink marks n e =
     sym (count-none (isInk (passing t ink marks n)) n
-    (λ i l. passing-ink t ink marks n i l ∙ blank-fails t (getD ink i 0) (getD marks i 0) (count-zero (isInk ink) n e i l)))
+    (λ i l. passing-ink t ink marks n i l ∙ blank-fails t (isInk ink i) (getD marks i 0) (count-zero (isInk ink) n e i l)))
 
 -- Dots read one by one
 
@@ -147,15 +146,15 @@ module _ {t : Test} {ink : List ℕ} {from to base : ℕ} {s₀ s : List ℕ} {a
   pub marked-fits : k < length s
   marked-fits = let h = marked-mark in let b = marked-before in omega arith
 
-  pub marked-more : (here turn : ℕ) → here ≡ cond (passes t (getD ink x 0) (getD s (marks + base + x) 0)) 1 0 → turn ≡ cond (eqb before here) 0 1
+  pub marked-more : (here turn : ℕ) → here ≡ cond (passes t (isInk ink x) (getD s (marks + base + x) 0)) 1 0 → turn ≡ cond (eqb before here) 0 1
       → MarkedSweep t ink from to base s₀ (set s k (base + x)) at marks (k + turn) here (x + 1)
   marked-more here turn e et =
       let row = rowPassing t ink (drop marks s₀) base in
       let m : getD s (marks + base + x) 0 ≡ getD (drop base (drop marks s₀)) x 0 = sym (mark-at s marks base x) ∙ ap (λ z. getD (drop base z) x 0) (S .kept) in
       let p : here ≡ cond (eqb (getD row x 0) 0) 0 1 =
       e
-      ∙ (ap (λ z. cond (passes t (getD ink x 0) z) 1 0) m
-      ∙ (bit-again (passes t (getD ink x 0) (getD (drop base (drop marks s₀)) x 0)) ∙ ap (λ z. cond (eqb z 0) 0 1) (sym (passing-at t ink (drop base (drop marks s₀)) (length ink) x marked-inside)))) in
+      ∙ (ap (λ z. cond (passes t (isInk ink x) z) 1 0) m
+      ∙ (bit-again (passes t (isInk ink x) (getD (drop base (drop marks s₀)) x 0)) ∙ ap (λ z. cond (eqb z 0) 0 1) (sym (passing-at t ink (drop base (drop marks s₀)) (length ink) x marked-inside)))) in
       record {
         asks = S .asks;
         len = length-set s k (base + x) ∙ S .len;
@@ -183,49 +182,49 @@ part-passing t ink s marks base a c f g n h ef ec eg =
         ∙ (mark-at s marks base (a + i)
         ∙ (ap (λ z. getD s z 0) (let q : marks + base + (a + i) ≡ f + i = omega arith in q) ∙ sym (getD-take g (drop f s) i 0 (omega arith) ∙ getD-drop f s i 0)))
 
--- A block passed over
+-- A chunk passed over
 
-pub block-high : {t : Test} {ink : List ℕ} {from base : ℕ} {s : List ℕ} {at marks : ℕ} → MarkedScanRoom t ink from (from + 32) base s at marks → from + 32 ≤ length ink
-block-high {t} {ink} {from} {base} {s} {at} {marks} A = let e = passing-length t ink (drop base (drop marks s)) (length ink) in let h = A .asks .high in omega arith
+pub chunk-high : {t : Test} {ink : List ℕ} {from base : ℕ} {s : List ℕ} {at marks : ℕ} → MarkedScanRoom t ink from (from + 32) base s at marks → from + 32 ≤ length ink
+chunk-high {t} {ink} {from} {base} {s} {at} {marks} A = let e = passing-length t ink (drop base (drop marks s)) (length ink) in let h = A .asks .high in omega arith
 
-pub block-marked : {t : Test} {ink : List ℕ} {from base : ℕ} {s : List ℕ} {at marks : ℕ} → MarkedScanRoom t ink from (from + 32) base s at marks → marks + base + from + 32 ≤ length s
-block-marked A = let h = A .marked in omega arith
+pub chunk-marked : {t : Test} {ink : List ℕ} {from base : ℕ} {s : List ℕ} {at marks : ℕ} → MarkedScanRoom t ink from (from + 32) base s at marks → marks + base + from + 32 ≤ length s
+chunk-marked A = let h = A .marked in omega arith
 
-pub block-passed : {t : Test} {ink : List ℕ} {from base : ℕ} {s : List ℕ} {at marks : ℕ} → MarkedScanRoom t ink from (from + 32) base s at marks → (count : ℕ)
+pub chunk-passed : {t : Test} {ink : List ℕ} {from base : ℕ} {s : List ℕ} {at marks : ℕ} → MarkedScanRoom t ink from (from + 32) base s at marks → (count : ℕ)
     → count ≡ countIf (isInk (passing t (take (from + 32 - from) (drop from ink)) (take (marks + base + from + 32 - (marks + base + from)) (drop (marks + base + from) s)) 32)) 32
     → count ≡ 32 * (at % 2) → MarkedScanned t ink from (from + 32) base s s at marks at
-block-passed {t} {ink} {from} {base} {s} {at} {marks} A count e c =
-    let h = block-high A in
+chunk-passed {t} {ink} {from} {base} {s} {at} {marks} A count e c =
+    let h = chunk-high A in
     let same = part-passing t ink s marks base from (from + 32 - from) (marks + base + from) (marks + base + from + 32 - (marks + base + from)) 32 (omega arith) refl (omega arith) (omega arith) in
     record {
       len = refl;
-      scanned = block-still 32 (rowPassing t ink (drop marks s) base) from base (take marks s) at count (A .asks) (e ∙ ap (λ z. countIf (isInk z) 32) (sym same)) c;
+      scanned = chunk-still 32 (rowPassing t ink (drop marks s) base) from base (take marks s) at count (A .asks) (e ∙ ap (λ z. countIf (isInk z) 32) (sym same)) c;
       kept = refl;
     }
 
--- A block told
+-- A chunk told
 
-pub passing-turn : (t : Test) (ink marks : List ℕ) (n i a b : ℕ) → suc i < n → a ≡ cond (passes t (getD ink i 0) (getD marks i 0)) 1 0
-    → b ≡ cond (passes t (getD ink (i + 1) 0) (getD marks (i + 1) 0)) 1 0
+pub passing-turn : (t : Test) (ink marks : List ℕ) (n i a b : ℕ) → suc i < n → a ≡ cond (passes t (isInk ink i) (getD marks i 0)) 1 0
+    → b ≡ cond (passes t (isInk ink (i + 1)) (getD marks (i + 1) 0)) 1 0
     → boolByte (not (eqb a b)) ≡ cond (differ (isInk (passing t ink marks n) i) (isInk (passing t ink marks n) (suc i))) 1 0
 passing-turn t ink marks n i a b l ea eb =
     let p = isInk (passing t ink marks n) i in
     let q = isInk (passing t ink marks n) (suc i) in
     let ea' : a ≡ cond p 1 0 = ea ∙ ap (λ z. cond z 1 0) (sym (passing-ink t ink marks n i (omega arith))) in
     let eb' : b ≡ cond q 1 0 =
-    eb ∙ (ap (λ z. cond (passes t (getD ink z 0) (getD marks z 0)) 1 0) (add-one i) ∙ ap (λ z. cond z 1 0) (sym (passing-ink t ink marks n (suc i) l))) in
+    eb ∙ (ap (λ z. cond (passes t (isInk ink z) (getD marks z 0)) 1 0) (add-one i) ∙ ap (λ z. cond z 1 0) (sym (passing-ink t ink marks n (suc i) l))) in
     byte-turn (eqb a b) ∙ (ap (λ z. cond (eqb z b) 0 1) ea' ∙ (ap (λ z. cond (eqb (cond p 1 0) z) 0 1) eb' ∙ turn-bit p q))
 
 pub mark-fits : (x : ℕ) → Fits w64 (x * 4) → Fits w64 ((x - 1) * 4)
 mark-fits x h = omega arith
 
-pub block-inside : {t : Test} {ink : List ℕ} {from base : ℕ} {s : List ℕ} {at marks : ℕ} → MarkedScanRoom t ink from (from + 32) base s at marks → from ≤ length ink
-block-inside A = let h = block-high A in omega arith
+pub chunk-inside : {t : Test} {ink : List ℕ} {from base : ℕ} {s : List ℕ} {at marks : ℕ} → MarkedScanRoom t ink from (from + 32) base s at marks → from ≤ length ink
+chunk-inside A = let h = chunk-high A in omega arith
 
-pub block-lengths : {t : Test} {ink : List ℕ} {from base : ℕ} {s : List ℕ} {at marks : ℕ} → MarkedScanRoom t ink from (from + 32) base s at marks → (from ≡ 0 → ⊥)
-    → (length (blockBefore ink from) ≡ 33) × (length (blockBefore s (marks + base + from)) ≡ 33)
-block-lengths {t} {ink} {from} {base} {s} {at} {marks} A some =
-    (before-long ink from some (block-high A), before-long s (marks + base + from) (λ q. some (omega arith)) (block-marked A))
+pub chunk-lengths : {t : Test} {ink : List ℕ} {from base : ℕ} {s : List ℕ} {at marks : ℕ} → MarkedScanRoom t ink from (from + 32) base s at marks → (from ≡ 0 → ⊥)
+    → (length (chunkBefore ink from) ≡ 33) × (length (chunkBefore s (marks + base + from)) ≡ 33)
+chunk-lengths {t} {ink} {from} {base} {s} {at} {marks} A some =
+    (before-long ink from some (chunk-high A), before-long s (marks + base + from) (λ q. some (omega arith)) (chunk-marked A))
 
 module _ {t : Test} {ink : List ℕ} {from base : ℕ} {s : List ℕ} {at marks : ℕ} (A : MarkedScanRoom t ink from (from + 32) base s at marks) (n : ℕ) (e : n ≡ 32) where
   told-before : at + n ≤ marks
@@ -239,10 +238,10 @@ module _ {t : Test} {ink : List ℕ} {from base : ℕ} {s : List ℕ} {at marks 
       record { few = R .few; bits = R .bits; dots = R .dots; room = omega arith }
 
   pub marked-written : (from ≡ 0 → ⊥) → {told : List ℕ}
-      → TurnsTold (passing t (blockBefore ink from) (blockBefore s (marks + base + from)) 33) told 32
+      → TurnsTold (passing t (chunkBefore ink from) (chunkBefore s (marks + base + from)) 33) told 32
       → {s' : List ℕ} {r : ℕ} → ToldWritten told n (base + from) s s' at r → MarkedScanned t ink from (from + 32) base s s' at marks r
   marked-written some {told} T {s'} {r} X =
-      let h = block-high A in
+      let h = chunk-high A in
       let same = part-passing t ink s marks base (from - 1) (from + 32 - (from - 1)) (marks + base + from - 1) (marks + base + from + 32 - (marks + base + from - 1)) 33 (omega arith) (omega arith) (omega arith) (omega arith) in
       record {
         len = X .len;

@@ -12,13 +12,14 @@ use Rattle.memory.specs.rules.Lists.{countIf}
 use Rattle.union_find.specs.stages.Forests.{Forest}
 use Rattle.labelling.specs.stages.InkRuns.{isRoot, componentNumber}
 use Rattle.labelling.specs.stages.Numbering.{NumberedOne, Numbered}
-use Rattle.labelling.proofs.CountLaws.{count-up}
+use Rattle.memory.proofs.PlaceLaws.{count-mono}
+use Rattle.memory.specs.rules.Limits.{maxCapacity}
 use Rattle.union_find.proofs.ParentLaws.{forest-root}
 use Rattle.labelling.proofs.RunLabelLaws.{number-new, number-old, names-new, names-old}
 
 pub record NumberSweep (c capacity : ℕ) (p₀ p : List ℕ) (k count : ℕ) : Type 0 where
   pub room : c ≤ length p₀
-  pub few : capacity ≤ 65535
+  pub few : capacity ≤ maxCapacity
   pub down : (j : ℕ) → j < c → getD p₀ j 0 ≤ j
   pub len : length p ≡ length p₀
   pub upto : k ≤ c
@@ -27,7 +28,7 @@ pub record NumberSweep (c capacity : ℕ) (p₀ p : List ℕ) (k count : ℕ) : 
   pub count-is : (f : ℕ → ℕ) → ((i : ℕ) → f i ≤ i) → Forest f p₀ c → count ≡ countIf (isRoot f) k
   pub numbers : (f : ℕ → ℕ) → ((i : ℕ) → f i ≤ i) → Forest f p₀ c → (i : ℕ) → i < k → getD p i 0 ≡ componentNumber f i
 
-pub number-none : (c capacity : ℕ) (p : List ℕ) → c ≤ length p → capacity ≤ 65535 → ((j : ℕ) → j < c → getD p j 0 ≤ j) → NumberSweep c capacity p p 0 0
+pub number-none : (c capacity : ℕ) (p : List ℕ) → c ≤ length p → capacity ≤ maxCapacity → ((j : ℕ) → j < c → getD p j 0 ≤ j) → NumberSweep c capacity p p 0 0
 unfolding countIf
 number-none c capacity p r few d =
     record {
@@ -108,7 +109,7 @@ module _ {c capacity : ℕ} {p₀ p : List ℕ} {k count : ℕ} (S : NumberSweep
           len = N .len ∙ S .len;
           count = λ f low F.
               let e = count-new f low F (ℕ-discrete (getD p₀ k 0) k) in
-              let u = count-up (isRoot f) (suc k) c lk in
+              let u = count-mono (isRoot f) (suc k) c lk in
               let s = step in
               let g = S .low in
               omega arith;

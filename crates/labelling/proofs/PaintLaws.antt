@@ -6,12 +6,15 @@ use native.Mathlib.Nat.{le-refl}
 use native.Mathlib.Numerals.{add-one}
 use native.Mathlib.Decide.{ℕ-discrete, decLt}
 use native.Mathlib.Omega.{arith}
+use borrow.Rule.Slice.PartMut.{putMid}
 use lib.ListN.{getD, length, set, take, drop, length-set, length-append, length-drop, List·getD-append}
-use lib.Seq.{length-take-le, take-at, getD-take, getD-drop, getD-set-same, getD-set-other, getD-append-add, ext-getD}
+use lib.Seq.{length-take-le, take-at, getD-take, getD-drop, getD-set-same, getD-append-add, ext-getD}
 use Rattle.memory.specs.rules.Lists.{table}
 use Rattle.memory.proofs.TableLaws.{length-table, getD-table}
+use Rattle.memory.specs.stages.Stored.{Stored}
+use Rattle.memory.proofs.StoredLaws.{within-none, within-trans, within-wider, within-set, stored-at, stored-filled}
 use Rattle.labelling.specs.stages.InkRuns.{startOf, endOf}
-use Rattle.labelling.specs.stages.Painting.{Front, numbered, Filled, Cleared, Paintable, OnRuns, OffRuns, Painted, PaintSweep}
+use Rattle.labelling.specs.stages.Painting.{Front, numbered, Paintable, OnRuns, OffRuns, Painted, PaintSweep}
 
 -- Turns and numbers that stand apart
 
@@ -31,46 +34,24 @@ module _ (c : ℕ) (t numbers : List ℕ) (ht : 2 * c ≤ length t) where
   pub numbered-turns : take (2 * c) (numbered c t numbers) ≡ take (2 * c) t
   numbered-turns = take-at (take (2 * c) t) numbers (2 * c) front-long
 
--- Filling: the labels from `from` up to i have the value v
+-- A first label, and then the others
 
-pub fill-none : (l : List ℕ) (from v : ℕ) → Filled l l from from v
-fill-none l from v = record { len = refl; here = λ i a b. absurd (omega arith); low = λ i a. refl; high = λ i a. refl }
-
-pub fill-more : {l l' : List ℕ} {from i v : ℕ} → Filled l l' from i v → from ≤ i → i < length l → Filled l (set l' i v) from (i + 1) v
-fill-more {l} {l'} {from} {i} {v} X q h =
-    let n = X .len in
+pub stored-first : (v from to : ℕ) (l part : List ℕ) → from < to → to ≤ length l → part ≡ table (λ _. v) (length (take (to - (from + 1)) (drop (from + 1) (set l from v))))
+    → Stored (λ _. v) from (to - from) l (putMid (from + 1) (to - (from + 1)) (set l from v) part)
+stored-first v from to l part q h e =
     record {
-      len = length-set l' i v ∙ n;
-      here = λ j a b. at j a b (ℕ-discrete j i);
-      low = λ j a. getD-set-other l' i j v 0 (λ e. omega arith) ∙ X .low j a;
-      high = λ j a. getD-set-other l' i j v 0 (λ e. omega arith) ∙ X .high j (omega arith);
+      within = within-trans (within-set (within-none from (from + (to - from)) l) from v (le-refl from) (omega arith)) (within-wider (X .within) (omega arith) (omega arith));
+      each = λ i b. at i b (ℕ-discrete i 0);
     }
   where
-    at : (j : ℕ) → from ≤ j → j < i + 1 → Dec (j ≡ i) → getD (set l' i v) j 0 ≡ v
-    at j a b (yes e) = ap (λ z. getD (set l' i v) z 0) e ∙ getD-set-same l' i v 0 (let n = X .len in omega arith)
-    at j a b (no ne) = getD-set-other l' i j v 0 ne ∙ X .here j a (omega arith)
+    X : Stored (λ _. v) (from + 1) (to - (from + 1)) (set l from v) (putMid (from + 1) (to - (from + 1)) (set l from v) part)
+    X = stored-filled v (from + 1) to (set l from v) part (omega arith) (simp length-set (omega arith)) e
 
-pub fill-done : {l l' : List ℕ} {from i to v : ℕ} → Filled l l' from i v → i ≤ to → to ≤ i → Filled l l' from to v
-fill-done {l} {l'} {from} {i} {to} {v} X q h = subst (λ z. Filled l l' from z v) (let e : i ≡ to = omega arith in e) X
-
--- a first label, and then the others
-pub fill-first : {l l' : List ℕ} {from to v : ℕ} → from < to → to ≤ length l → Filled (set l from v) l' (from + 1) to v → Filled l l' from to v
-fill-first {l} {l'} {from} {to} {v} q h X =
-    record {
-      len = X .len ∙ length-set l from v;
-      here = λ i a b. at i a b (ℕ-discrete i from);
-      low = λ i a. X .low i (omega arith) ∙ getD-set-other l from i v 0 (λ e. omega arith);
-      high = λ i a. X .high i a ∙ getD-set-other l from i v 0 (λ e. omega arith);
-    }
-  where
-    at : (i : ℕ) → from ≤ i → i < to → Dec (i ≡ from) → getD l' i 0 ≡ v
-    at i a b (yes e) = X .low i (omega arith) ∙ (ap (λ z. getD (set l from v) z 0) e ∙ getD-set-same l from v 0 (omega arith))
-    at i a b (no ne) = X .here i (omega arith) b
-
--- Clearing: nothing, or up to `to`
-
-pub clear-none : (l : List ℕ) (clear end limit : ℕ) → end ≤ clear → clear ≤ limit → Cleared l l clear end limit clear
-clear-none l clear end limit h k = record { from = le-refl clear; reach = h; upto = k; filled = fill-none l clear 0 }
+    at : (i : ℕ) → i < to - from → Dec (i ≡ 0) → getD (putMid (from + 1) (to - (from + 1)) (set l from v) part) (from + i) 0 ≡ v
+    at i b (yes z) =
+        let w : from + i ≡ from = omega arith in
+        X .within .before (from + i) (omega arith) ∙ (ap (λ j. getD (set l from v) j 0) w ∙ getD-set-same l from v 0 (omega arith))
+    at i b (no z) = stored-at X (from + i) (omega arith) (omega arith)
 
 -- A front by its entries
 
@@ -109,26 +90,26 @@ paint-none A =
 
 module _ {s : List ℕ} {c : ℕ} {l₀ l : List ℕ} {n k clear : ℕ} (S : PaintSweep s c l₀ l n k clear) where
   -- cleared further
-  pub paint-clear : (l' : List ℕ) (to : ℕ) → clear ≤ to → to ≤ n → Filled l l' clear to 0 → PaintSweep s c l₀ l' n k to
+  pub paint-clear : (l' : List ℕ) (to : ℕ) → clear ≤ to → to ≤ n → Stored (λ _. 0) clear (to - clear) l l' → PaintSweep s c l₀ l' n k to
   paint-clear l' to q h X =
       let r = S .reach in
       record {
         asks = S .asks;
-        len = X .len ∙ S .len;
+        len = X .within .len ∙ S .len;
         upto = S .upto;
         inside = h;
         done = S .done;
         reach = omega arith;
         next = S .next;
         last = S .last;
-        painted = λ f on off i a. X .low i (omega arith) ∙ S .painted f on off i a;
+        painted = λ f on off i a. X .within .before i (omega arith) ∙ S .painted f on off i a;
         blank = λ i a b. zero-at i a b (decLt i clear);
-        past = λ i a. X .high i a ∙ S .past i (omega arith);
+        past = λ i a. X .within .past i (omega arith) ∙ S .past i (omega arith);
       }
     where
       zero-at : (i : ℕ) → S .done ≤ i → i < to → Dec (i < clear) → getD l' i 0 ≡ 0
-      zero-at i a b (yes y) = X .low i y ∙ S .blank i a y
-      zero-at i a b (no y) = X .here i (omega arith) b
+      zero-at i a b (yes y) = X .within .before i y ∙ S .blank i a y
+      zero-at i a b (no y) = stored-at X i (omega arith) (omega arith)
 
   module _ (lk : k < c) (start end : ℕ) (es : start ≡ getD s (2 * k) 0) (ee : end ≡ getD s (2 * k + 1) 0) where
     at-start : start ≡ startOf (take (2 * c) s) k
@@ -140,7 +121,7 @@ module _ {s : List ℕ} {c : ℕ} {l₀ l : List ℕ} {n k clear : ℕ} (S : Pai
     has-dots : start < end
     has-dots = let b = at-start in let d = at-end in let o = S .asks .order .some k lk in omega arith
 
-    pub paint-more : end ≤ clear → (l' : List ℕ) → Filled l l' start end (getD s (2 * c + k) 0) → PaintSweep s c l₀ l' n (k + 1) clear
+    pub paint-more : end ≤ clear → (l' : List ℕ) → Stored (λ _. getD s (2 * c + k) 0) start (end - start) l l' → PaintSweep s c l₀ l' n (k + 1) clear
     paint-more reached l' X =
         let b = at-start in
         let d = at-end in
@@ -148,7 +129,7 @@ module _ {s : List ℕ} {c : ℕ} {l₀ l : List ℕ} {n k clear : ℕ} (S : Pai
         let g = S .next lk in
         record {
           asks = S .asks;
-          len = X .len ∙ S .len;
+          len = X .within .len ∙ S .len;
           upto = omega arith;
           inside = S .inside;
           done = end;
@@ -156,17 +137,17 @@ module _ {s : List ℕ} {c : ℕ} {l₀ l : List ℕ} {n k clear : ℕ} (S : Pai
           next = λ h. subst (λ z. end ≤ startOf (take (2 * c) s) z) (sym (add-one k)) (let r = S .asks .order .rising k (suc k) (le-refl (suc k)) (omega arith) in omega arith);
           last = λ j e. ap (endOf (take (2 * c) s) 0) (let z : j ≡ k = omega arith in z) ∙ sym d;
           painted = λ f on off i q. label-at f on off i q (decLt i start) (decLt i (S .done));
-          blank = λ i q h. X .high i q ∙ S .blank i (omega arith) h;
-          past = λ i q. X .high i (omega arith) ∙ S .past i q;
+          blank = λ i q h. X .within .past i (omega arith) ∙ S .blank i (omega arith) h;
+          past = λ i q. X .within .past i (omega arith) ∙ S .past i q;
         }
       where
         label-at : (f : ℕ → ℕ) → OnRuns s c f → OffRuns s c n f → (i : ℕ) → i < end → Dec (i < start) → Dec (i < S .done) → getD l' i 0 ≡ f i
-        label-at f on off i q (no y) z = let b = at-start in let d = at-end in X .here i (omega arith) q ∙ sym (on k i lk (omega arith) (omega arith))
-        label-at f on off i q (yes y) (yes z) = X .low i y ∙ S .painted f on off i z
+        label-at f on off i q (no y) z = let b = at-start in let d = at-end in stored-at X i (omega arith) (omega arith) ∙ sym (on k i lk (omega arith) (omega arith))
+        label-at f on off i q (yes y) (yes z) = X .within .before i y ∙ S .painted f on off i z
         label-at f on off i q (yes y) (no z) =
             let b = at-start in
             let w = S .inside in
-            X .low i y ∙ (S .blank i (omega arith) (omega arith) ∙ sym (off k i (S .upto) (omega arith) (λ _. omega arith) (λ j e. let v = S .last j e in omega arith)))
+            X .within .before i y ∙ (S .blank i (omega arith) (omega arith) ∙ sym (off k i (S .upto) (omega arith) (λ _. omega arith) (λ j e. let v = S .last j e in omega arith)))
 
   pub paint-done : c ≤ k → clear ≡ n → Painted s c l₀ l n
   paint-done h e =

@@ -12,7 +12,7 @@ use lib.Dec.{eqb, ltb}
 use Rattle.memory.specs.rules.Lists.{table, countIf}
 use Rattle.memory.specs.rules.Words.{over}
 use Rattle.memory.specs.rules.Records.{encoded}
-use Rattle.memory.specs.rules.Limits.{maxMaskDots}
+use Rattle.memory.specs.rules.Limits.{maxMaskDots, maxMaskSide}
 use Rattle.memory.proofs.TableLaws.{length-table, getD-table, table-ext}
 use Rattle.memory.proofs.RecordLaws.{length-encoded}
 use Rattle.labelling.specs.rules.Components.{noDots}
@@ -26,9 +26,9 @@ use Rattle.labelling.specs.stages.Tallying.{heldRecord, tallied, Small, 
 use Rattle.labelling.specs.declared.component.Component.{Component}
 use Rattle.union_find.proofs.FirstLaws.{firsts-right, along}
 use Rattle.labelling.proofs.RunLabelLaws.{number-new, names-new, names-old}
-use Rattle.labelling.proofs.CountLaws.{count-up, count-step}
+use Rattle.memory.proofs.PlaceLaws.{count-mono, count-step}
 use Rattle.labelling.proofs.AbsorbLaws.{column-on, absorb-run}
-use Rattle.labelling.proofs.TallyLaws.{record-put, record-append, table-put, record-read}
+use Rattle.labelling.proofs.TallyLaws.{each-nine, record-put, record-append, table-put, record-read}
 
 -- Numbers
 
@@ -45,12 +45,12 @@ module _ (rep : ℕ → ℕ) (low : (k : ℕ) → rep k ≤ k) (idem : (k : ℕ)
 
   number-upto : (k : ℕ) → componentNumber rep k ≤ countIf (isRoot rep) (suc k)
   unfolding componentNumber
-  number-upto k = count-up (isRoot rep) (suc (rep k)) (suc k) (let h = low k in omega arith)
+  number-upto k = count-mono (isRoot rep) (suc (rep k)) (suc k) (let h = low k in omega arith)
 
   -- a run's number is that of a component before it, or the next
   number-old-low : (k : ℕ) → (rep k ≡ k → ⊥) → componentNumber rep k ≤ countIf (isRoot rep) k
   unfolding componentNumber
-  number-old-low k ne = count-up (isRoot rep) (suc (rep k)) k (let h = low k in omega arith)
+  number-old-low k ne = count-mono (isRoot rep) (suc (rep k)) k (let h = low k in omega arith)
 
   pub count-max : (k : ℕ) → max (countIf (isRoot rep) k) (componentNumber rep k) ≡ countIf (isRoot rep) (suc k)
   count-max k = go (ℕ-discrete (rep k) k)
@@ -66,7 +66,7 @@ module _ (rep : ℕ → ℕ) (low : (k : ℕ) → rep k ≤ k) (idem : (k : ℕ)
   records-none w start end q zero l = refl
   records-none w start end q (suc k) l =
       let n = number-upto k in
-      let u = count-up (isRoot rep) k (suc k) (omega arith) in
+      let u = count-mono (isRoot rep) k (suc k) (omega arith) in
       rw (ne-eqb (componentNumber rep k) (suc q) (let h : componentNumber rep k ≡ suc q → ⊥ = λ e. absurd (omega arith) in h))
       (records-none w start end q k (omega arith))
 
@@ -79,19 +79,19 @@ column-small x (suc d) B l = let ih = column-small x d B (omega arith) in let e 
 
 pub record Bounded (c : Component) (x : ℕ) : Type 0 where
   pub area : c .area ≤ x
-  pub sum-x : c .«sum_x» ≤ 131072 * x
-  pub sum-y : c .«sum_y» ≤ 1073741824 * x
+  pub sum-x : c .«sum_x» ≤ maxMaskSide * x
+  pub sum-y : c .«sum_y» ≤ maxMaskDots * x
 
 bounded-small : {c : Component} {x : ℕ} → Bounded c x → x ≤ maxMaskDots → Small c
 bounded-small B l = let a = B .area in let b = B .sum-x in let d = B .sum-y in record { area = omega arith; sum-x = omega arith; sum-y = omega arith }
 
-bounded-run : (p : Component) (x d y a : ℕ) → Bounded p a → x + suc d ≤ 131072 → y ≤ 1073741824 → Bounded (absorbedRun p x d y) (a + suc d)
+bounded-run : (p : Component) (x d y a : ℕ) → Bounded p a → x + suc d ≤ maxMaskSide → y ≤ maxMaskDots → Bounded (absorbedRun p x d y) (a + suc d)
 bounded-run p x d y a B l h =
     let b₀ = B .area in
     let b₁ = B .sum-x in
     let b₂ = B .sum-y in
-    let e = column-small x (suc d) 131072 (omega arith) in
-    let g : suc d * y ≤ suc d * 1073741824 = mul-le-mul-left (suc d) h in
+    let e = column-small x (suc d) maxMaskSide (omega arith) in
+    let g : suc d * y ≤ suc d * maxMaskDots = mul-le-mul-left (suc d) h in
     record { area = omega arith; sum-x = omega arith; sum-y = omega arith }
 
 bounded-more : {p : Component} {a b : ℕ} → Bounded p a → a ≤ b → Bounded p b
@@ -160,16 +160,13 @@ table-snoc : (h : ℕ → Component) (n : ℕ) → table h (suc n) ≡ table h n
 unfolding table
 table-snoc h n = refl
 
-each-nine : (a : Component) → length (recordWords a) ≡ 9
-each-nine a = refl
-
 pub tally-long : {w c : ℕ} {s comps₀ comps : List ℕ} {k count : ℕ} → TallySweep w c s comps₀ comps k count → length comps ≡ length comps₀
 tally-long {w} {c} {s} {comps₀} {comps} {k} S =
     let g = recordTo w c s comps₀ (S .asks) k in
     let f = firstRun w c (take (2 * c) s) in
     let n = length-encoded recordWords 9 each-nine (table g (countIf (isRoot f) k)) in
     let t = length-table g (countIf (isRoot f) k) in
-    let u = count-up (isRoot f) k c (S .upto) in
+    let u = count-mono (isRoot f) k c (S .upto) in
     let r = S .asks .room in
     ap length (S .words) ∙ simp (length-append, length-drop) (omega arith)
 
@@ -230,7 +227,7 @@ module _ {w c : ℕ} {s comps₀ comps : List ℕ} {k count : ℕ} (S : TallySwe
   number-room : N * 9 ≤ length comps₀
   number-room =
       let e = next-count in
-      let u = count-up (isRoot f) (suc k) c lk in
+      let u = count-mono (isRoot f) (suc k) c lk in
       let r = S .asks .room in
       omega arith
 

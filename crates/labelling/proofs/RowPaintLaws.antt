@@ -9,12 +9,13 @@ use lib.ListN.{getD, length, take}
 use lib.Seq.{getD-take}
 use Rattle.memory.specs.rules.Limits.{maxMaskSide, maxMaskDots}
 use Rattle.memory.specs.rules.Words.{over}
+use Rattle.memory.specs.stages.Stored.{Stored}
 use Rattle.labelling.specs.stages.Absorbing.{columnSum}
 use Rattle.labelling.specs.stages.InkRuns.{startOf, componentNumber}
 use Rattle.labelling.specs.stages.Linking.{firstRun}
 use Rattle.labelling.specs.stages.Spans.{SpanOf}
 use Rattle.labelling.specs.stages.Tallying.{tallied, SpanTallyable, records, Tallyable, TallySweep}
-use Rattle.labelling.specs.stages.Painting.{numbered, Filled, RunPainted, Paintable, Painted, PaintSweep, PaintsOn, SpanPaintable, SpanPainted, RowPaintable, RowPainted}
+use Rattle.labelling.specs.stages.Painting.{numbered, RunPainted, Paintable, Painted, PaintSweep, PaintsOn, SpanPaintable, SpanPainted, RowPaintable, RowPainted}
 use Rattle.labelling.proofs.PaintLaws.{numbered-turn, numbered-number, numbered-length, paint-none, paint-clear, paint-more, paint-done}
 use Rattle.labelling.proofs.RecordSweepLaws.{tally-none, tally-long, tally-asks, tally-more, tally-done}
 use Rattle.labelling.proofs.SpanLaws.{row-found, Place, place-ends, span-room, first-place, first-span, next-place, next-span}
@@ -57,7 +58,7 @@ module _ {w c : ℕ} (t numbers : List ℕ) {l : List ℕ} {base first clear : �
     first-painted l' {r} X n l₀ h S =
         let C = X .cleared in
         paint-more (paint-clear S (X .between) r (C .from) (le-trans (C .upto) h) (C .filled)) (P .ahead .here) start end first-start first-end (C .reach) l'
-        (subst (λ z. Filled (X .between) l' start end z) (sym (numbered-number c t numbers ht first)) (X .filled))
+        (subst (λ (z : ℕ). Stored (λ _. z) start (end - start) (X .between) l') (sym (numbered-number c t numbers ht first)) (X .filled))
 
   -- and the next, run k
   module _ {k last dots sum : ℕ} (S : SpanOf w c (take (2 * c) (numbered c t numbers)) first k last dots sum) (number : ℕ) (el : number ≡ getD numbers first 0)
@@ -90,7 +91,7 @@ module _ {w c : ℕ} (t numbers : List ℕ) {l : List ℕ} {base first clear : �
     next-painted {l'} {l₁} {a} {x} {clear₁} {r} I l₂ X n l₀ h T =
         let C = X .cleared in
         paint-more (paint-clear (I n l₀ h T) (X .between) r (C .from) (le-trans (C .upto) h) (C .filled)) (G .0) start end next-start next-end (C .reach) l₂
-        (subst (λ z. Filled (X .between) l₂ start end z) (sym (next-one .1)) (X .filled))
+        (subst (λ (z : ℕ). Stored (λ _. z) start (end - start) (X .between) l₂) (sym (next-one .1)) (X .filled))
 
 -- A row: the runs from `first` up to k are painted and tallied, and run k lies in row y or past it
 
@@ -259,5 +260,5 @@ module _ {w c h : ℕ} (t numbers : List ℕ) {l₀ l comps₀ comps : List ℕ}
                   let e = start-is in
                   omega arith
 
-  pub plane-done : c ≤ k → (l₁ : List ℕ) → Filled l l₁ clear (w * h) 0 → Painted (numbered c t numbers) c l₀ l₁ (w * h) × (comps ≡ over (records w c (numbered c t numbers) c) comps₀)
+  pub plane-done : c ≤ k → (l₁ : List ℕ) → Stored (λ _. 0) clear (w * h - clear) l l₁ → Painted (numbered c t numbers) c l₀ l₁ (w * h) × (comps ≡ over (records w c (numbered c t numbers) c) comps₀)
   plane-done all l₁ X = (paint-done (paint-clear (I .sweep) l₁ (w * h) (I .sweep .inside) (le-refl (w * h)) X) all refl, tally-done (I .tally) all)

@@ -16,7 +16,7 @@ use Rattle.memory.specs.rules.Masks.{isInk}
 use Rattle.labelling.specs.rules.Labels.{touches, isFirst, labelAt, componentTo, labelling}
 use Rattle.labelling.specs.stages.InkRuns.{inkBefore, turns, opensRun, runCount, runOf, startOf, endOf, Runs, touchRuns, isRoot, componentNumber, runLabel}
 use Rattle.memory.proofs.TableLaws.{table-ext}
-use Rattle.labelling.proofs.CountLaws.{count-low}
+use Rattle.memory.proofs.PlaceLaws.{count-low}
 use Rattle.labelling.proofs.TouchLaws.{run-of, starts-rise}
 use Rattle.labelling.proofs.TransferLaws.{count-by-runs, label-by-runs, label-blank}
 use Rattle.labelling.proofs.TurnLaws.{bit, any-default, runs-ext, scanned}

@@ -86,7 +86,7 @@ module _ (w : ℕ) (m : List ℕ) (hw : 0 < w) where
   pub turns-fit : (h : ℕ) → length (turns w m (h * w)) ≤ 2 * (h * ((w + 1) / 2))
   turns-fit = room-row
 
--- Dots all alike, as the one before, and no row's end among them: no turn. So blocks may be skipped
+-- Dots all alike, as the one before, and no row's end among them: no turn. So chunks may be skipped
 
 still : (v : Bool) (i : ℕ) (l : List ℕ) → appendIf (differ v v) i l ≡ l
 unfolding appendIf differ

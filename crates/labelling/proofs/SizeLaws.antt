@@ -12,7 +12,7 @@ use lib.Seq.{length-take-le, getD-take, getD-drop, take-take, take-at, drop-at, 
 use Rattle.memory.specs.rules.Lists.{table, countIf}
 use Rattle.memory.specs.rules.Words.{over}
 use Rattle.memory.specs.rules.Records.{encoded}
-use Rattle.memory.specs.rules.Limits.{maxMaskDots}
+use Rattle.memory.specs.rules.Limits.{maxMaskDots, maxCapacity}
 use Rattle.memory.proofs.PartLaws.{tail-part, tail-put}
 use Rattle.memory.proofs.TableLaws.{length-table, getD-table}
 use Rattle.memory.proofs.RecordLaws.{length-encoded, record-at}
@@ -24,7 +24,7 @@ use Rattle.labelling.specs.stages.Numbering.{Numbered}
 use Rattle.labelling.specs.stages.Sizes.{sizeWords, HoldsRuns, HoldsNumbers, HoldsSizes, SizesRoom, SizesLeft}
 use Rattle.labelling.specs.stages.Sizing.{sizes, Sizable, RunsNumberable, RunsNumbered}
 use Rattle.labelling.specs.declared.component.Component.{Component}
-use Rattle.labelling.proofs.CountLaws.{count-up, count-one, count-low}
+use Rattle.memory.proofs.PlaceLaws.{count-mono, count-yes, count-low}
 use Rattle.labelling.proofs.Theorems.{label-occurs, labelled, records-right}
 use Rattle.labelling.proofs.TouchLaws.{run-of}
 use Rattle.labelling.proofs.RunLabelLaws.{turns-even, turns-runs, paint-run}
@@ -152,8 +152,8 @@ component-boxed w h m hw lim k l =
     let u₁ : u .0 / w < h = div-lt-iff-lt-mul hw .1 (let q = u .1 in let z = mul-comm w h in omega arith) in
     let u₂ = u .3 in
     let n = R .area in
-    let o = count-one p d e in
-    let v = count-up p (suc d) (w * h) (D .1) in
+    let o = count-yes p d e in
+    let v = count-mono p (suc d) (w * h) (D .1) in
     let x = count-low p (w * h) in
     record { wide = le-trans a₁ a₂; high = le-trans b₁ b₂; right = omega arith; bottom = omega arith; some = omega arith; all = omega arith }
 
@@ -163,7 +163,7 @@ module _ {w h c P : ℕ} {s s₂ : List ℕ} (B : RunsNumberable w h c P s) (K :
   linked-long : c ≤ length (drop (2 * c) s₂)
   linked-long = simp length-drop (let r = B .list .room in let l = K .kept .len in omega arith)
 
-  pub numbers-ask : (c ≤ length (take (length s₂ - 2 * c) (drop (2 * c) s₂))) × (P ≤ 65535) × ((j : ℕ) → j < c → getD (take (length s₂ - 2 * c) (drop (2 * c) s₂)) j 0 ≤ j)
+  pub numbers-ask : (c ≤ length (take (length s₂ - 2 * c) (drop (2 * c) s₂))) × (P ≤ maxCapacity) × ((j : ℕ) → j < c → getD (take (length s₂ - 2 * c) (drop (2 * c) s₂)) j 0 ≤ j)
   numbers-ask = rw (tail-part (2 * c) s₂) (linked-long, B .few, K .forest .down)
 
   pub numbers-done : {p : List ℕ} {r : ℕ} → Numbered c P (take (length s₂ - 2 * c) (drop (2 * c) s₂)) p r → RunsNumbered w c P s (putMid (2 * c) (length s₂ - 2 * c) s₂ p) r

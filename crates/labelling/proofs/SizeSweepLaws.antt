@@ -28,7 +28,7 @@ use Rattle.labelling.specs.stages.Sizes.{sizeWords}
 use Rattle.labelling.specs.stages.Sizing.{sizeOf, heldSize, resized, SpanSizable, sizes, Sizable, SizeSweep}
 use Rattle.labelling.specs.stages.Spans.{SpanOf}
 use Rattle.labelling.specs.declared.component.Component.{Component}
-use Rattle.labelling.proofs.CountLaws.{count-up, count-step}
+use Rattle.memory.proofs.PlaceLaws.{count-mono, count-step}
 use Rattle.labelling.proofs.TallyLaws.{record-put, record-append, table-put}
 use Rattle.labelling.proofs.NineLaws.{boxed}
 use Rattle.labelling.proofs.RecordSweepLaws.{first-low, first-same, number-some, count-max, records-none, run-bounded}
@@ -175,7 +175,7 @@ module _ {w h c at : ℕ} {s₀ s : List ℕ} {k count : ℕ} (S : SizeSweep w h
   size-long =
       let f = front-long in
       let n = sizes-long (S .asks) k in
-      let u = count-up (isRoot (firstRun w c (take (2 * c) s₀))) k c (S .upto) in
+      let u = count-mono (isRoot (firstRun w c (take (2 * c) s₀))) k c (S .upto) in
       let r = S .asks .room in
       let d = length-drop at s₀ in
       let d₂ = length-drop (length (sizes w c s₀ k)) (drop at s₀) in
@@ -242,7 +242,7 @@ module _ {w h c at : ℕ} {s₀ s : List ℕ} {k count : ℕ} (S : SizeSweep w h
     number-room : N * 5 ≤ length (drop at s₀)
     number-room =
         let e = next-count in
-        let u = count-up (isRoot f) (suc k) c lk in
+        let u = count-mono (isRoot f) (suc k) c lk in
         let r = S .asks .room in
         let d = length-drop at s₀ in
         omega arith

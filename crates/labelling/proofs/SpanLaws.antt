@@ -105,7 +105,7 @@ module _ {w c : ℕ} {s comps : List ℕ} (A : Tallyable w c s comps) where
       let u = P .inside in
       let n = A .list .narrow in
       let es₂ : sum ≡ columnSum (startOf (take (2 * c) s) first % w) (suc (P .d)) = es ∙ place-sum P in
-      let q = column-small (startOf (take (2 * c) s) first % w) (suc (P .d)) 131072 (omega arith) in
+      let q = column-small (startOf (take (2 * c) s) first % w) (suc (P .d)) maxMaskSide (omega arith) in
       rw (add-one first, P .last-is, P .dots-is)
       (record {
         some = le-refl (suc first);
@@ -157,7 +157,7 @@ module _ {w c : ℕ} {s comps : List ℕ} (A : Tallyable w c s comps) where
         let c₂ = count-next k in
         let nk = ap (λ z. max (countTo w c (take (2 * c) s) k) z) en in
         let es₂ : sum' ≡ columnSum (startOf (take (2 * c) s) k % w) (suc (P .d)) = es ∙ place-sum P in
-        let q = column-small (startOf (take (2 * c) s) k % w) (suc (P .d)) 131072 (omega arith) in
+        let q = column-small (startOf (take (2 * c) s) k % w) (suc (P .d)) maxMaskSide (omega arith) in
         rw (add-one k, P .last-is, P .dots-is)
         (record {
           some = omega arith;

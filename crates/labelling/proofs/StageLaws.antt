@@ -12,7 +12,7 @@ use Rattle.memory.specs.rules.Lists.{table, countIf}
 use Rattle.memory.specs.rules.Words.{over}
 use Rattle.memory.specs.rules.Records.{encoded}
 use Rattle.memory.specs.rules.Refusals.{refuseIf}
-use Rattle.memory.specs.rules.Limits.{maxMaskDots}
+use Rattle.memory.specs.rules.Limits.{maxMaskDots, maxCapacity}
 use Rattle.memory.proofs.TableLaws.{length-table}
 use Rattle.labelling.specs.rules.Labels.{labelling}
 use Rattle.labelling.specs.stages.InkRuns.{turns, runCount, runOf, startOf, endOf, Runs, isRoot, componentNumber, runLabel, componentRuns}
@@ -97,7 +97,7 @@ module _ {w h : ℕ} {m : List ℕ} {P : ℕ} {labels comps s₀ : List ℕ} (W 
     tail-long : c ≤ length (drop q s₁)
     tail-long = simp length-drop (let r = K .room in omega arith)
 
-    pub stage-number : (c ≤ length (take (length s₁ - q) (drop q s₁))) × (P ≤ 65535) × ((j : ℕ) → j < c → getD (take (length s₁ - q) (drop q s₁)) j 0 ≤ j)
+    pub stage-number : (c ≤ length (take (length s₁ - q) (drop q s₁))) × (P ≤ maxCapacity) × ((j : ℕ) → j < c → getD (take (length s₁ - q) (drop q s₁)) j 0 ≤ j)
     stage-number = rw (tail-part q s₁) (tail-long, W .few, K .forest .down)
 
     module _ {p : List ℕ} {count : ℕ} (N₀ : Numbered c P (take (length s₁ - q) (drop q s₁)) p count) where

@@ -105,7 +105,7 @@ record-back c =
     let e₂ : c .«sum_y» % 4294967296 + c .«sum_y» / 4294967296 * 4294967296 ≡ c .«sum_y» = mod-add-div' (c .«sum_y») 4294967296 in
     λ i. record { area = c .area; x0 = c .x0; y0 = c .y0; x1 = c .x1; y1 = c .y1; «sum_x» = e₁ i; «sum_y» = e₂ i }
 
-each-nine : (c : Component) → length (recordWords c) ≡ 9
+pub each-nine : (c : Component) → length (recordWords c) ≡ 9
 each-nine c = refl
 
 -- the record at i read back

@@ -18,7 +18,8 @@ use Rattle.labelling.specs.rules.Components.{noDots, absorbed}
 use Rattle.memory.specs.rules.Masks.{isInk}
 use Rattle.labelling.specs.rules.Labels.{touches, isFirst, labelAt, componentTo, labelling}
 use Rattle.labelling.specs.declared.component.Component.{Component}
-use Rattle.labelling.proofs.CountLaws.{count-up, count-one, count-reach}
+use Rattle.memory.proofs.PlaceLaws.{count-mono, count-yes, count-reach}
+use Rattle.memory.specs.rules.Limits.{maxMaskDots}
 use Rattle.labelling.proofs.ExtremeLaws.{Least, Greatest, extreme, min-either, max-either}
 use Rattle.union_find.proofs.FirstLaws.{firsts-right, firsts-unique, firsts-chain, along}
 use Rattle.labelling.proofs.TouchLaws.{and-both, and-intro, near-of}
@@ -85,8 +86,8 @@ module _ (w h : ℕ) (m : List ℕ) where
       let p = isFirst m (firsts (touches w m) (w * h)) in
       let ea = label-ink a la ia in
       let eb = label-ink b lb ib in
-      let u = count-up p (suc (firstDot a)) (firstDot b) l in
-      let o = count-one p (firstDot b) (first-is-first b ib) in
+      let u = count-mono p (suc (firstDot a)) (firstDot b) l in
+      let o = count-yes p (firstDot b) (first-is-first b ib) in
       omega arith
 
   -- two ink dots have one label where an 8-connected chain of ink joins them
@@ -111,9 +112,9 @@ module _ (w h : ℕ) (m : List ℕ) where
   label-within i l e =
       let p = isFirst m (firsts (touches w m) (w * h)) in
       let ei = label-ink i l e in
-      let o = count-one p (firstDot i) (first-is-first i e) in
+      let o = count-yes p (firstDot i) (first-is-first i e) in
       let f = right .low i in
-      let u = count-up p (suc (firstDot i)) (w * h) (omega arith) in
+      let u = count-mono p (suc (firstDot i)) (w * h) (omega arith) in
       let c = count-is in
       (omega arith, omega arith)
 
@@ -224,7 +225,7 @@ module _ (w h : ℕ) (m : List ℕ) (g : ℕ → ℕ) (N : Numbers w h m g) wher
               go : Dec (first < d) → Dec (first ≡ d) → ⊥
               go (yes y) z =
                   let a = before (firstDot w h m (r .0)) y is-first in
-                  let u = count-up p (suc (firstDot w h m (r .0))) d y in
+                  let u = count-mono p (suc (firstDot w h m (r .0))) d y in
                   let q = r .3 in
                   let n = same-number in
                   omega arith
@@ -234,7 +235,7 @@ module _ (w h : ℕ) (m : List ℕ) (g : ℕ → ℕ) (N : Numbers w h m g) wher
                   let o = N .order d (r .0) l (r .1) ink-d (r .2) (omega arith) in
                   let q = r .3 in
                   omega arith
-      exact (no a) (no x) = let c = count-one p d e in omega arith
+      exact (no a) (no x) = let c = count-yes p d e in omega arith
 
   rank-of : (t d : ℕ) → d < t → d < w * h → p d ≡ true → g d ≡ countIf p (suc d)
   rank-of zero d l ld e = absurd (not-suc-le-zero l)
@@ -324,7 +325,7 @@ pub record RecordOf (w n : ℕ) (labels : List ℕ) (k : ℕ) (c : Component) : 
   pub sum-y : c .«sum_y» ≡ sumIf (labelled w labels k) (λ i. i / w) n
 
 -- the record of component k + 1, within 01's limits
-pub records-right : (w h : ℕ) (m : List ℕ) → w * h ≤ 1073741824 → (k : ℕ) → k < count w h m → RecordOf w (w * h) (labelling w h m .labels) (suc k) (getD (labelling w h m .components) k noDots)
+pub records-right : (w h : ℕ) (m : List ℕ) → w * h ≤ maxMaskDots → (k : ℕ) → k < count w h m → RecordOf w (w * h) (labelling w h m .labels) (suc k) (getD (labelling w h m .components) k noDots)
 records-right w h m lim k l = rw (record-at w h m k l) (of-labels (labelling w h m .labels))
   where
     of-labels : (labels : List ℕ) → RecordOf w (w * h) labels (suc k) (componentTo w labels (suc k) (w * h))

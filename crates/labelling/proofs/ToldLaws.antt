@@ -1,4 +1,4 @@
--- Turns told a block at a time, each by its dot and the dot before; and then written.
+-- Turns told a chunk at a time, each by its dot and the dot before; and then written.
 use mathlib.Core.Path.{_≡_, refl, sym, ap, _∙_, subst}
 use mathlib.Core.List.{List, [], _∷_, _++_, map, append-assoc, append-nil, map-append, map-map, map-congr-left}
 use mathlib.Core.Bool.{Bool, true, false, not, Bool·beq}
@@ -126,8 +126,8 @@ written-within {told} {n} {start} {s} {s'} {at} {r} X m h =
 
 -- The told turns of a row's dots are the row's
 
-pub block-count : (long from n : ℕ) → from + 32 ≤ long → n ≡ min (long - from) 32 → n ≡ 32
-block-count long from n h e = omega arith
+pub chunk-count : (long from n : ℕ) → from + 32 ≤ long → n ≡ min (long - from) 32 → n ≡ 32
+chunk-count long from n h e = omega arith
 
 pub told-room : {row : List ℕ} {from base : ℕ} {s : List ℕ} {at : ℕ} → ScanRoom row from (from + 32) base s at → {dots told : List ℕ} → TurnsTold dots told 32 → (n : ℕ) → n ≡ 32
     → ToldRoom told n (base + from) s at
@@ -136,11 +136,11 @@ told-room A T n e =
     let r = A .room in
     record { few = omega arith; bits = λ i l. told-bits T i (omega arith); dots = omega arith; room = omega arith }
 
--- the block's own 32 dots, and the dot before them
-abbrev pub blockBefore : List ℕ → ℕ → List ℕ
-blockBefore row from = take (from + 32 - (from - 1)) (drop (from - 1) row)
+-- the chunk's own 32 dots, and the dot before them
+abbrev pub chunkBefore : List ℕ → ℕ → List ℕ
+chunkBefore row from = take (from + 32 - (from - 1)) (drop (from - 1) row)
 
-pub before-long : (row : List ℕ) (from : ℕ) → (from ≡ 0 → ⊥) → from + 32 ≤ length row → length (blockBefore row from) ≡ 33
+pub before-long : (row : List ℕ) (from : ℕ) → (from ≡ 0 → ⊥) → from + 32 ≤ length row → length (chunkBefore row from) ≡ 33
 before-long row from some h =
     let e : from + 32 - (from - 1) ≡ 33 = omega arith in
     rw e (length-take-le 33 (drop (from - 1) row) (simp length-drop (omega arith)))
@@ -152,16 +152,16 @@ moved base from a l =
     (map-congr-left {f = λ j. base + from + j} {g = λ j. base + (from + j)} {l = l} (λ j m. let q : base + from + j ≡ base + (from + j) = omega arith in q) ∙ sym (map-map (λ j. base + j) (λ j. from + j) l))
     ∙ sym (map-append (λ j. base + j) a (map (λ j. from + j) l))
 
-module _ (row : List ℕ) (from : ℕ) (some : from ≡ 0 → ⊥) {told : List ℕ} (T : TurnsTold (blockBefore row from) told 32) where
+module _ (row : List ℕ) (from : ℕ) (some : from ≡ 0 → ⊥) {told : List ℕ} (T : TurnsTold (chunkBefore row from) told 32) where
   turn-told : (i : ℕ) → i < 32 → from + i < length row → isInk told i ≡ differ (inkBefore (suc (length row)) row (from + i)) (isInk row (from + i))
   unfolding isInk
   turn-told i l h =
-      let before : inkBefore (suc (length row)) row (from + i) ≡ isInk (blockBefore row from) i =
+      let before : inkBefore (suc (length row)) row (from + i) ≡ isInk (chunkBefore row from) i =
       ap (inkBefore (suc (length row)) row) (let e : from + i ≡ suc (from - 1 + i) = omega arith in e)
       ∙ (inkBefore-inner (suc (length row)) row (from - 1 + i) (inner-wider (length row) (from - 1 + i) (omega arith)) ∙ sym (ink-of-part row (from - 1) (from + 32 - (from - 1)) i (omega arith))) in
-      let here : isInk row (from + i) ≡ isInk (blockBefore row from) (suc i) =
+      let here : isInk row (from + i) ≡ isInk (chunkBefore row from) (suc i) =
       ap (isInk row) (let e : from + i ≡ from - 1 + suc i = omega arith in e) ∙ sym (ink-of-part row (from - 1) (from + 32 - (from - 1)) (suc i) (omega arith)) in
-      bit-ink (differ (isInk (blockBefore row from) i) (isInk (blockBefore row from) (suc i))) (T .tells i l) ∙ (ap (λ z. differ z (isInk (blockBefore row from) (suc i))) (sym before) ∙ ap (differ (inkBefore (suc (length row)) row (from + i))) (sym here))
+      bit-ink (differ (isInk (chunkBefore row from) i) (isInk (chunkBefore row from) (suc i))) (T .tells i l) ∙ (ap (λ z. differ z (isInk (chunkBefore row from) (suc i))) (sym before) ∙ ap (differ (inkBefore (suc (length row)) row (from + i))) (sym here))
     where
       bit-ink : (b : Bool) → getD told i 0 ≡ bit b → isInk told i ≡ b
       bit-ink true e = ap (ltb 0) e

@@ -5,8 +5,8 @@ ghost use Rattle.memory.specs.rules.Limits.{maxMaskSide, maxMaskDots};
 ghost use Rattle.labelling.specs.rules.Components.{noDots, absorbed, boxOf};
 ghost use Rattle.labelling.specs.stages.Absorbing.{absorbedSpan};
 use memory::Rect;
-use memory::greater;
-use memory::lesser;
+use memory::max_u32;
+use memory::min_u32;
 
 pub struct Component {
     pub area: u32,
@@ -41,10 +41,10 @@ impl Component {
     {
         Component {
             area: self.area + 1,
-            x0: lesser(self.x0, x),
-            y0: lesser(self.y0, y),
-            x1: greater(self.x1, x),
-            y1: greater(self.y1, y),
+            x0: min_u32(self.x0, x),
+            y0: min_u32(self.y0, y),
+            x1: max_u32(self.x1, x),
+            y1: max_u32(self.y1, y),
             sum_x: self.sum_x + (x as u64),
             sum_y: self.sum_y + (y as u64),
         }

@@ -3,22 +3,17 @@ ghost use mathlib.Core.Path.{_≡_};
 ghost use Prim.Native.Nat.{_*_, _≤_};
 ghost use lib.ListN.{length, drop};
 ghost use Rattle.memory.specs.rules.Limits.{maxMaskDots, scratchWords};
-ghost use Rattle.labelling.specs.rules.Answer.{sideRefusal, lentRefusal, labelOutcome, labelMask};
+ghost use Rattle.labelling.specs.rules.Answer.{lentRefusal, labelOutcome, labelMask};
 ghost use Rattle.labelling.specs.stages.Working.{Workable, worked};
-use crate::linked::extract_linked;
 use crate::number::number_runs;
 use crate::paint::paint_runs;
+use crate::row_by_row::extract_linked;
+use memory::COMPONENT_WORDS;
+use memory::MAX_CAPACITY;
+use memory::area;
 use memory::refuse_if;
-use memory::wide;
-
-// 01's limits, under the names that specs/Limits of the crate memory gives them.
-const MAX_MASK_SIDE: u32 = 131072;
-
-const MAX_MASK_DOTS: usize = 1073741824;
-
-const MAX_CAPACITY: usize = 65535;
-
-const COMPONENT_WORDS: usize = 9;
+use memory::refuse_sides;
+use memory::scratch_words;
 
 // The count of components, or the number that the call is refused with.
 pub enum LabelAnswer {
@@ -38,18 +33,15 @@ pub fn label(
 ) -> LabelAnswer
     ensures { λ r. ⌜ labelOutcome r (now (labels .exit)) (now (components .exit)) (length (now (scratch .exit))) (drop (scratchWords (width * height) capacity) (now (scratch .exit))) ≡ labelMask width height (now (mask .entry)) capacity (now (labels .entry)) (now (components .entry)) (now (scratch .entry)) ⌝ }
 {
-    let sides = judge_sides(width, height);
+    let sides = refuse_sides(width, height, 0);
     if sides != 0 {
         return LabelAnswer::Refused(sides);
     }
-    let w = wide(width);
-    let h = wide(height);
-    let p = wide(capacity);
-    let dots = w * h;
+    let dots = area(width, height);
     let lent = judge_lent(
         dots,
         mask.len(),
-        p,
+        capacity,
         labels.len(),
         components.len(),
         scratch.len(),
@@ -57,25 +49,15 @@ pub fn label(
     if lent != 0 {
         return LabelAnswer::Refused(lent);
     }
-    let words = 4 * dots + 16 * p + 64;
-    label_runs(mask, w, h, p, labels, components, &mut scratch[..words])
-}
-
-// 1 where a side or the count of dots is outside its limit, else 0.
-fn judge_sides(width: u32, height: u32) -> u32
-    ensures { λ r. ⌜ r ≡ sideRefusal width height 0 ⌝ }
-{
-    let dots = wide(width) * wide(height);
-    let by_dots = refuse_if(MAX_MASK_DOTS < dots, 1, 0);
-    let by_height = refuse_if(
-        height == 0,
-        1,
-        refuse_if(MAX_MASK_SIDE < height, 1, by_dots),
-    );
-    refuse_if(
-        width == 0,
-        1,
-        refuse_if(MAX_MASK_SIDE < width, 1, by_height),
+    let words = scratch_words(dots, capacity);
+    label_runs(
+        mask,
+        width as usize,
+        height as usize,
+        capacity as usize,
+        labels,
+        components,
+        &mut scratch[..words],
     )
 }
 
@@ -83,16 +65,17 @@ fn judge_sides(width: u32, height: u32) -> u32
 fn judge_lent(
     dots: usize,
     mask: usize,
-    capacity: usize,
+    capacity: u32,
     labels: usize,
     components: usize,
     scratch: usize,
 ) -> u32
-    requires { ⌜ (dots ≤ maxMaskDots) × (capacity ≤ 4294967295) ⌝ }
+    requires { ⌜ dots ≤ maxMaskDots ⌝ }
     ensures { λ r. ⌜ r ≡ lentRefusal dots mask capacity labels components scratch 0 ⌝ }
 {
-    let by_scratch = refuse_if(scratch < 4 * dots + 16 * capacity + 64, 9, 0);
-    let by_records = refuse_if(components < COMPONENT_WORDS * capacity, 9, by_scratch);
+    let by_scratch = refuse_if(scratch < scratch_words(dots, capacity), 9, 0);
+    let records = COMPONENT_WORDS * (capacity as usize);
+    let by_records = refuse_if(components < records, 9, by_scratch);
     let by_labels = refuse_if(labels < dots, 9, by_records);
     let by_capacity = refuse_if(
         capacity == 0,
@@ -104,6 +87,7 @@ fn judge_lent(
 
 // The stages: runs with their parents, their numbers; then, unless there are too many components, labels and records. A plane of d dots
 // has at most d runs, whose turns fit before word 3d, so that they need not be counted before the parents have their place there.
+// (With a constant in that sum, as 2d + 1, each address was made anew, and single dots took a tenth longer.)
 fn label_runs(
     mask: &[u8],
     w: usize,

@@ -3,11 +3,11 @@
 mod component;
 mod entry;
 mod link;
-mod linked;
 mod marked;
 mod number;
 mod paint;
 mod record;
+mod row_by_row;
 mod runs;
 mod sizes;
 mod span;

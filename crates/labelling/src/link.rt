@@ -1,6 +1,7 @@
 // Linking: a parent for each run of ink, by union-find over the runs. A run list of c runs is 3c words: start and end of each run
 // (the end excluded), then the parent of each, from the word `parents` on. Nothing here sees a mask: any run list is linked so, and one
-// of which only the first c runs are known too.
+// of which only the first c runs are known too. A run that touches one run above it takes that run's parent, or that run itself where the
+// parent lies far back; roots are searched only where a run touches two with different parents.
 ghost use mathlib.Core.Path.{_≡_};
 ghost use Prim.Native.Nat.{ℕ, _+_, _*_, _≤_, _<_, max};
 ghost use lib.ListN.{length, getD, take, drop};

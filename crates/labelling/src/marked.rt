@@ -1,19 +1,20 @@
 // Runs of the dots that pass a test, by a byte of ink and a mark for each dot; the marks stand in the words that the runs are
-// written to, behind them.
+// written to, behind them. A dot passes the tests of the cut masks only where it is ink: marks stand on ink alone, so that this changes
+// nothing but the time, since a chunk without ink is passed over by its bytes, and its marks, four times as wide, are not read.
 ghost use mathlib.Core.Path.{_≡_};
 ghost use mathlib.Core.Bool.{cond};
 ghost use Prim.Native.Nat.{_+_};
 ghost use lib.ListN.{length};
-ghost use lib.Dec.{eqb};
+ghost use lib.Dec.{eqb, ltb};
 ghost use Rattle.memory.specs.rules.Lists.{countIf};
 ghost use Rattle.memory.specs.rules.Masks.{isInk};
 ghost use Rattle.labelling.specs.stages.Extraction.{TurnsTold};
 ghost use Rattle.labelling.specs.stages.Marked.{passes, passing, MarkedScanRoom, MarkedScanned, MarkedRowRoom, MarkedRowLeft, MarkedRoom, MarkedLeft};
 use crate::runs::write_turns;
-use memory::smaller;
+use memory::min_usize;
 
-// The dots of a block, which are counted at once.
-const BLOCK: usize = 32;
+// The dots of a chunk, which are counted at once.
+const CHUNK: usize = 32;
 
 // Which dots count: ink whose mark has its first bit, its second bit, or none.
 pub enum Test {
@@ -24,7 +25,7 @@ pub enum Test {
 
 // 1 where a dot passes, else 0.
 fn passes(test: Test, ink: u8, mark: u32) -> u8
-    ensures { λ r. ⌜ r ≡ cond (passes test ink mark) 1 0 ⌝ }
+    ensures { λ r. ⌜ r ≡ cond (passes test (ltb 0 ink) mark) 1 0 ⌝ }
 {
     match test {
         Test::First => ((0 < ink) & (mark % 2 == 1)) as u8,
@@ -33,28 +34,28 @@ fn passes(test: Test, ink: u8, mark: u32) -> u8
     }
 }
 
-// Whether a block has no ink.
+// Whether a chunk has no ink.
 fn is_blank(ink: &[u8]) -> bool
     requires { ⌜ length (now ink) ≡ 32 ⌝ }
     ensures { λ r. ⌜ r ≡ eqb (countIf (isInk (now (ink .entry))) 32) 0 ⌝ }
 {
     let mut count: u8 = 0;
     let mut i = 0;
-    while i < BLOCK {
+    while i < CHUNK {
         count += (0 < ink[i]) as u8;
         i += 1;
     }
     count == 0
 }
 
-// How many of a block's dots pass.
+// How many of a chunk's dots pass.
 fn count_passing(test: Test, ink: &[u8], marks: &[u32]) -> u8
     requires { ⌜ (length (now ink) ≡ 32) × (length (now marks) ≡ 32) ⌝ }
     ensures { λ r. ⌜ r ≡ countIf (isInk (passing test (now (ink .entry)) (now (marks .entry)) 32)) 32 ⌝ }
 {
     let mut count: u8 = 0;
     let mut i = 0;
-    while i < BLOCK {
+    while i < CHUNK {
         count += passes(test, ink[i], marks[i]);
         i += 1;
     }
@@ -62,7 +63,7 @@ fn count_passing(test: Test, ink: &[u8], marks: &[u32]) -> u8
 }
 
 // The same, one loop for each test; without ink the marks, four times as wide, are not looked at.
-fn count_block(test: Test, ink: &[u8], marks: &[u32]) -> u8
+fn count_chunk(test: Test, ink: &[u8], marks: &[u32]) -> u8
     requires { ⌜ (length (now ink) ≡ 32) × (length (now marks) ≡ 32) ⌝ }
     ensures { λ r. ⌜ r ≡ countIf (isInk (passing test (now (ink .entry)) (now (marks .entry)) 32)) 32 ⌝ }
 {
@@ -105,19 +106,19 @@ fn scan(
 }
 
 // Tells for each of 32 dots whether it is a turn, by itself and the dot before it, the first of the 33.
-fn tell_passing(test: Test, ink: &[u8], marks: &[u32], told: &mut [u8; BLOCK])
+fn tell_passing(test: Test, ink: &[u8], marks: &[u32], told: &mut [u8; CHUNK])
     requires { ⌜ (length (now ink) ≡ 33) × (length (now marks) ≡ 33) × (length (now told) ≡ 32) ⌝ }
     ensures { λ _. ⌜ TurnsTold (passing test (now (ink .entry)) (now (marks .entry)) 33) (now (told .exit)) 32 ⌝ }
 {
     let mut i = 0;
-    while i < BLOCK {
+    while i < CHUNK {
         told[i] = (passes(test, ink[i], marks[i]) != passes(test, ink[i + 1], marks[i + 1])) as u8;
         i += 1;
     }
 }
 
 // The same, one loop for each test.
-fn tell_block(test: Test, ink: &[u8], marks: &[u32], told: &mut [u8; BLOCK])
+fn tell_chunk(test: Test, ink: &[u8], marks: &[u32], told: &mut [u8; CHUNK])
     requires { ⌜ (length (now ink) ≡ 33) × (length (now marks) ≡ 33) × (length (now told) ≡ 32) ⌝ }
     ensures { λ _. ⌜ TurnsTold (passing test (now (ink .entry)) (now (marks .entry)) 33) (now (told .exit)) 32 ⌝ }
 {
@@ -128,9 +129,9 @@ fn tell_block(test: Test, ink: &[u8], marks: &[u32], told: &mut [u8; BLOCK])
     }
 }
 
-// The same as `scan` for a block of 32 dots, which has no turns where its dots are all as the one before. Else its turns are told at
+// The same as `scan` for a chunk of 32 dots, which has no turns where its dots are all as the one before. Else its turns are told at
 // once and then written, as in runs.rt.
-fn scan_block(
+fn scan_chunk(
     test: Test,
     ink: &[u8],
     from: usize,
@@ -142,11 +143,11 @@ fn scan_block(
     requires { ⌜ MarkedScanRoom test (now ink) from (from + 32) base (now words) at marks ⌝ }
     ensures { λ r. ⌜ MarkedScanned test (now (ink .entry)) from (from + 32) base (now (words .entry)) (now (words .exit)) at marks r ⌝ }
 {
-    let to = from + BLOCK;
+    let to = from + CHUNK;
     let first = marks + base + from;
-    let end = first + BLOCK;
-    let count = count_block(test, &ink[from..to], &words[first..end]);
-    if count as usize == BLOCK * (at % 2) {
+    let end = first + CHUNK;
+    let count = count_chunk(test, &ink[from..to], &words[first..end]);
+    if count as usize == CHUNK * (at % 2) {
         return at;
     }
     if from == 0 {
@@ -154,9 +155,9 @@ fn scan_block(
     }
     let before = from - 1;
     let mark = first - 1;
-    let mut told = [0u8; BLOCK];
-    tell_block(test, &ink[before..to], &words[mark..end], &mut told);
-    let n = smaller(ink.len() - from, BLOCK);
+    let mut told = [0u8; CHUNK];
+    tell_chunk(test, &ink[before..to], &words[mark..end], &mut told);
+    let n = min_usize(ink.len() - from, CHUNK);
     write_turns(&told, n, base + from, words, at)
 }
 
@@ -174,9 +175,9 @@ fn extract_row(
 {
     let mut k = at;
     let mut x = 0;
-    while BLOCK <= ink.len() - x {
-        k = scan_block(test, ink, x, base, words, k, marks);
-        x += BLOCK;
+    while CHUNK <= ink.len() - x {
+        k = scan_chunk(test, ink, x, base, words, k, marks);
+        x += CHUNK;
     }
     k = scan(test, ink, x, ink.len(), base, words, k, marks);
     if k % 2 == 0 {

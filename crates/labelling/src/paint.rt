@@ -5,13 +5,14 @@ ghost use Prim.Native.Nat.{_+_, _*_, _≤_, _<_};
 ghost use lib.ListN.{length, drop};
 ghost use Rattle.memory.specs.rules.Limits.{maxMaskDots};
 ghost use Rattle.memory.specs.rules.Words.{over};
-ghost use Rattle.labelling.specs.stages.Painting.{numbered, Filled, Cleared, RunPainted, Paintable, Painted, SpanPaintable, SpanPainted, RowPaintable, RowPainted};
+ghost use Rattle.labelling.specs.stages.Painting.{numbered, Cleared, RunPainted, Paintable, Painted, SpanPaintable, SpanPainted, RowPaintable, RowPainted};
 ghost use Rattle.labelling.specs.stages.Tallying.{Tallyable, records};
 use crate::span::Span;
 use crate::span::column_sum;
 use crate::span::goes_on;
 use crate::tally::tally_span;
-use memory::smaller;
+use memory::fill_words;
+use memory::min_usize;
 use memory::wide;
 
 // How many labels past a run are cleared with it: about what waits to be written while the work goes on.
@@ -24,18 +25,6 @@ pub struct Progress {
     pub clear: usize,
 }
 
-// Writes a value to the labels from `from` up to `to`.
-fn fill(labels: &mut [u32], from: usize, to: usize, value: u32)
-    requires { ⌜ (from ≤ to) × (to ≤ length (now labels)) ⌝ }
-    ensures { λ _. ⌜ Filled (now (labels .entry)) (now (labels .exit)) from to value ⌝ }
-{
-    let mut i = from;
-    while i < to {
-        labels[i] = value;
-        i += 1;
-    }
-}
-
 // Clears the labels, cleared up to `clear`, at least up to `end` and not past `limit`; answers up to where.
 fn clear_to(labels: &mut [u32], clear: usize, end: usize, limit: usize) -> usize
     requires { ⌜ (clear ≤ limit) × (end ≤ limit) × (limit ≤ length (now labels)) × (limit ≤ maxMaskDots) ⌝ }
@@ -44,8 +33,8 @@ fn clear_to(labels: &mut [u32], clear: usize, end: usize, limit: usize) -> usize
     if end <= clear {
         return clear;
     }
-    let to = smaller(end + AHEAD, limit);
-    fill(labels, clear, to, 0);
+    let to = min_usize(end + AHEAD, limit);
+    fill_words(&mut labels[clear..to], 0);
     to
 }
 
@@ -64,7 +53,8 @@ fn paint_run(
 {
     let clear = clear_to(labels, cleared, end, limit);
     labels[start] = label;
-    fill(labels, start + 1, end, label);
+    let rest = start + 1;
+    fill_words(&mut labels[rest..end], label);
     clear
 }
 
@@ -180,5 +170,5 @@ pub fn paint_runs(
         k = reached.next;
         clear = reached.clear;
     }
-    fill(labels, clear, dots, 0);
+    fill_words(&mut labels[clear..dots], 0);
 }

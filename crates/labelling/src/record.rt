@@ -2,7 +2,7 @@
 ghost use mathlib.Core.Path.{_≡_};
 ghost use Prim.Native.Nat.{_+_, _≤_, _<_, _^_};
 ghost use lib.ListN.{length};
-ghost use Rattle.memory.specs.rules.Limits.{maxMaskSide, maxMaskDots};
+ghost use Rattle.memory.specs.rules.Limits.{maxMaskSide, maxMaskDots, componentWords};
 ghost use Rattle.labelling.specs.stages.Absorbing.{absorbedSpan};
 ghost use Rattle.labelling.specs.rules.RecordWords.{recordWords};
 ghost use Rattle.labelling.specs.stages.RecordParts.{recordOf, lowered, raised, longAt, longAdded};
@@ -18,7 +18,7 @@ fn wider(x: u32) -> u64
 
 // Writes a component's record over nine words.
 pub fn encode(words: &mut [u32], c: Component)
-    requires { ⌜ length (now words) ≡ 9 ⌝ }
+    requires { ⌜ length (now words) ≡ componentWords ⌝ }
     ensures { λ _. ⌜ now (words .exit) ≡ recordWords c ⌝ }
 {
     words[0] = c.area;
@@ -56,7 +56,7 @@ pub fn raise(words: &mut [u32], i: usize, v: u32)
 
 // Adds to the number whose low word is word i and whose high word is the next.
 fn add_long(words: &mut [u32], i: usize, more: u64)
-    requires { ⌜ (i < 8) × (length (now words) ≡ 9) × (longAt (now words) i + more ≤ 18446744073709551615) ⌝ }
+    requires { ⌜ (i < 8) × (length (now words) ≡ componentWords) × (longAt (now words) i + more ≤ 18446744073709551615) ⌝ }
     ensures { λ _. ⌜ now (words .exit) ≡ longAdded (now (words .entry)) i more ⌝ }
 {
     let high = i + 1;
@@ -68,7 +68,7 @@ fn add_long(words: &mut [u32], i: usize, more: u64)
 // The record in nine words with the dots of a span of row y more, in its place: what absorb_span gives, with fewer words read and
 // written.
 pub fn absorb_words(words: &mut [u32], x: u32, last: u32, dots: u32, sum: u64, y: u32)
-    requires { ⌜ (length (now words) ≡ 9) × (dots ≤ maxMaskSide) × (sum ≤ 2 ^ 60) × (y ≤ maxMaskDots) × Small (recordOf (now words)) ⌝ }
+    requires { ⌜ (length (now words) ≡ componentWords) × (dots ≤ maxMaskSide) × (sum ≤ 2 ^ 60) × (y ≤ maxMaskDots) × Small (recordOf (now words)) ⌝ }
     ensures { λ _. ⌜ now (words .exit) ≡ recordWords (absorbedSpan (recordOf (now (words .entry))) x last dots sum y) ⌝ }
 {
     let area = words[0];

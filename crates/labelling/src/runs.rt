@@ -7,13 +7,13 @@ ghost use lib.Dec.{eqb};
 ghost use Rattle.memory.specs.rules.Lists.{countIf};
 ghost use Rattle.memory.specs.rules.Masks.{isInk};
 ghost use Rattle.labelling.specs.stages.Extraction.{ScanRoom, Scanned, TurnsTold, ToldRoom, ToldWritten, RowRoom, RowExtracted, PlaneRoom, Extracted};
-use memory::smaller;
+use memory::min_usize;
 
-// The dots of a block, which are counted at once.
-const BLOCK: usize = 32;
+// The dots of a chunk, which are counted at once.
+const CHUNK: usize = 32;
 
-// The dots of a stretch of blocks, which are counted at once before its blocks are.
-const STRETCH: usize = 128;
+// The dots of four chunks, which are counted at once before each chunk is.
+const FOUR_CHUNKS: usize = 128;
 
 // 1 where a byte is ink, any but 0; else 0.
 fn ink_of(byte: u8) -> u8
@@ -29,15 +29,15 @@ fn turn_of(before: u8, here: u8) -> usize
     if before == here { 0 } else { 1 }
 }
 
-// How many of a block's dots are ink.
-fn ink_count(block: &[u8]) -> u8
-    requires { ⌜ length (now block) ≤ 255 ⌝ }
-    ensures { λ r. ⌜ r ≡ countIf (isInk (now (block .entry))) (length (now (block .entry))) ⌝ }
+// How many of a chunk's dots are ink.
+fn ink_count(chunk: &[u8]) -> u8
+    requires { ⌜ length (now chunk) ≤ 255 ⌝ }
+    ensures { λ r. ⌜ r ≡ countIf (isInk (now (chunk .entry))) (length (now (chunk .entry))) ⌝ }
 {
     let mut count = 0;
     let mut i = 0;
-    while i < block.len() {
-        count += ink_of(block[i]);
+    while i < chunk.len() {
+        count += ink_of(chunk[i]);
         i += 1;
     }
     count
@@ -64,12 +64,12 @@ fn scan(row: &[u8], from: usize, to: usize, base: usize, words: &mut [u32], at: 
 
 // Tells for each of 32 dots whether it is a turn, by itself and the dot before it, the first of the 33. No dot waits for another, so
 // that many are told at a time.
-fn tell_turns(dots: &[u8], told: &mut [u8; BLOCK])
+fn tell_turns(dots: &[u8], told: &mut [u8; CHUNK])
     requires { ⌜ (length (now dots) ≡ 33) × (length (now told) ≡ 32) ⌝ }
     ensures { λ _. ⌜ TurnsTold (now (dots .entry)) (now (told .exit)) 32 ⌝ }
 {
     let mut i = 0;
-    while i < BLOCK {
+    while i < CHUNK {
         told[i] = ((0 < dots[i]) != (0 < dots[i + 1])) as u8;
         i += 1;
     }
@@ -78,7 +78,7 @@ fn tell_turns(dots: &[u8], told: &mut [u8; BLOCK])
 // Writes the turns told of n dots, the first of which is `start`, to the words from `at` on, and answers where they end. A word is
 // stored at every dot and counts only at a turn.
 pub fn write_turns(
-    told: &[u8; BLOCK],
+    told: &[u8; CHUNK],
     n: usize,
     start: usize,
     words: &mut [u32],
@@ -97,28 +97,28 @@ pub fn write_turns(
     k
 }
 
-// The same as `scan` for a block of 32 dots, n, which has no turns where its dots are all as the one before. Else its turns are told at
+// The same as `scan` for a chunk of 32 dots, n, which has no turns where its dots are all as the one before. Else its turns are told at
 // once and then written; at a row's start there is no dot before, and they are told one by one.
-fn scan_block(row: &[u8], from: usize, n: usize, base: usize, words: &mut [u32], at: usize) -> usize
+fn scan_chunk(row: &[u8], from: usize, n: usize, base: usize, words: &mut [u32], at: usize) -> usize
     requires { ⌜ ScanRoom (now row) from (from + 32) base (now words) at × (n ≡ 32) ⌝ }
     ensures { λ r. ⌜ Scanned (now (row .entry)) from (from + 32) base (now (words .entry)) (now (words .exit)) at r ⌝ }
 {
-    let to = from + BLOCK;
-    if ink_count(&row[from..to]) as usize == BLOCK * (at % 2) {
+    let to = from + CHUNK;
+    if ink_count(&row[from..to]) as usize == CHUNK * (at % 2) {
         return at;
     }
     if from == 0 {
         return scan(row, from, to, base, words, at);
     }
     let before = from - 1;
-    let mut told = [0u8; BLOCK];
+    let mut told = [0u8; CHUNK];
     tell_turns(&row[before..to], &mut told);
     write_turns(&told, n, base + from, words, at)
 }
 
-// The same for the dots `from` up to `to`, block by block. A block's count of dots is always 32 where there is a block, but not said to
+// The same for the dots `from` up to `to`, chunk by chunk. A chunk's count of dots is always 32 where there is a chunk, but not said to
 // be, which keeps the loop that writes its turns from being laid out dot by dot.
-fn scan_blocks(
+fn scan_chunks(
     row: &[u8],
     from: usize,
     to: usize,
@@ -129,26 +129,26 @@ fn scan_blocks(
     requires { ⌜ ScanRoom (now row) from to base (now words) at ⌝ }
     ensures { λ r. ⌜ Scanned (now (row .entry)) from to base (now (words .entry)) (now (words .exit)) at r ⌝ }
 {
-    let n = smaller(row.len(), BLOCK);
+    let n = min_usize(row.len(), CHUNK);
     let mut k = at;
     let mut x = from;
-    while BLOCK <= to - x {
-        k = scan_block(row, x, n, base, words, k);
-        x += BLOCK;
+    while CHUNK <= to - x {
+        k = scan_chunk(row, x, n, base, words, k);
+        x += CHUNK;
     }
     scan(row, x, to, base, words, k)
 }
 
-// The same for a stretch of 128 dots. On a page that is mostly blank one count is quicker than four.
-fn scan_stretch(row: &[u8], from: usize, base: usize, words: &mut [u32], at: usize) -> usize
+// The same for four chunks, 128 dots. On a page that is mostly blank one count is quicker than four.
+fn scan_four_chunks(row: &[u8], from: usize, base: usize, words: &mut [u32], at: usize) -> usize
     requires { ⌜ ScanRoom (now row) from (from + 128) base (now words) at ⌝ }
     ensures { λ r. ⌜ Scanned (now (row .entry)) from (from + 128) base (now (words .entry)) (now (words .exit)) at r ⌝ }
 {
-    let to = from + STRETCH;
-    if ink_count(&row[from..to]) as usize == STRETCH * (at % 2) {
+    let to = from + FOUR_CHUNKS;
+    if ink_count(&row[from..to]) as usize == FOUR_CHUNKS * (at % 2) {
         return at;
     }
-    scan_blocks(row, from, to, base, words, at)
+    scan_chunks(row, from, to, base, words, at)
 }
 
 // Writes the turns of a row whose first dot is `base` to the words from `at` on, and answers where they end.
@@ -158,11 +158,11 @@ pub fn extract_row(row: &[u8], base: usize, words: &mut [u32], at: usize) -> usi
 {
     let mut k = at;
     let mut x = 0;
-    while STRETCH <= row.len() - x {
-        k = scan_stretch(row, x, base, words, k);
-        x += STRETCH;
+    while FOUR_CHUNKS <= row.len() - x {
+        k = scan_four_chunks(row, x, base, words, k);
+        x += FOUR_CHUNKS;
     }
-    k = scan_blocks(row, x, row.len(), base, words, k);
+    k = scan_chunks(row, x, row.len(), base, words, k);
     if k % 2 == 0 {
         return k;
     }

@@ -16,7 +16,7 @@ use crate::record::raise;
 use crate::span::Extent;
 use crate::span::Reached;
 use crate::span::measure_span;
-use memory::larger;
+use memory::max_usize;
 use memory::wide;
 
 // Writes a component's area and box over five words.
@@ -90,7 +90,7 @@ fn size_row(
         let span = measure_span(&words[..], c, w, base, k);
         k = span.next;
         size_span(&mut words[at..], number, count, start - base, span, y);
-        count = larger(count, number);
+        count = max_usize(count, number);
     }
     Reached {
         next: k,

@@ -6,6 +6,7 @@ use crate::component::Component;
 use crate::record::absorb_words;
 use crate::record::encode;
 use crate::span::Span;
+use memory::COMPONENT_WORDS;
 
 // The dots of a span absorbed by the record of the component with this number: a new one where `count` have one and this is past
 // them. The span lies in row y and starts in column x. Answers how many have a record then.
@@ -20,17 +21,17 @@ pub fn tally_span(
     requires { ⌜ SpanTallyable (now components) number count x (span .last) (span .dots) (span .sum) y ⌝ }
     ensures { λ r. ⌜ (now (components .exit) ≡ tallied (now (components .entry)) number count x (span .last) (span .dots) (span .sum) y) × (r ≡ max count number) ⌝ }
 {
-    let at = (number - 1) * 9;
+    let at = (number - 1) * COMPONENT_WORDS;
     let last = span.last as u32;
     let dots = span.dots as u32;
     let sum = span.sum as u64;
     if count < number {
         let after = Component::none().absorb_span(x as u32, last, dots, sum, y as u32);
-        encode(&mut components[at..at + 9], after);
+        encode(&mut components[at..at + COMPONENT_WORDS], after);
         return number;
     }
     absorb_words(
-        &mut components[at..at + 9],
+        &mut components[at..at + COMPONENT_WORDS],
         x as u32,
         last,
         dots,

@@ -11,7 +11,7 @@ use mir.Syntax.{w32, w64}
 use mir.Val.{Fits, SFits, toZ, ofZ}
 use mir.ValLaws.{toZ-pos, toZ-ofZ}
 use lib.IntN.{ℤ, pos, negsuc, subℕ, negℤ, natAbs, _-ℤ_, pos-ne-negsuc}
-use Rattle.levelling.specs.rules.Shears.{lesserℤ, natural}
+use Rattle.levelling.specs.rules.Shears.{minℤ, natural}
 
 -- ---- differences
 pub sub-at-least : (a b : ℕ) → b ≤ a → subℕ a b ≡ pos (a - b)
@@ -42,13 +42,13 @@ natAbs-negated (pos (suc n)) = refl
 natAbs-negated (negsuc n) = refl
 
 -- ---- the lesser of two
-pub lesser-comm : (a b : ℤ) → lesserℤ a b ≡ lesserℤ b a
+pub lesser-comm : (a b : ℤ) → minℤ a b ≡ minℤ b a
 lesser-comm (pos a) (pos b) = ap pos (let e : min a b ≡ min b a = omega arith in e)
 lesser-comm (pos a) (negsuc b) = refl
 lesser-comm (negsuc a) (pos b) = refl
 lesser-comm (negsuc a) (negsuc b) = ap negsuc (let e : max a b ≡ max b a = omega arith in e)
 
-pub lesser-assoc : (a b c : ℤ) → lesserℤ (lesserℤ a b) c ≡ lesserℤ a (lesserℤ b c)
+pub lesser-assoc : (a b c : ℤ) → minℤ (minℤ a b) c ≡ minℤ a (minℤ b c)
 lesser-assoc (pos a) (pos b) (pos c) = ap pos (let e : min (min a b) c ≡ min a (min b c) = omega arith in e)
 lesser-assoc (pos a) (pos b) (negsuc c) = refl
 lesser-assoc (pos a) (negsuc b) (pos c) = refl
@@ -58,20 +58,20 @@ lesser-assoc (negsuc a) (pos b) (negsuc c) = refl
 lesser-assoc (negsuc a) (negsuc b) (pos c) = refl
 lesser-assoc (negsuc a) (negsuc b) (negsuc c) = ap negsuc (let e : max (max a b) c ≡ max a (max b c) = omega arith in e)
 
-pub lesser-same : (a : ℤ) → lesserℤ a a ≡ a
+pub lesser-same : (a : ℤ) → minℤ a a ≡ a
 lesser-same (pos a) = ap pos (let e : min a a ≡ a = omega arith in e)
 lesser-same (negsuc a) = ap negsuc (let e : max a a ≡ a = omega arith in e)
 
-pub zero-lesser : (a : ℕ) → lesserℤ (pos a) (pos 0) ≡ pos 0
+pub zero-lesser : (a : ℕ) → minℤ (pos a) (pos 0) ≡ pos 0
 zero-lesser a = ap pos (let e : min a 0 ≡ 0 = omega arith in e)
 
-pub negated-lesser : (a b : ℕ) → a ≤ b → lesserℤ (negℤ (pos a)) (negℤ (pos b)) ≡ negℤ (pos b)
+pub negated-lesser : (a b : ℕ) → a ≤ b → minℤ (negℤ (pos a)) (negℤ (pos b)) ≡ negℤ (pos b)
 negated-lesser zero zero l = ap pos (let e : min 0 0 ≡ 0 = omega arith in e)
 negated-lesser (suc a) zero l = absurd (omega arith)
 negated-lesser zero (suc b) l = refl
 negated-lesser (suc a) (suc b) l = ap negsuc (let e : max a b ≡ b = omega arith in e)
 
-pub lesser-by-test : (a b : ℤ) (t : Bool) → ltZ a b ≡ t → cond t a b ≡ lesserℤ a b
+pub lesser-by-test : (a b : ℤ) (t : Bool) → ltZ a b ≡ t → cond t a b ≡ minℤ a b
 lesser-by-test (pos a) (pos b) true e = ap pos (let l = ltb-true a b e in let q : a ≡ min a b = omega arith in q)
 lesser-by-test (pos a) (pos b) false e = ap pos (let l = ltb-false a b e in let q : b ≡ min a b = omega arith in q)
 lesser-by-test (pos a) (negsuc b) true e = absurd (true≢false (sym e))

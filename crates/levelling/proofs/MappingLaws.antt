@@ -7,14 +7,14 @@ use lib.IntN.{ℤ, pos, negsuc, subℕ}
 use lib.ListN.{getD}
 use Rattle.memory.specs.declared.rect.Rect.{Rect}
 use Rattle.memory.specs.rules.Rects.{union}
-use Rattle.levelling.specs.rules.Shears.{lesserℤ, greaterℤ}
+use Rattle.levelling.specs.rules.Shears.{minℤ, greaterℤ}
 use Rattle.levelling.specs.rules.Frames.{Frame, frameOf}
 use Rattle.levelling.specs.rules.Mapping.{toPage, clamped, rectToPage}
 use Rattle.levelling.specs.stages.Corners.{dotToPage}
 use Rattle.levelling.proofs.Integers.{natural-sub}
 
 -- ---- moved onto a side, the lesser stays the lesser
-clamped-lesser : (n : ℕ) (a b : ℤ) → clamped n (lesserℤ a b) ≡ min (clamped n a) (clamped n b)
+clamped-lesser : (n : ℕ) (a b : ℤ) → clamped n (minℤ a b) ≡ min (clamped n a) (clamped n b)
 clamped-lesser n (pos a) (pos b) = omega arith
 clamped-lesser n (pos a) (negsuc b) = omega arith
 clamped-lesser n (negsuc a) (pos b) = omega arith
@@ -35,11 +35,11 @@ module _ (page-w page-h : ℕ) (shear shear-x : List ℕ) (w h x y column : ℕ)
   unfolding toPage
   point-by dx dy p q = λ i. record { x = p i; y = (q ∙ ap (λ k. subℕ y (getD shear k 0)) e) i }
 
-  pub dot-by : (line : ℕ) → line ≡ min (y - getD shear column 0) (page-h - 1) → record { x0 = column; y0 = line; x1 = column; y1 = line } ≡ dotToPage f x y
+  pub dot-by : (row : ℕ) → row ≡ min (y - getD shear column 0) (page-h - 1) → record { x0 = column; y0 = row; x1 = column; y1 = row } ≡ dotToPage f x y
   unfolding toPage dotToPage
-  dot-by line q =
+  dot-by row q =
       let c : column ≡ clamped page-w (subℕ x (getD shear-x y 0)) = e ∙ ap (λ z. min z (page-w - 1)) (sym (natural-sub x (getD shear-x y 0))) in
-      let l : line ≡ clamped page-h (subℕ y (getD shear (min (x - getD shear-x y 0) (page-w - 1)) 0)) =
+      let l : row ≡ clamped page-h (subℕ y (getD shear (min (x - getD shear-x y 0) (page-w - 1)) 0)) =
       q ∙ (ap (λ z. min z (page-h - 1)) (sym (natural-sub y (getD shear column 0))) ∙ ap (λ k. clamped page-h (subℕ y (getD shear k 0))) e) in
       λ i. record { x0 = c i; y0 = l i; x1 = c i; y1 = l i }
 
@@ -60,8 +60,8 @@ rect-by-corners f r =
       y1 = sym (greaters (f .page-h) (a .y) (b .y) (c .y) (d .y)) i;
     }
   where
-    lessers : (n : ℕ) (a b c d : ℤ) → clamped n (lesserℤ (lesserℤ a b) (lesserℤ c d)) ≡ min (min (clamped n a) (clamped n b)) (min (clamped n c) (clamped n d))
-    lessers n a b c d = clamped-lesser n (lesserℤ a b) (lesserℤ c d) ∙ (λ i. min (clamped-lesser n a b i) (clamped-lesser n c d i))
+    lessers : (n : ℕ) (a b c d : ℤ) → clamped n (minℤ (minℤ a b) (minℤ c d)) ≡ min (min (clamped n a) (clamped n b)) (min (clamped n c) (clamped n d))
+    lessers n a b c d = clamped-lesser n (minℤ a b) (minℤ c d) ∙ (λ i. min (clamped-lesser n a b i) (clamped-lesser n c d i))
 
     greaters : (n : ℕ) (a b c d : ℤ) → clamped n (greaterℤ (greaterℤ a b) (greaterℤ c d)) ≡ max (max (clamped n a) (clamped n b)) (max (clamped n c) (clamped n d))
     greaters n a b c d = clamped-greater n (greaterℤ a b) (greaterℤ c d) ∙ (λ i. max (clamped-greater n a b i) (clamped-greater n c d i))

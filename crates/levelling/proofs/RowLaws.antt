@@ -1,4 +1,4 @@
--- A frame row by its columns: added dots at both ends, and between them the page's columns, by stretches that move by the same number of rows.
+-- A frame row by its columns: added dots at both ends, and between them the page's columns, by plateaus that move by the same number of rows.
 use mathlib.Core.Path.{_≡_, refl, sym, ap, _∙_, subst}
 use mathlib.Core.List.{List, _++_, append-assoc}
 use mathlib.Core.Bool.{cond, _&&_}
@@ -24,7 +24,7 @@ use Rattle.levelling.specs.declared.Point.{Point}
 use Rattle.levelling.proofs.Integers.{sub-at-least}
 use Rattle.levelling.specs.rules.Mapping.{toPage}
 use Rattle.levelling.specs.rules.Planes.{within, levelAt, levelled}
-use Rattle.levelling.specs.stages.Moves.{columnAt, Stretch, Stretches}
+use Rattle.levelling.specs.stages.Moves.{columnAt, Plateau, Plateaus}
 
 -- ---- a column of a frame row
 column-above : (page : List ℕ) (fill w h r s c : ℕ) → r < s → columnAt page fill w h r s c ≡ fill
@@ -39,48 +39,48 @@ column-on-page : (page : List ℕ) (fill w h r s c : ℕ) → s ≤ r → r - s 
 unfolding columnAt
 column-on-page page fill w h r s c l k = rw (le-leb s r l, lt-ltb (r - s) h k)
 
--- ---- a stretch: n columns from c on
+-- ---- a plateau: n columns from c on
 module _ (page : List ℕ) (fill w h r s c n : ℕ) where
-  pub stretch-above : r < s → table (λ _. fill) n ≡ table (λ i. columnAt page fill w h r s (c + i)) n
-  stretch-above l = table-ext (λ _. fill) _ n (λ i k. sym (column-above page fill w h r s (c + i) l))
+  pub plateau-above : r < s → table (λ _. fill) n ≡ table (λ i. columnAt page fill w h r s (c + i)) n
+  plateau-above l = table-ext (λ _. fill) _ n (λ i k. sym (column-above page fill w h r s (c + i) l))
 
-  pub stretch-below : s ≤ r → h ≤ r - s → table (λ _. fill) n ≡ table (λ i. columnAt page fill w h r s (c + i)) n
-  stretch-below l k = table-ext (λ _. fill) _ n (λ i q. sym (column-below page fill w h r s (c + i) l k))
+  pub plateau-below : s ≤ r → h ≤ r - s → table (λ _. fill) n ≡ table (λ i. columnAt page fill w h r s (c + i)) n
+  plateau-below l k = table-ext (λ _. fill) _ n (λ i q. sym (column-below page fill w h r s (c + i) l k))
 
   -- where it lies in the page
-  pub stretch-inside : r - s < h → c + n ≤ w → length page ≡ w * h → (r - s) * w + c + n ≤ length page
-  stretch-inside k l e = let q = row-end w h (r - s) k in omega arith
+  pub plateau-inside : r - s < h → c + n ≤ w → length page ≡ w * h → (r - s) * w + c + n ≤ length page
+  plateau-inside k l e = let q = row-end w h (r - s) k in omega arith
 
-  pub stretch-copied : (out : List ℕ) → s ≤ r → r - s < h → c + n ≤ w → length page ≡ w * h → length out ≡ n
+  pub plateau-copied : (out : List ℕ) → s ≤ r → r - s < h → c + n ≤ w → length page ≡ w * h → length out ≡ n
       → over (take ((r - s) * w + c + n - ((r - s) * w + c)) (drop ((r - s) * w + c) page)) out ≡ table (λ i. columnAt page fill w h r s (c + i)) n
-  stretch-copied out l k q e o =
+  plateau-copied out l k q e o =
       let a = (r - s) * w + c in
       let m : a + n - a ≡ n = omega arith in
       let part : take (a + n - a) (drop a page) ≡ table (λ i. columnAt page fill w h r s (c + i)) n =
       ap (λ z. take z (drop a page)) m
-      ∙ (part-is-table page a n fill (stretch-inside k q e)
+      ∙ (part-is-table page a n fill (plateau-inside k q e)
       ∙ table-ext _ _ n (λ i j. ap (λ z. getD page z fill) (add-assoc ((r - s) * w) c i) ∙ sym (column-on-page page fill w h r s (c + i) l k))) in
       over-all (take (a + n - a) (drop a page)) out (ap length part ∙ (length-table _ n ∙ sym o)) ∙ part
 
--- ---- where the stretches end
-pub stretch-alone : (shear : List ℕ) (c : ℕ) → c < length shear → Stretch shear c (c + 1)
-stretch-alone shear c l = record { some = omega arith; inside = omega arith; level = λ k a b. ap (λ i. getD shear i 0) (let e : k ≡ c = omega arith in e) }
+-- ---- where the plateaus end
+pub plateau-alone : (shear : List ℕ) (c : ℕ) → c < length shear → Plateau shear c (c + 1)
+plateau-alone shear c l = record { some = omega arith; inside = omega arith; level = λ k a b. ap (λ i. getD shear i 0) (let e : k ≡ c = omega arith in e) }
 
-pub stretch-longer : (shear : List ℕ) (c e : ℕ) → getD shear (c + 1) 0 ≡ getD shear c 0 → Stretch shear (c + 1) e → Stretch shear c e
-stretch-longer shear c e q S = record { some = (let s = S .some in omega arith); inside = S .inside; level = λ k a b. go k a b (decLt c k) }
+pub plateau-longer : (shear : List ℕ) (c e : ℕ) → getD shear (c + 1) 0 ≡ getD shear c 0 → Plateau shear (c + 1) e → Plateau shear c e
+plateau-longer shear c e q S = record { some = (let s = S .some in omega arith); inside = S .inside; level = λ k a b. go k a b (decLt c k) }
   where
     go : (k : ℕ) → c ≤ k → k < e → Dec (c < k) → getD shear k 0 ≡ getD shear c 0
     go k a b (yes l) = S .level k (omega arith) b ∙ q
     go k a b (no l) = ap (λ i. getD shear i 0) (let e : k ≡ c = omega arith in e)
 
-pub stretches-more : (shear ends : List ℕ) (c e : ℕ) → c < length ends → Stretches shear ends (c + 1) → Stretch shear c e → Stretches shear (set ends c e) c
-stretches-more shear ends c e l S T k a b = go (ℕ-discrete k c)
+pub plateaus-more : (shear ends : List ℕ) (c e : ℕ) → c < length ends → Plateaus shear ends (c + 1) → Plateau shear c e → Plateaus shear (set ends c e) c
+plateaus-more shear ends c e l S T k a b = go (ℕ-discrete k c)
   where
-    go : Dec (k ≡ c) → Stretch shear k (getD (set ends c e) k 0)
-    go (yes q) = subst (λ i. Stretch shear i (getD (set ends c e) i 0)) (sym q) (subst (Stretch shear c) (sym (getD-set-same ends c e 0 l)) T)
-    go (no q) = subst (Stretch shear k) (sym (getD-set-other ends c k e 0 q)) (S k (omega arith) b)
+    go : Dec (k ≡ c) → Plateau shear k (getD (set ends c e) k 0)
+    go (yes q) = subst (λ i. Plateau shear i (getD (set ends c e) i 0)) (sym q) (subst (Plateau shear c) (sym (getD-set-same ends c e 0 l)) T)
+    go (no q) = subst (Plateau shear k) (sym (getD-set-other ends c k e 0 q)) (S k (omega arith) b)
 
--- ---- the page's columns, one more stretch put in
+-- ---- the page's columns, one more plateau put in
 abbrev pub columnsAt : List ℕ → ℕ → ℕ → ℕ → List ℕ → ℕ → ℕ → ℕ
 columnsAt page fill w h shear r c = columnAt page fill w h r (getD shear c 0) c
 
@@ -88,10 +88,10 @@ columnsAt page fill w h shear r c = columnAt page fill w h r (getD shear c 0) c
 abbrev pub RightTo : List ℕ → ℕ → ℕ → ℕ → List ℕ → ℕ → ℕ → List ℕ → Type 0
 RightTo page fill w h shear r c out = out ≡ table (columnsAt page fill w h shear r) c ++ drop c out
 
--- the next stretch put in, and n columns from c on, which may be more than it has
-pub stretch-put : (page : List ℕ) (fill w h : ℕ) (shear : List ℕ) (r c e m n : ℕ) (out v : List ℕ) → Stretch shear c e → e - c ≤ m → RightTo page fill w h shear r c out
+-- the next plateau put in, and n columns from c on, which may be more than it has
+pub plateau-put : (page : List ℕ) (fill w h : ℕ) (shear : List ℕ) (r c e m n : ℕ) (out v : List ℕ) → Plateau shear c e → e - c ≤ m → RightTo page fill w h shear r c out
     → v ≡ table (λ i. columnAt page fill w h r (getD shear c 0) (c + i)) m → RightTo page fill w h shear r e (putMid c n out v)
-stretch-put page fill w h shear r c e m n out v S l o q =
+plateau-put page fill w h shear r c e m n out v S l o q =
     let f = columnsAt page fill w h shear r in
     let g : ℕ → ℕ = λ i. columnAt page fill w h r (getD shear c 0) (c + i) in
     let k = e - c in

@@ -12,26 +12,26 @@ use Rattle.memory.specs.rules.Lists.{table, greatest}
 use Rattle.memory.proofs.GreatestLaws.{greatest-bounds, greatest-at-most}
 use Rattle.memory.proofs.TableLaws.{length-table, getD-table, getD-default, table-ext}
 use Rattle.rounding.proofs.DriftLaws.{signed}
-use Rattle.levelling.specs.rules.Shears.{lesserℤ, natural, leastEntry, shearOf}
+use Rattle.levelling.specs.rules.Shears.{minℤ, natural, leastEntry, shearOf}
 use Rattle.levelling.specs.stages.Entries.{leastEnd}
 use Rattle.levelling.proofs.Integers.{minus-zero, minus-negated, lesser-comm, lesser-assoc, lesser-same, zero-lesser, negated-lesser}
 
 -- ---- the least entry
-least-bounds : (d : ℤ) (t : List ℤ) (k : ℕ) → k < suc (length t) → lesserℤ (leastEntry d t) (getD (d ∷ t) k d) ≡ leastEntry d t
+least-bounds : (d : ℤ) (t : List ℤ) (k : ℕ) → k < suc (length t) → minℤ (leastEntry d t) (getD (d ∷ t) k d) ≡ leastEntry d t
 unfolding leastEntry
 least-bounds d [] zero l = lesser-same d
 least-bounds d [] (suc k) l = absurd (not-suc-le-zero (le-of-suc-le-suc l))
-least-bounds d (e ∷ t) zero l = lesser-assoc e (leastEntry d t) d ∙ ap (lesserℤ e) (least-bounds d t zero (omega arith))
+least-bounds d (e ∷ t) zero l = lesser-assoc e (leastEntry d t) d ∙ ap (minℤ e) (least-bounds d t zero (omega arith))
 least-bounds d (e ∷ t) (suc zero) l =
-    lesser-comm (lesserℤ e (leastEntry d t)) e ∙ (sym (lesser-assoc e e (leastEntry d t)) ∙ ap (λ z. lesserℤ z (leastEntry d t)) (lesser-same e))
-least-bounds d (e ∷ t) (suc (suc k)) l = lesser-assoc e (leastEntry d t) (getD t k d) ∙ ap (lesserℤ e) (least-bounds d t (suc k) (le-of-suc-le-suc l))
+    lesser-comm (minℤ e (leastEntry d t)) e ∙ (sym (lesser-assoc e e (leastEntry d t)) ∙ ap (λ z. minℤ z (leastEntry d t)) (lesser-same e))
+least-bounds d (e ∷ t) (suc (suc k)) l = lesser-assoc e (leastEntry d t) (getD t k d) ∙ ap (minℤ e) (least-bounds d t (suc k) (le-of-suc-le-suc l))
 
-least-at-least : (d : ℤ) (t : List ℤ) (m : ℤ) → ((k : ℕ) → k < suc (length t) → lesserℤ (getD (d ∷ t) k d) m ≡ m) → lesserℤ (leastEntry d t) m ≡ m
+least-at-least : (d : ℤ) (t : List ℤ) (m : ℤ) → ((k : ℕ) → k < suc (length t) → minℤ (getD (d ∷ t) k d) m ≡ m) → minℤ (leastEntry d t) m ≡ m
 unfolding leastEntry
 least-at-least d [] m h = h zero (le-refl 1)
-least-at-least d (e ∷ t) m h = lesser-assoc e (leastEntry d t) m ∙ (ap (lesserℤ e) (least-at-least d t m others) ∙ h 1 (omega arith))
+least-at-least d (e ∷ t) m h = lesser-assoc e (leastEntry d t) m ∙ (ap (minℤ e) (least-at-least d t m others) ∙ h 1 (omega arith))
   where
-    others : (k : ℕ) → k < suc (length t) → lesserℤ (getD (d ∷ t) k d) m ≡ m
+    others : (k : ℕ) → k < suc (length t) → minℤ (getD (d ∷ t) k d) m ≡ m
     others zero l = h zero (omega arith)
     others (suc k) l = h (suc (suc k)) (omega arith)
 
@@ -47,7 +47,7 @@ length-shear [] = refl
 length-shear (d ∷ t) = length-map (d ∷ t) _
 
 -- m is the least entry: it is the one at k, and no entry is less
-shear-at : (l : List ℤ) (m a : ℤ) (k : ℕ) → k < length l → getD l k a ≡ m → ((i : ℕ) → i < length l → lesserℤ (getD l i a) m ≡ m)
+shear-at : (l : List ℤ) (m a : ℤ) (k : ℕ) → k < length l → getD l k a ≡ m → ((i : ℕ) → i < length l → minℤ (getD l i a) m ≡ m)
     → (i : ℕ) → i < length l → getD (shearOf l) i 0 ≡ natural (getD l i a -ℤ m)
 unfolding shearOf
 shear-at [] m a k kl e h i l = absurd (not-suc-le-zero l)
@@ -55,8 +55,8 @@ shear-at (d ∷ t) m a k kl e h i l = getD-map-inside (λ v. natural (v -ℤ lea
   where
     least : leastEntry d t ≡ m
     least =
-        sym (least-bounds d t k kl) ∙ (ap (lesserℤ (leastEntry d t)) (getD-default (d ∷ t) k d a kl ∙ e)
-        ∙ least-at-least d t m (λ j q. ap (λ z. lesserℤ z m) (getD-default (d ∷ t) j d a q) ∙ h j q))
+        sym (least-bounds d t k kl) ∙ (ap (minℤ (leastEntry d t)) (getD-default (d ∷ t) k d a kl ∙ e)
+        ∙ least-at-least d t m (λ j q. ap (λ z. minℤ z m) (getD-default (d ∷ t) j d a q) ∙ h j q))
 
 -- ---- the shear of a table that runs one way
 -- entry c of the shear of n drifts of these sizes: a falling table (s is true) is least at its last entry, a rising one at its first
@@ -79,9 +79,9 @@ module _ (d : ℕ → ℤ) (s : Bool) (size : ℕ → ℕ) (n : ℕ) (W : OneWay
 
   -- the least of them: the first, which is 0, or where they fall the last
   least : leastEnd d n ≡ cond s (negℤ (pos (size (n - 1)))) (pos 0)
-  least = (λ t. lesserℤ (W .entries 0 (W .some) t) (W .entries (n - 1) end t)) ∙ go s
+  least = (λ t. minℤ (W .entries 0 (W .some) t) (W .entries (n - 1) end t)) ∙ go s
     where
-      go : (s : Bool) → lesserℤ (signed s (size 0)) (signed s (size (n - 1))) ≡ cond s (negℤ (pos (size (n - 1)))) (pos 0)
+      go : (s : Bool) → minℤ (signed s (size 0)) (signed s (size (n - 1))) ≡ cond s (negℤ (pos (size (n - 1)))) (pos 0)
       go false = ap pos (let f = W .first in let e : min (size 0) (size (n - 1)) ≡ 0 = omega arith in e)
       go true = negated-lesser (size 0) (size (n - 1)) (last-greatest 0 (W .some))
 
@@ -92,10 +92,10 @@ module _ (d : ℕ → ℤ) (s : Bool) (size : ℕ → ℕ) (n : ℕ) (W : OneWay
       go false E e = (0, W .some, E 0 (W .some) ∙ (ap pos (W .first) ∙ sym e))
       go true E e = (n - 1, end, E (n - 1) end ∙ sym e)
 
-  none-less : (i : ℕ) → i < n → lesserℤ (d i) (leastEnd d n) ≡ leastEnd d n
-  none-less i l = (λ t. lesserℤ (W .entries i l t) (least t)) ∙ (go s ∙ sym least)
+  none-less : (i : ℕ) → i < n → minℤ (d i) (leastEnd d n) ≡ leastEnd d n
+  none-less i l = (λ t. minℤ (W .entries i l t) (least t)) ∙ (go s ∙ sym least)
     where
-      go : (s : Bool) → lesserℤ (signed s (size i)) (cond s (negℤ (pos (size (n - 1)))) (pos 0)) ≡ cond s (negℤ (pos (size (n - 1)))) (pos 0)
+      go : (s : Bool) → minℤ (signed s (size i)) (cond s (negℤ (pos (size (n - 1)))) (pos 0)) ≡ cond s (negℤ (pos (size (n - 1)))) (pos 0)
       go false = zero-lesser (size i)
       go true = negated-lesser (size i) (size (n - 1)) (last-greatest i l)
 
@@ -128,7 +128,7 @@ module _ (d : ℕ → ℤ) (s : Bool) (size : ℕ → ℕ) (n : ℕ) (W : OneWay
       at i l =
           let k = least-is-entry in
           shear-at (table d n) (leastEnd d n) (pos 0) (k .0) (outward (k .0) (k .1)) (entry (k .0) (k .1) ∙ k .2)
-          (λ j q. ap (λ z. lesserℤ z (leastEnd d n)) (entry j (inward j q)) ∙ none-less j (inward j q)) i (outward i l)
+          (λ j q. ap (λ z. minℤ z (leastEnd d n)) (entry j (inward j q)) ∙ none-less j (inward j q)) i (outward i l)
           ∙ ap (λ z. natural (z -ℤ leastEnd d n)) (entry i l)
 
   pub shear-one-way : shearOf (table d n) ≡ table (shearEntry s size n) n

@@ -3,8 +3,8 @@
 mod frame;
 mod mapping;
 mod plane;
+mod plateaus;
 mod shears;
-mod stretches;
 mod tiles;
 
 pub use frame::FrameSize;

@@ -55,12 +55,12 @@ fn dot_to_page(shear: &[u32], shear_x: &[u32], page_w: u32, page_h: u32, x: u32,
     let row = y as usize;
     let column = onto_side(x, shear_x[row], page_w);
     let at = column as usize;
-    let line = onto_side(y, shear[at], page_h);
+    let row = onto_side(y, shear[at], page_h);
     Rect {
         x0: column,
-        y0: line,
+        y0: row,
         x1: column,
-        y1: line,
+        y1: row,
     }
 }
 

@@ -1,5 +1,5 @@
-// A page plane moved into the frame.
-use crate::stretches::level_by_stretches;
+// A page plane moved into the frame, in one of two ways that meet one equation: which is taken carries no promise.
+use crate::plateaus::level_by_plateaus;
 use crate::tiles::level_by_tiles;
 ghost use mathlib.Core.Path.{_≡_};
 ghost use Prim.Native.Nat.{_≤_};
@@ -9,7 +9,7 @@ ghost use Rattle.levelling.specs.rules.Frames.{frameOf};
 ghost use Rattle.levelling.specs.stages.Rooms.{PlaneFits};
 ghost use Rattle.levelling.specs.rules.Planes.{levelled};
 
-// Stretches shorter than this on the average are slower than tiles: measured, no promise goes by it.
+// Plateaus shorter than this on the average are slower than tiles: measured, no promise goes by it.
 const SHORT: usize = 16;
 
 // A page plane moved into the frame of these shears: the ink mask, where added dots are 0, and `level_gray`, where they are 255.
@@ -31,10 +31,10 @@ pub fn level_plane(
         level_by_tiles(page, fill, page_w, page_h, shear, shear_x, w, h, out);
         return;
     }
-    level_by_stretches(page, fill, page_w, page_h, shear, shear_x, w, h, out);
+    level_by_plateaus(page, fill, page_w, page_h, shear, shear_x, w, h, out);
 }
 
-// Whether a shear's stretches are short: it runs one way, so it has one more than its ends differ.
+// Whether a shear's plateaus are short: it runs one way, so it has one more than its ends differ.
 fn is_steep(shear: &[u32]) -> bool {
     let n = shear.len();
     if n == 0 {

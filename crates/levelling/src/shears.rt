@@ -8,6 +8,7 @@ ghost use Rattle.rounding.specs.rules.Drift.{drift, driftX, WithinOne};
 ghost use Rattle.levelling.specs.rules.Shears as Shears;
 ghost use Rattle.levelling.specs.rules.Shears.{driftOf, shearOf};
 ghost use Rattle.levelling.specs.stages.Entries.{leastEnd, LeastOf, entryOf};
+use memory::fill_words;
 use params::LayoutParams;
 
 // The entries that are found together: at gentle slopes most steps are level.
@@ -103,17 +104,6 @@ fn each_entry(out: &mut [u32], which: Drift, c: u32, n: u32, slope: f64, least: 
     let mut i: u32 = 0;
     while i < n {
         out[i as usize] = shear_entry(which, c + i, slope, least);
-        i += 1;
-    }
-}
-
-// v in every place.
-fn fill_words(out: &mut [u32], v: u32)
-    ensures { λ _. ⌜ now (out .exit) ≡ table (λ _. v) (length (now (out .entry))) ⌝ }
-{
-    let mut i = 0;
-    while i < out.len() {
-        out[i] = v;
         i += 1;
     }
 }

@@ -1,5 +1,6 @@
 // A page plane moved into the frame by page dot, for steep slopes, where columns next to each other move by different numbers of
-// rows. A block of dots that are as added dots are lies at its places already and is passed over.
+// rows. A chunk of dots that are as added dots are lies at its places already and is passed over.
+// Filling and moving the frame band by band was slower, since the page is then read in short parts, and so were narrower tiles.
 use memory::fill_bytes;
 ghost use mathlib.Core.Path.{_≡_};
 ghost use mathlib.Core.Bool.{Bool, true};
@@ -15,10 +16,10 @@ ghost use Rattle.levelling.specs.stages.Moves.{PartFits, MovesPart, part
 // The columns of a tile, and the most frame rows that one tile goes to at a time: more are slow to store to, which was measured.
 const TILE: usize = 1024;
 
-// The dots of a block, and of a piece of one: what is blank is found by its known length, without a loop.
-const BLOCK: usize = 64;
+// The dots of a chunk, and of a quarter of one: what is blank is found by its known length, without a loop.
+const CHUNK: usize = 64;
 
-const PIECE: usize = 16;
+const QUARTER: usize = 16;
 
 // A page plane moved into the frame, tile by tile.
 pub fn level_by_tiles(
@@ -79,7 +80,7 @@ fn move_tile(
     }
 }
 
-// n dots of page row y, from column c on, block by block.
+// n dots of page row y, from column c on, chunk by chunk.
 fn move_part(
     page: &[u8],
     fill: u8,
@@ -96,15 +97,15 @@ fn move_part(
     ensures { λ _. ⌜ MovesPart «page_w» (now (shear .entry)) (now («shear_x» .entry)) w fill (now (page .entry)) y c n (now (out .entry)) (now (out .exit)) ⌝ }
 {
     let mut i = 0;
-    while BLOCK <= n - i {
-        move_block(page, fill, page_w, shear, shear_x, w, y, c + i, out);
-        i += BLOCK;
+    while CHUNK <= n - i {
+        move_chunk(page, fill, page_w, shear, shear_x, w, y, c + i, out);
+        i += CHUNK;
     }
     move_dots(page, fill, page_w, shear, shear_x, w, y, c + i, n - i, out);
 }
 
-// A block of page row y, from column c on. Where all its dots are as added dots are, they lie at their places already.
-fn move_block(
+// A chunk of page row y, from column c on. Where all its dots are as added dots are, they lie at their places already.
+fn move_chunk(
     page: &[u8],
     fill: u8,
     page_w: usize,
@@ -119,15 +120,15 @@ fn move_block(
     ensures { λ _. ⌜ MovesPart «page_w» (now (shear .entry)) (now («shear_x» .entry)) w fill (now (page .entry)) y c 64 (now (out .entry)) (now (out .exit)) ⌝ }
 {
     let from = y * page_w + c;
-    let to = from + BLOCK;
+    let to = from + CHUNK;
     if all_equal(&page[from..to], fill) {
         return;
     }
-    move_pieces(page, fill, page_w, shear, shear_x, w, y, c, BLOCK, out);
+    move_quarters(page, fill, page_w, shear, shear_x, w, y, c, CHUNK, out);
 }
 
-// n dots of page row y, from column c on, piece by piece.
-fn move_pieces(
+// n dots of page row y, from column c on, quarter by quarter.
+fn move_quarters(
     page: &[u8],
     fill: u8,
     page_w: usize,
@@ -143,15 +144,15 @@ fn move_pieces(
     ensures { λ _. ⌜ MovesPart «page_w» (now (shear .entry)) (now («shear_x» .entry)) w fill (now (page .entry)) y c n (now (out .entry)) (now (out .exit)) ⌝ }
 {
     let mut i = 0;
-    while PIECE <= n - i {
-        move_piece(page, fill, page_w, shear, shear_x, w, y, c + i, out);
-        i += PIECE;
+    while QUARTER <= n - i {
+        move_quarter(page, fill, page_w, shear, shear_x, w, y, c + i, out);
+        i += QUARTER;
     }
     move_dots(page, fill, page_w, shear, shear_x, w, y, c + i, n - i, out);
 }
 
-// A piece of a block, in the same way.
-fn move_piece(
+// A quarter of a chunk, in the same way.
+fn move_quarter(
     page: &[u8],
     fill: u8,
     page_w: usize,
@@ -166,11 +167,11 @@ fn move_piece(
     ensures { λ _. ⌜ MovesPart «page_w» (now (shear .entry)) (now («shear_x» .entry)) w fill (now (page .entry)) y c 16 (now (out .entry)) (now (out .exit)) ⌝ }
 {
     let from = y * page_w + c;
-    let to = from + PIECE;
+    let to = from + QUARTER;
     if all_equal(&page[from..to], fill) {
         return;
     }
-    move_dots(page, fill, page_w, shear, shear_x, w, y, c, PIECE, out);
+    move_dots(page, fill, page_w, shear, shear_x, w, y, c, QUARTER, out);
 }
 
 // n dots of page row y, from column c on, each to its place where it is not as added dots are.

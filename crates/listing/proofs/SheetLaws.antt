@@ -11,7 +11,7 @@ use Rattle.listing.specs.stages.Puts.{Put}
 use Rattle.listing.specs.stages.Rooms.{SheetRoom}
 use Rattle.judging.specs.rules.Views.{inkDotsAt, ruleCount, graphicCount, glyphCount, lineCount, blockCount, columnCount}
 use Rattle.listing.specs.rules.Sheets.{headText, headWords, entryFrom, wordFrom, entriesText, sheetText}
-use Rattle.listing.specs.stages.Parts.{threeKinds, entryLength, sheetLength}
+use Rattle.listing.specs.stages.Parts.{threeKinds, linesToRules, graphicsToColumns, entryLength, sheetLength}
 use Rattle.listing.proofs.TextLaws.{put-more, put-length, three-room, three-room-2, three-room-3, three-put}
 use Rattle.listing.proofs.EntryLaws.{line-put, length-entry, length-entries}
 
@@ -33,10 +33,10 @@ module _ (e w h page-w page-h : ℕ) (figures lines blocks rules graphics glyphs
   head = headText e w h page-w page-h figures
 
   abbrev first : List ℕ
-  first = threeKinds 1 lines (lineCount figures) blocks (blockCount figures) rules (ruleCount figures)
+  first = linesToRules figures lines blocks rules
 
   abbrev second : List ℕ
-  second = threeKinds 4 graphics (graphicCount figures) glyphs (glyphCount figures) columns (columnCount figures)
+  second = graphicsToColumns figures graphics glyphs columns
 
   abbrev dots : List ℕ
   dots = entryFrom 7 figures inkDotsAt

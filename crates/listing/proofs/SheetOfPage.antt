@@ -22,7 +22,7 @@ use Rattle.listing.specs.rules.Pages.{figures, headFigures, lineFigures,
 use Rattle.listing.specs.rules.Sheets.{fieldCount, fieldDigits, fieldsText, wordFrom, entryText, entryFrom, entryAt, entriesText, headText, sheetText, sheetHeld}
 use Rattle.smoothing.specs.rules.LineRecords.{lineRecord, glyphRecord}
 use Rattle.grouping.specs.rules.BlockRecords.{blockRecord, columnRecord}
-use Rattle.segmenting.specs.rules.Results.{boxWords}
+use Rattle.memory.specs.rules.Rects.{boxWords}
 use Rattle.segmenting.specs.rules.Figures.{figuresOf, figureWords}
 use Rattle.listing.specs.rules.Digits.{digitOf, hex, joined, lineFeed}
 use Rattle.listing.proofs.EntryLaws.{fields-few}

@@ -6,16 +6,14 @@ use native.Mathlib.Nat.{not-suc-le-zero, suc-mul}
 use native.Mathlib.Numerals.{add-one}
 use native.Mathlib.Decide.{ℕ-discrete}
 use native.Mathlib.Omega.{arith}
-use lib.ListN.{length, getD, take, drop, set, length-append, length-drop, length-take, take-append-drop}
+use lib.ListN.{length, getD, take, drop, set, length-append, take-append-drop}
 use lib.Seq.{take-at, drop-at, drop-drop, set-split, length-take-le}
 use Rattle.memory.specs.rules.Words.{over, putAt}
+use Rattle.judging.proofs.PartLaws.{length-put}
 use Rattle.listing.specs.rules.Digits.{joined}
 use Rattle.listing.specs.stages.Puts.{Put}
 
 -- ---- what is written
-pub length-put : (s v : List ℕ) (at : ℕ) → at + length v ≤ length s → length (putAt at v s) ≡ length s
-length-put s v at h = simp (length-append, length-take, length-drop) (omega arith)
-
 put-bytes : (s out out' a b : List ℕ) (at : ℕ) → at + length a + length b ≤ length s → out ≡ putAt at a s → out' ≡ putAt (at + length a) b out → out' ≡ putAt at (a ++ b) s
 put-bytes s out out' a b at room e f =
     let r = drop (length a) (drop at s) in
@@ -53,7 +51,7 @@ put-byte s at b h =
     }
 
 pub put-length : (s out t : List ℕ) (at p : ℕ) → at + length t ≤ length s → Put s at t p out → length out ≡ length s
-put-length s out t at p h x = ap length (x .bytes) ∙ length-put s t at h
+put-length s out t at p h x = ap length (x .bytes) ∙ length-put at t s h
 
 -- three texts, one behind the other
 module _ (s a b c : List ℕ) (at : ℕ) (room : at + length (a ++ b ++ c) ≤ length s) where

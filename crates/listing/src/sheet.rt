@@ -1,12 +1,13 @@
 // The whole sheet from the words that tell of a segmentation.
 ghost use mathlib.Core.Path.{_≡_};
-ghost use Prim.Native.Nat.{_*_, _<_, _≤_};
+ghost use Prim.Native.Nat.{_+_, _*_, _<_, _≤_};
 ghost use lib.ListN.{length};
 ghost use Rattle.memory.specs.rules.Words.{wordAt, over};
 ghost use Rattle.segmenting.specs.rules.Figures.{figuresLength};
 ghost use Rattle.listing.specs.rules.Pages.{edition};
-ghost use Rattle.listing.specs.rules.Sheets.{headText, sheetText};
-ghost use Rattle.listing.specs.stages.Parts.{entryLength, sheetLength};
+ghost use Rattle.judging.specs.rules.Views.{ruleCount, graphicCount, glyphCount, lineCount, blockCount, columnCount};
+ghost use Rattle.listing.specs.rules.Sheets.{fieldCount, headText, sheetText};
+ghost use Rattle.listing.specs.stages.Parts.{linesToRules, graphicsToColumns, entryLength, sheetLength};
 ghost use Rattle.listing.specs.stages.Puts.{Put};
 ghost use Rattle.listing.specs.stages.Rooms.{SheetRoom};
 use crate::entries::put_entry;
@@ -70,6 +71,50 @@ fn put_head(out: &mut [u8], w: u32, h: u32, page_w: u32, page_h: u32, figures: &
     put_entry(out, 0, 0, &head, 0)
 }
 
+// The entries of lines, blocks and rules.
+fn put_lines_to_rules(
+    out: &mut [u8],
+    at: usize,
+    figures: &[u32],
+    lines: &[u32],
+    blocks: &[u32],
+    rules: &[u32],
+) -> usize
+    requires { ⌜ (figuresLength ≤ length (now figures)) × (lineCount (now figures) * fieldCount 1 ≤ length (now lines)) × (blockCount (now figures) * fieldCount 2 ≤ length (now blocks)) × (ruleCount (now figures) * fieldCount 3 ≤ length (now rules)) × (at + length (linesToRules (now figures) (now lines) (now blocks) (now rules)) ≤ length (now out)) ⌝ }
+    ensures { λ r. ⌜ Put (now (out .entry)) at (linesToRules (now (figures .entry)) (now (lines .entry)) (now (blocks .entry)) (now (rules .entry))) r (now (out .exit)) ⌝ }
+{
+    let n = figures[LINES];
+    let m = figures[BLOCKS];
+    put_three_kinds(out, at, 1, lines, n, blocks, m, rules, figures[RULES])
+}
+
+// The entries of graphics, glyphs and columns.
+fn put_graphics_to_columns(
+    out: &mut [u8],
+    at: usize,
+    figures: &[u32],
+    graphics: &[u32],
+    glyphs: &[u32],
+    columns: &[u32],
+) -> usize
+    requires { ⌜ (figuresLength ≤ length (now figures)) × (graphicCount (now figures) * fieldCount 4 ≤ length (now graphics)) × (glyphCount (now figures) * fieldCount 5 ≤ length (now glyphs)) × (columnCount (now figures) * fieldCount 6 ≤ length (now columns)) × (at + length (graphicsToColumns (now figures) (now graphics) (now glyphs) (now columns)) ≤ length (now out)) ⌝ }
+    ensures { λ r. ⌜ Put (now (out .entry)) at (graphicsToColumns (now (figures .entry)) (now (graphics .entry)) (now (glyphs .entry)) (now (columns .entry))) r (now (out .exit)) ⌝ }
+{
+    let n = figures[GRAPHICS];
+    let m = figures[GLYPHS];
+    put_three_kinds(
+        out,
+        at,
+        4,
+        graphics,
+        n,
+        glyphs,
+        m,
+        columns,
+        figures[COLUMNS],
+    )
+}
+
 // Writes the sheet over the front; its length.
 pub fn write_sheet_text(
     out: &mut [u8],
@@ -89,27 +134,7 @@ pub fn write_sheet_text(
     ensures { λ r. ⌜ (r ≡ sheetLength (now (figures .entry))) × (now (out .exit) ≡ over (sheetText edition w h «page_w» «page_h» (now (figures .entry)) (now (lines .entry)) (now (blocks .entry)) (now (rules .entry)) (now (graphics .entry)) (now (glyphs .entry)) (now (columns .entry))) (now (out .entry))) ⌝ }
 {
     let p = put_head(out, w, h, page_w, page_h, figures);
-    let q = put_three_kinds(
-        out,
-        p,
-        1,
-        lines,
-        figures[LINES],
-        blocks,
-        figures[BLOCKS],
-        rules,
-        figures[RULES],
-    );
-    let r = put_three_kinds(
-        out,
-        q,
-        4,
-        graphics,
-        figures[GRAPHICS],
-        glyphs,
-        figures[GLYPHS],
-        columns,
-        figures[COLUMNS],
-    );
+    let q = put_lines_to_rules(out, p, figures, lines, blocks, rules);
+    let r = put_graphics_to_columns(out, q, figures, graphics, glyphs, columns);
     put_entry(out, r, 7, figures, DOTS)
 }

@@ -1,6 +1,6 @@
 -- Counting: lists counted by place, and two counts that are equal because the counted numbers pair one to one.
 use mathlib.Core.Path.{_≡_, refl, sym, ap, _∙_}
-use mathlib.Core.List.{List, [], _∷_, _++_}
+use mathlib.Core.List.{List, [], _∷_}
 use mathlib.Core.Bool.{Bool, true, false, cond, _&&_, not, true≢false}
 use Prim.Native.Nat.{ℕ, zero, suc, _+_, _<_}
 use native.Mathlib.Nat.{not-suc-le-zero, le-refl}
@@ -12,13 +12,9 @@ use lib.Seq.{ext-getD}
 use lib.Dec.{eqb}
 use Rattle.memory.specs.rules.Lists.{table, countIf, occurs}
 use Rattle.memory.proofs.TableLaws.{length-table, getD-table}
+use Rattle.memory.proofs.PlaceLaws.{occurs-append}
 
 -- ---- lists counted by place
-occurs-append : (k : ℕ) (l m : List ℕ) → occurs k (l ++ m) ≡ occurs k l + occurs k m
-unfolding occurs
-occurs-append k [] m = let e : occurs k m ≡ 0 + occurs k m = omega arith in e
-occurs-append k (a ∷ l) m = let e = occurs-append k l m in omega arith
-
 pub occurs-table : (k : ℕ) (f : ℕ → ℕ) (n : ℕ) → occurs k (table f n) ≡ countIf (λ i. eqb (f i) k) n
 unfolding table countIf occurs
 occurs-table k f zero = refl

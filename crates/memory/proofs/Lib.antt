@@ -18,7 +18,7 @@ pub mod RefusalLaws
 pub mod WordLaws
 -- the greatest entry of a list
 pub mod GreatestLaws
--- the bytes of a mask
+-- the bytes and the sides of a mask
 pub mod MaskLaws
 -- two tests that both pass
 pub mod BoolLaws
@@ -28,3 +28,5 @@ pub mod ListLaws
 pub mod PlaceLaws
 -- one more entry of a sorted list is one more insertion
 pub mod InsertLaws
+-- words stored from a place on, while all others stay
+pub mod StoredLaws

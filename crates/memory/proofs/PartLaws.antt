@@ -4,8 +4,8 @@ use mathlib.Core.List.{List, [], _∷_, _++_, append-nil, append-assoc}
 use Prim.Native.Nat.{ℕ, zero, suc, _+_, _-_, _≤_, _<_}
 use native.Mathlib.Nat.{add-zero, add-suc}
 use native.Mathlib.Omega.{arith}
-use lib.ListN.{length, getD, take, drop, length-take, length-drop, length-append, drop-of-length-le}
-use lib.Seq.{take-all, take-at, drop-at, drop-drop, drop-length, ext-getD, getD-take, getD-drop}
+use lib.ListN.{length, getD, take, drop, length-take, length-drop, length-append, drop-of-length-le, List·getD-append}
+use lib.Seq.{take-all, take-at, drop-at, drop-drop, drop-length, ext-getD, getD-take, getD-drop, getD-append-add, length-take-le}
 use borrow.Rule.Slice.PartMut.{putMid}
 use Rattle.memory.specs.rules.Lists.{table}
 use Rattle.memory.specs.rules.Words.{over}
@@ -56,3 +56,45 @@ part-filled f s out v a n e q =
     (λ i. front i ++ (q i ++ drop n (rest i)))
     ∙ (ap (λ z. table f a ++ (table (λ i. f (a + i)) n ++ z)) (drop-drop n a s)
     ∙ (sym (append-assoc (table f a) (table (λ i. f (a + i)) n) (drop (a + n) s)) ∙ ap (λ (z : List ℕ). z ++ drop (a + n) s) (sym (table-add f a n))))
+
+-- ---- `&mut s[a..e]`
+pub getD-part : (a k : ℕ) (s : List ℕ) (i : ℕ) → i < k → getD (take k (drop a s)) i 0 ≡ getD s (a + i) 0
+getD-part a k s i l = getD-take k (drop a s) i 0 l ∙ getD-drop a s i 0
+
+pub length-part : (a e : ℕ) (s : List ℕ) → a ≤ e → e ≤ length s → length (take (e - a) (drop a s)) ≡ e - a
+length-part a e s l h = length-take-le (e - a) (drop a s) (let q = length-drop a s in omega arith)
+
+pub length-put : (a e : ℕ) (s t : List ℕ) → a ≤ e → e ≤ length s → length t ≡ e - a → length (putMid a (e - a) s t) ≡ length s
+length-put a e s t l h q =
+    length-append (take a s) (t ++ drop (e - a) (drop a s))
+    ∙ (let x = length-append t (drop (e - a) (drop a s)) in
+    let y = length-drop (e - a) (drop a s) in
+    let z = length-drop a s in
+    let r = length-take-le a s (let u : a ≤ length s = omega arith in u) in omega arith)
+
+pub getD-put : (a e : ℕ) (s t : List ℕ) → a ≤ e → e ≤ length s → length t ≡ e - a → (k : ℕ)
+    → (k < a → getD (putMid a (e - a) s t) k 0 ≡ getD s k 0) × (a ≤ k → k < e → getD (putMid a (e - a) s t) k 0 ≡ getD t (k - a) 0) × (e ≤ k → getD (putMid a (e - a) s t) k 0 ≡ getD s k 0)
+getD-put a e s t l h q k = (before, inside, after)
+  where
+    r : length (take a s) ≡ a
+    r = length-take-le a s (let u : a ≤ length s = omega arith in u)
+
+    before : k < a → getD (putMid a (e - a) s t) k 0 ≡ getD s k 0
+    before b = List·getD-append (take a s) (t ++ drop (e - a) (drop a s)) 0 k (omega (arith, r)) ∙ getD-take a s k 0 b
+
+    past : a ≤ k → getD (putMid a (e - a) s t) k 0 ≡ getD (t ++ drop (e - a) (drop a s)) (k - a) 0
+    past b =
+        let x : k ≡ length (take a s) + (k - a) = omega (arith, r) in
+        ap (λ j. getD (putMid a (e - a) s t) j 0) x ∙ getD-append-add (take a s) (t ++ drop (e - a) (drop a s)) (k - a) 0
+
+    inside : a ≤ k → k < e → getD (putMid a (e - a) s t) k 0 ≡ getD t (k - a) 0
+    inside b c = past b ∙ List·getD-append t (drop (e - a) (drop a s)) 0 (k - a) (omega arith)
+
+    after : e ≤ k → getD (putMid a (e - a) s t) k 0 ≡ getD s k 0
+    after b =
+        let x : k - a ≡ length t + (k - e) = omega arith in
+        let y : a + (e - a + (k - e)) ≡ k = omega arith in
+        past (omega arith)
+        ∙ (ap (λ j. getD (t ++ drop (e - a) (drop a s)) j 0) x
+        ∙ (getD-append-add t (drop (e - a) (drop a s)) (k - e) 0
+        ∙ (getD-drop (e - a) (drop a s) (k - e) 0 ∙ (getD-drop a s (e - a + (k - e)) 0 ∙ ap (λ j. getD s j 0) y))))

@@ -47,6 +47,52 @@ module _ (p : ℕ → Bool) where
   pub count-below : (k n : ℕ) → k < n → p k ≡ true → countIf p k < countIf p n
   count-below k n h e = let a = count-mono (suc k) n h in let b = count-yes k e in omega arith
 
+  pub count-step : (n : ℕ) → countIf p (suc n) ≤ countIf p n + 1
+  unfolding countIf
+  count-step n = go (p n)
+    where
+      go : (t : Bool) → countIf p n + cond t 1 0 ≤ countIf p n + 1
+      go true = le-refl _
+      go false = omega arith
+
+  pub count-low : (n : ℕ) → countIf p n ≤ n
+  unfolding countIf
+  count-low zero = le-refl 0
+  count-low (suc n) = let ih = count-low n in let s = count-step n in omega arith
+
+  -- each number up to the count is the count up to one that passes
+  pub count-reach : (n k : ℕ) → k < countIf p n → (d : ℕ) × (d < n) × (p d ≡ true) × (countIf p (suc d) ≡ suc k)
+  unfolding countIf
+  count-reach zero k l = absurd (not-suc-le-zero l)
+  count-reach (suc n) k l = go (decLt k (countIf p n)) (count-reach n k)
+    where
+      go : Dec (k < countIf p n) → (k < countIf p n → (d : ℕ) × (d < n) × (p d ≡ true) × (countIf p (suc d) ≡ suc k)) → (d : ℕ) × (d < suc n) × (p d ≡ true) × (countIf p (suc d) ≡ suc k)
+      go (yes h) ih = let r = ih h in (r .0, (let x = r .1 in omega arith), r .2, r .3)
+      go (no h) ih = last (p n) refl
+        where
+          last : (t : Bool) → p n ≡ t → (d : ℕ) × (d < suc n) × (p d ≡ true) × (countIf p (suc d) ≡ suc k)
+          last true e = (n, le-refl (suc n), e, (let q = count-yes n e in let b = count-step n in omega arith))
+          last false e = absurd (let q = count-no n e in omega arith)
+
+  -- none passes
+  pub count-zero : (n : ℕ) → countIf p n ≡ 0 → (i : ℕ) → i < n → p i ≡ false
+  count-zero n e i l = go (p i) refl
+    where
+      go : (t : Bool) → p i ≡ t → t ≡ false
+      go false q = refl
+      go true q = absurd (let a = count-below i n l q in omega arith)
+
+  -- all do
+  pub count-full : (n : ℕ) → countIf p n ≡ n → (i : ℕ) → i < n → p i ≡ true
+  unfolding countIf
+  count-full zero e i l = absurd (not-suc-le-zero l)
+  count-full (suc n) e i l = go (p n) refl (count-full n) (ℕ-discrete i n)
+    where
+      go : (t : Bool) → p n ≡ t → (countIf p n ≡ n → (i : ℕ) → i < n → p i ≡ true) → Dec (i ≡ n) → p i ≡ true
+      go false q ih d = absurd (let z = count-no n q in let b = count-low n in omega arith)
+      go true q ih (yes d) = ap p d ∙ q
+      go true q ih (no d) = ih (let z = count-yes n q in omega arith) i (omega arith)
+
   -- as many as their list has
   pub count-length : (n : ℕ) → length (keep p (upto n)) ≡ countIf p n
   unfolding keep upto table countIf

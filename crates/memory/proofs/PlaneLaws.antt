@@ -1,8 +1,9 @@
 -- A plane of dots w wide, row by row: dot (x, y) is number y * w + x.
 use mathlib.Core.Path.{_≡_, _∙_}
-use Prim.Native.Nat.{ℕ, suc, _+_, _*_, _/_, _%_, _≤_, _<_}
-use native.Mathlib.Nat.{mul-add-div-right, mul-add-mod-self-right, mod-eq-of-lt, div-eq-of-lt, mul-comm, mul-le-mul-right, suc-mul}
+use Prim.Native.Nat.{ℕ, suc, _+_, _*_, _/_, _%_, _^_, _≤_, _<_}
+use native.Mathlib.Nat.{mul-add-div-right, mul-add-mod-self-right, mod-eq-of-lt, div-eq-of-lt, mul-comm, mul-le-mul-right, suc-mul, lt-of-le-of-lt, mul-le-mul, le-pred-of-lt}
 use native.Mathlib.Omega.{arith}
+use lib.Dec.{lit<}
 
 pub dot-column : (w x y : ℕ) → x < w → (y * w + x) % w ≡ x
 dot-column w x y l = mul-add-mod-self-right y w x ∙ mod-eq-of-lt l
@@ -20,3 +21,7 @@ row-end w h y l =
 
 pub dot-inside : (w h x y : ℕ) → x < w → y < h → y * w + x < w * h
 dot-inside w h x y lx ly = let e = row-end w h y ly in omega arith
+
+-- the product of two numbers of 32 bits
+pub product-fits : (a b : ℕ) → a < 2 ^ 32 → b < 2 ^ 32 → a * b < 2 ^ 64
+product-fits a b ha hb = lt-of-le-of-lt (mul-le-mul (le-pred-of-lt ha) (le-pred-of-lt hb)) (lit< tt)

@@ -46,3 +46,14 @@ pub fn fill_bytes(dst: &mut [u8], v: u8)
         i += 1;
     }
 }
+
+// The same of words.
+pub fn fill_words(dst: &mut [u32], v: u32)
+    ensures { λ _. ⌜ now (dst .exit) ≡ table (λ _. v) (length (now (dst .entry))) ⌝ }
+{
+    let mut i = 0;
+    while i < dst.len() {
+        dst[i] = v;
+        i += 1;
+    }
+}

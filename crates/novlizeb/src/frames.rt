@@ -3,7 +3,7 @@ ghost use mathlib.Core.Path.{_≡_};
 ghost use Rattle.store.specs.rules.Outcomes.{told, levelTold};
 ghost use Rattle.store.specs.rules.Readings.{LevelReading};
 ghost use Rattle.store.specs.rules.Readings.Output.{words, integers};
-ghost use Rattle.novlizeb.specs.rules.Boxes.{boxOf};
+ghost use Rattle.novlizeb.specs.rules.Boxes.{rectOf};
 ghost use Rattle.novlizeb.specs.rules.Frames.{frameSize};
 use crate::answers::number_of;
 use memory::Rect;
@@ -26,7 +26,7 @@ pub extern "C" fn novlizeb_rect_to_page(
     y1: u32,
     rect: &mut [i32],
 ) -> u32
-    ensures { λ r. ⌜ told r 0 (integers (now (rect .exit))) ≡ levelTold (LevelReading.box (boxOf x0 y0 x1 y1) (now (rect .entry))) (now (store .entry)) ⌝ }
+    ensures { λ r. ⌜ told r 0 (integers (now (rect .exit))) ≡ levelTold (LevelReading.box (rectOf x0 y0 x1 y1) (now (rect .entry))) (now (store .entry)) ⌝ }
 {
     number_of(store::rect_to_page(store, Rect { x0, y0, x1, y1 }, rect))
 }

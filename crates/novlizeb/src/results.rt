@@ -5,7 +5,7 @@ ghost use Rattle.store.specs.rules.Outcomes.{told, resultTold};
 ghost use Rattle.store.specs.rules.Readings.{ResultReading, Which};
 ghost use Rattle.store.specs.rules.Readings.Output.{words, floats};
 ghost use Rattle.novlizeb.specs.rules.Answers.{toldWord};
-ghost use Rattle.novlizeb.specs.rules.Boxes.{boxOf};
+ghost use Rattle.novlizeb.specs.rules.Boxes.{rectOf};
 use crate::answers::number_of;
 use crate::answers::word_of;
 use memory::Rect;
@@ -134,7 +134,7 @@ pub extern "C" fn novlizeb_count_dots(
     x1: u32,
     y1: u32,
 ) -> u64
-    ensures { λ r. ⌜ r ≡ toldWord (resultTold (ResultReading.countDots kind (boxOf x0 y0 x1 y1)) (now (store .entry)) (now (ink .entry)) (now (kinds .entry))) ⌝ }
+    ensures { λ r. ⌜ r ≡ toldWord (resultTold (ResultReading.countDots kind (rectOf x0 y0 x1 y1)) (now (store .entry)) (now (ink .entry)) (now (kinds .entry))) ⌝ }
 {
     word_of(store::count_dots(store, ink, kinds, kind, Rect { x0, y0, x1, y1 }))
 }
@@ -152,7 +152,7 @@ pub extern "C" fn novlizeb_read_dots(
     y1: u32,
     out: &mut [u32],
 ) -> u64
-    ensures { λ r. ⌜ (r ≡ toldWord (resultTold (ResultReading.dots kind (boxOf x0 y0 x1 y1) (now (out .entry))) (now (store .entry)) (now (ink .entry)) (now (kinds .entry)))) × (words (now (out .exit)) ≡ resultTold (ResultReading.dots kind (boxOf x0 y0 x1 y1) (now (out .entry))) (now (store .entry)) (now (ink .entry)) (now (kinds .entry)) .output) ⌝ }
+    ensures { λ r. ⌜ (r ≡ toldWord (resultTold (ResultReading.dots kind (rectOf x0 y0 x1 y1) (now (out .entry))) (now (store .entry)) (now (ink .entry)) (now (kinds .entry)))) × (words (now (out .exit)) ≡ resultTold (ResultReading.dots kind (rectOf x0 y0 x1 y1) (now (out .entry))) (now (store .entry)) (now (ink .entry)) (now (kinds .entry)) .output) ⌝ }
 {
     word_of(store::read_dots(store, ink, kinds, kind, Rect { x0, y0, x1, y1 }, out))
 }

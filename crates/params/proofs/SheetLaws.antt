@@ -14,11 +14,11 @@ use Rattle.params.proofs.FiniteOrder.{not-lt→le, not-le→lt}
 neither : (a b : Bool) → T (not (a || b)) → T (not a) × T (not b)
 neither false false t = (tt, tt)
 
-finite-zero : T (finite sheet.zero)
+finite-zero : T (finite sheet.floatZero)
 unfolding ofBits
 finite-zero = tt
 
-finite-one : T (finite sheet.one)
+finite-one : T (finite sheet.floatOne)
 unfolding ofBits
 finite-one = tt
 
@@ -31,10 +31,10 @@ kept true t = tt
 
 length-of : (v : Float) → T (sheet.lengthOk v) → Length v
 length-of v t =
-    let inside = neither (not (finite v) || lt v sheet.zero) (lt sheet.tenThousand v) t in
-    let above = neither (not (finite v)) (lt v sheet.zero) (inside .0) in
+    let inside = neither (not (finite v) || lt v sheet.floatZero) (lt sheet.tenThousand v) t in
+    let above = neither (not (finite v)) (lt v sheet.floatZero) (inside .0) in
     let f = kept (finite v) (above .0) in
-    record { is-finite = f; low = not-lt→le v sheet.zero f finite-zero (above .1); high = not-lt→le sheet.tenThousand v finite-ten-thousand f (inside .1) }
+    record { is-finite = f; low = not-lt→le v sheet.floatZero f finite-zero (above .1); high = not-lt→le sheet.tenThousand v finite-ten-thousand f (inside .1) }
 
 both : (a b : Bool) → T (a && b) → T a × T b
 both true true t = (tt, tt)
@@ -70,13 +70,13 @@ valid-gives p t =
     (sheet.lengthOk (p .«column_cover_frac»))
     (sheet.lengthOk (p .«shear_min_deg»))
     (parts .0) in
-    let extent = both (lt sheet.zero (p .«glyph_max_extent_frac»)) (le (p .«glyph_max_extent_frac») sheet.one) (parts .1) in
+    let extent = both (lt sheet.floatZero (p .«glyph_max_extent_frac»)) (le (p .«glyph_max_extent_frac») sheet.floatOne) (parts .1) in
     let fallback = length-of (p .«xheight_fallback_px») (lengths .1) in
     let lowest = length-of (p .«line_min_height_xh») (lengths .7) in
     let highest = length-of (p .«line_max_height_xh») (lengths .8) in
     let overlap = length-of (p .«block_min_overlap») (lengths .9) in
     let cover = length-of (p .«column_cover_frac») (lengths .13) in
-    let fractions = neither (lt sheet.one (p .«block_min_overlap»)) (le sheet.one (p .«column_cover_frac»)) (parts .3) in
+    let fractions = neither (lt sheet.floatOne (p .«block_min_overlap»)) (le sheet.floatOne (p .«column_cover_frac»)) (parts .3) in
     let counts = neither (eqb (p .«glyph_min_area») 0) (eqb (p .«line_min_glyphs») 0) (parts .5) in
     record {
       glyph-max-extent = length-of (p .«glyph_max_extent_frac») (lengths .0);
@@ -96,9 +96,9 @@ valid-gives p t =
       shear-min = length-of (p .«shear_min_deg») (lengths .14);
       extent-above-zero = extent .0;
       extent-at-most-one = extent .1;
-      fallback-at-least-one = not-lt→le (p .«xheight_fallback_px») sheet.one (fallback .is-finite) finite-one (parts .2);
-      overlap-at-most-one = not-lt→le sheet.one (p .«block_min_overlap») finite-one (overlap .is-finite) (fractions .0);
-      cover-below-one = not-le→lt sheet.one (p .«column_cover_frac») finite-one (cover .is-finite) (fractions .1);
+      fallback-at-least-one = not-lt→le (p .«xheight_fallback_px») sheet.floatOne (fallback .is-finite) finite-one (parts .2);
+      overlap-at-most-one = not-lt→le sheet.floatOne (p .«block_min_overlap») finite-one (overlap .is-finite) (fractions .0);
+      cover-below-one = not-le→lt sheet.floatOne (p .«column_cover_frac») finite-one (cover .is-finite) (fractions .1);
       line-heights-in-order = not-lt→le (p .«line_max_height_xh») (p .«line_min_height_xh») (highest .is-finite) (lowest .is-finite) (parts .4);
       some-glyph-area = some (p .«glyph_min_area») (counts .0);
       some-line-glyphs = some (p .«line_min_glyphs») (counts .1);

@@ -9,7 +9,7 @@ use crate::text::behind;
 use crate::text::half;
 use crate::text::signed;
 use crate::text::word;
-use memory::smaller;
+use memory::min_usize;
 
 // The numbers before the script: how many are the script's, its floats and its dots, and the lengths of store, planes, scratch and outputs.
 const HEAD: usize = 11;
@@ -48,14 +48,14 @@ const OLD_BYTE: u8 = 0x5a;
 fn size(body: &[u8], k: usize, most: usize) -> usize
     ensures { λ r. ⌜ r ≤ most ⌝ }
 {
-    smaller(half(body, k) as usize, most)
+    min_usize(half(body, k) as usize, most)
 }
 
 // How many words of the log the calls of a script fill.
 fn log_size(script: &[u32]) -> usize
     ensures { λ r. ⌜ r ≤ 80 ⌝ }
 {
-    smaller(script.len() / CALL_WORDS * 2, LOG)
+    min_usize(script.len() / CALL_WORDS * 2, LOG)
 }
 
 // The first of the numbers, as many as there is room for.

@@ -14,11 +14,12 @@ use Rattle.memory.specs.rules.Limits.{maxExtent}
 use Rattle.extents.specs.rules.Extents.{behind, ahead, runThrough, extent}
 use Rattle.rulings.specs.rules.Rulings.{widened, inThinRuling}
 use Rattle.extents.specs.stages.Scans.{Starts}
-use Rattle.rulings.specs.stages.Sweeps.{spotOf, planeOf, widenedLine, isThin, isRuling, Laid, ScannedBack, Marked, UpTo, Counted, inkBeside, CountedOn, Recounted, rulingBy, Risen}
-use Rattle.rulings.specs.declared.lines.Sweep.{Sweep}
-use Rattle.extents.proofs.MaskLaws.{dot-inside}
+use Rattle.rulings.specs.stages.Sweeps.{spotOf, planeOf, widenedScanline, isThin, isRuling, Laid, ScannedBack, Marked, UpTo, Counted, inkBeside, CountedOn, Recounted, rulingBy, Risen}
+use Rattle.rulings.specs.declared.scanlines.Sweep.{Sweep}
+use Rattle.memory.proofs.PlaneLaws.{dot-inside}
+use Rattle.memory.specs.rules.Masks.{isInk}
 use Rattle.extents.proofs.RunLaws.{behind-on, behind-off, behind-le, ahead-on, ahead-off, ahead-le, count-next, runThrough-on, runThrough-last, run-reached, run-reached-before, run-apart, run-last}
-use Rattle.rulings.proofs.SweepLaws.{count-line, range-split, plane-inside, widened-past, back-short}
+use Rattle.rulings.proofs.SweepLaws.{count-scanline, range-split, plane-inside, widened-past, back-short}
 
 -- Rulings by the first places
 
@@ -27,24 +28,24 @@ module _ (g : Sweep) (m : List ℕ) (run-min thick-max : ℕ) where
   unfolding rulingBy
   by-past y i o l = rw (le-ltb i y l)
 
-  by-short : (y i o : ℕ) → runThrough (widenedLine g m o) y i < run-min → rulingBy g m run-min thick-max y i o ≡ false
+  by-short : (y i o : ℕ) → runThrough (widenedScanline g m o) y i < run-min → rulingBy g m run-min thick-max y i o ≡ false
   unfolding rulingBy inThinRuling
-  by-short y i o h = rw (lt-leb run-min (runThrough (widenedLine g m o) y i) h) (off (ltb i y) (planeOf g m i o))
+  by-short y i o h = rw (lt-leb run-min (runThrough (widenedScanline g m o) y i) h) (off (ltb i y) (planeOf g m i o))
     where
       off : (a b : Bool) → (a && (b && false && leb (extent (planeOf g m i) (g .outer) o) thick-max)) ≡ false
       off true true = refl
       off true false = refl
       off false b = refl
 
-  by-long : (y i o : ℕ) → i < y → run-min ≤ runThrough (widenedLine g m o) y i → rulingBy g m run-min thick-max y i o ≡ isThin g m thick-max i o
+  by-long : (y i o : ℕ) → i < y → run-min ≤ runThrough (widenedScanline g m o) y i → rulingBy g m run-min thick-max y i o ≡ isThin g m thick-max i o
   unfolding rulingBy inThinRuling isThin
-  by-long y i o l h = rw (lt-ltb i y l, le-leb run-min (runThrough (widenedLine g m o) y i) h) (on (planeOf g m i o))
+  by-long y i o l h = rw (lt-ltb i y l, le-leb run-min (runThrough (widenedScanline g m o) y i) h) (on (planeOf g m i o))
     where
       on : (b : Bool) → (b && true && leb (extent (planeOf g m i) (g .outer) o) thick-max) ≡ (b && leb (extent (planeOf g m i) (g .outer) o) thick-max)
       on true = refl
       on false = refl
 
-  by-same : (y z i o : ℕ) → i < y → i < z → runThrough (widenedLine g m o) y i ≡ runThrough (widenedLine g m o) z i → rulingBy g m run-min thick-max y i o ≡ rulingBy g m run-min thick-max z i o
+  by-same : (y z i o : ℕ) → i < y → i < z → runThrough (widenedScanline g m o) y i ≡ runThrough (widenedScanline g m o) z i → rulingBy g m run-min thick-max y i o ≡ rulingBy g m run-min thick-max z i o
   unfolding rulingBy inThinRuling
   by-same y z i o a b e = rw (lt-ltb i y a, lt-ltb i z b, e)
 
@@ -52,11 +53,11 @@ module _ (g : Sweep) (m : List ℕ) (run-min thick-max : ℕ) where
   unfolding rulingBy
   by-all i o l = rw (lt-ltb i (g .inner) l)
 
-  -- Place y more, of line o
+  -- Place y more, of scanline o
 
   module _ (y o : ℕ) where
     abbrev since : ℕ
-    since = behind (widenedLine g m o) (y + 1)
+    since = behind (widenedScanline g m o) (y + 1)
 
     -- no run that ends with it is long: all is as it was
     by-still : since < run-min → (i : ℕ) → rulingBy g m run-min thick-max y i o ≡ rulingBy g m run-min thick-max (y + 1) i o
@@ -64,25 +65,25 @@ module _ (g : Sweep) (m : List ℕ) (run-min thick-max : ℕ) where
       where
         go : Dec (i < y) → Dec (y + 1 ≤ i + since) → Dec (i ≡ y) → rulingBy g m run-min thick-max y i o ≡ rulingBy g m run-min thick-max (y + 1) i o
         go (yes l) (yes k) d =
-            by-short y i o (let e = run-reached-before (widenedLine g m o) y i l k in omega arith)
-            ∙ sym (by-short (y + 1) i o (let e = run-reached (widenedLine g m o) y i (omega arith) k in omega arith))
-        go (yes l) (no k) d = by-same y (y + 1) i o l (omega arith) (sym (run-apart (widenedLine g m o) y i l (omega arith)))
+            by-short y i o (let e = run-reached-before (widenedScanline g m o) y i l k in omega arith)
+            ∙ sym (by-short (y + 1) i o (let e = run-reached (widenedScanline g m o) y i (omega arith) k in omega arith))
+        go (yes l) (no k) d = by-same y (y + 1) i o l (omega arith) (sym (run-apart (widenedScanline g m o) y i l (omega arith)))
         go (no l) k (yes d) =
             by-past y i o (omega arith)
-            ∙ sym (by-short (y + 1) i o (let e = ap (runThrough (widenedLine g m o) (y + 1)) d in let f = run-last (widenedLine g m o) y in omega arith))
+            ∙ sym (by-short (y + 1) i o (let e = ap (runThrough (widenedScanline g m o) (y + 1)) d in let f = run-last (widenedScanline g m o) y in omega arith))
         go (no l) k (no d) = by-past y i o (omega arith) ∙ sym (by-past (y + 1) i o (omega arith))
 
     -- a long run ends with it: all of it is new where it has just got long, else the last place
     module _ (from : ℕ) (some : 0 < run-min) (long : run-min ≤ since) (low : from ≤ y) (first : since ≡ run-min → from + run-min ≡ y + 1) (later : run-min < since → from ≡ y) where
       by-new : (i : ℕ) → from ≤ i → i < y + 1 → (rulingBy g m run-min thick-max y i o ≡ false) × (rulingBy g m run-min thick-max (y + 1) i o ≡ isThin g m thick-max i o)
-      by-new i a b = (go (decLt i y) (ℕ-discrete since run-min), by-long (y + 1) i o b (let e = run-reached (widenedLine g m o) y i b (reach (ℕ-discrete since run-min)) in omega arith))
+      by-new i a b = (go (decLt i y) (ℕ-discrete since run-min), by-long (y + 1) i o b (let e = run-reached (widenedScanline g m o) y i b (reach (ℕ-discrete since run-min)) in omega arith))
         where
           reach : Dec (since ≡ run-min) → y + 1 ≤ i + since
           reach (yes e) = let f = first e in omega arith
           reach (no e) = let f = later (omega arith) in omega arith
 
           go : Dec (i < y) → Dec (since ≡ run-min) → rulingBy g m run-min thick-max y i o ≡ false
-          go (yes l) (yes e) = by-short y i o (let f = run-reached-before (widenedLine g m o) y i l (reach (yes e)) in omega arith)
+          go (yes l) (yes e) = by-short y i o (let f = run-reached-before (widenedScanline g m o) y i l (reach (yes e)) in omega arith)
           go (yes l) (no e) = let f = later (omega arith) in absurd (omega arith)
           go (no l) d = by-past y i o (omega arith)
 
@@ -92,9 +93,9 @@ module _ (g : Sweep) (m : List ℕ) (run-min thick-max : ℕ) where
           go : Dec (y + 1 ≤ i + since) → Dec (since ≡ run-min) → rulingBy g m run-min thick-max y i o ≡ rulingBy g m run-min thick-max (y + 1) i o
           go (yes k) (yes d) = let f = first d in absurd (omega arith)
           go (yes k) (no d) =
-              by-long y i o (omega arith) (let e = run-reached-before (widenedLine g m o) y i (omega arith) k in omega arith)
-              ∙ sym (by-long (y + 1) i o (omega arith) (let e = run-reached (widenedLine g m o) y i (omega arith) k in omega arith))
-          go (no k) d = by-same y (y + 1) i o (omega arith) (omega arith) (sym (run-apart (widenedLine g m o) y i (omega arith) (omega arith)))
+              by-long y i o (omega arith) (let e = run-reached-before (widenedScanline g m o) y i (omega arith) k in omega arith)
+              ∙ sym (by-long (y + 1) i o (omega arith) (let e = run-reached (widenedScanline g m o) y i (omega arith) k in omega arith))
+          go (no k) d = by-same y (y + 1) i o (omega arith) (omega arith) (sym (run-apart (widenedScanline g m o) y i (omega arith) (omega arith)))
 
 -- Marks that rise
 
@@ -124,7 +125,7 @@ module _ (g : Sweep) (m : List ℕ) (run-min thick-max : ℕ) where
   risen-none a b y s = record { size = refl; each = λ i o li lo. refl; past = λ k l. refl }
 
   -- a place more, with no long run that ends with it
-  pub risen-still : (a b y : ℕ) (s : List ℕ) → ((o : ℕ) → a ≤ o → o < b → behind (widenedLine g m o) (y + 1) < run-min) → Risen g m run-min thick-max a b y (y + 1) s s
+  pub risen-still : (a b y : ℕ) (s : List ℕ) → ((o : ℕ) → a ≤ o → o < b → behind (widenedScanline g m o) (y + 1) < run-min) → Risen g m run-min thick-max a b y (y + 1) s s
   risen-still a b y s h =
       record {
         size = refl;
@@ -134,7 +135,7 @@ module _ (g : Sweep) (m : List ℕ) (run-min thick-max : ℕ) where
       }
 
   -- all places, with no long run
-  pub risen-short : (a b : ℕ) (s : List ℕ) → ((o i : ℕ) → a ≤ o → o < b → i < g .inner → runThrough (widenedLine g m o) (g .inner) i < run-min) → Risen g m run-min thick-max a b 0 (g .inner) s s
+  pub risen-short : (a b : ℕ) (s : List ℕ) → ((o i : ℕ) → a ≤ o → o < b → i < g .inner → runThrough (widenedScanline g m o) (g .inner) i < run-min) → Risen g m run-min thick-max a b 0 (g .inner) s s
   risen-short a b s h =
       record {
         size = refl;
@@ -144,9 +145,9 @@ module _ (g : Sweep) (m : List ℕ) (run-min thick-max : ℕ) where
         past = λ k l. refl;
       }
 
-  -- a place more of line o, with a long run that ends with it
-  pub risen-long : (y o from : ℕ) (s t : List ℕ) → o < g .outer → y < g .inner → 0 < run-min → run-min ≤ behind (widenedLine g m o) (y + 1) → from ≤ y
-      → (behind (widenedLine g m o) (y + 1) ≡ run-min → from + run-min ≡ y + 1) → (run-min < behind (widenedLine g m o) (y + 1) → from ≡ y)
+  -- a place more of scanline o, with a long run that ends with it
+  pub risen-long : (y o from : ℕ) (s t : List ℕ) → o < g .outer → y < g .inner → 0 < run-min → run-min ≤ behind (widenedScanline g m o) (y + 1) → from ≤ y
+      → (behind (widenedScanline g m o) (y + 1) ≡ run-min → from + run-min ≡ y + 1) → (run-min < behind (widenedScanline g m o) (y + 1) → from ≡ y)
       → Marked g (length m) (isThin g m thick-max) 2 s t (o * g .inner + from) (o * g .inner + (y + 1)) → Risen g m run-min thick-max o (o + 1) y (y + 1) s t
   risen-long y o from s t lo ly some long low first later A = record { size = A .size; each = λ i q li lq. each i q li lq (ℕ-discrete q o); past = A .past }
     where
@@ -167,12 +168,12 @@ module _ (g : Sweep) (m : List ℕ) (run-min thick-max : ℕ) where
           → getD t (spotOf g i q) 0 + cond (leb o q && ltb q (o + 1) && rulingBy g m run-min thick-max y i q) 2 0 ≡ getD s (spotOf g i q) 0 + cond (leb o q && ltb q (o + 1) && rulingBy g m run-min thick-max (y + 1) i q) 2 0
       each i q li lq (yes d) = rw d (own i li (decLe from i) (decLt i (y + 1)))
       each i q li lq (no d) =
-          let e = rw (off-range (o * g .inner + from) (o * g .inner + (y + 1)) (q * g .inner + i) (isThin g m thick-max i q) (λ a b. d (count-line (g .inner) o from (y + 1) i q (omega arith) li a b .0))) at (A .each i q li lq) in
+          let e = rw (off-range (o * g .inner + from) (o * g .inner + (y + 1)) (q * g .inner + i) (isThin g m thick-max i q) (λ a b. d (count-scanline (g .inner) o from (y + 1) i q (omega arith) li a b .0))) at (A .each i q li lq) in
           rw (off-range o (o + 1) q (rulingBy g m run-min thick-max y i q) (λ a b. d (omega arith)), off-range o (o + 1) q (rulingBy g m run-min thick-max (y + 1) i q) (λ a b. d (omega arith))) (omega arith)
 
-  -- more lines
-  pub risen-lines : (a b c y z : ℕ) (s t u : List ℕ) → a ≤ b → b ≤ c → Risen g m run-min thick-max a b y z s t → Risen g m run-min thick-max b c y z t u → Risen g m run-min thick-max a c y z s u
-  risen-lines a b c y z s t u h k A B =
+  -- more scanlines
+  pub risen-scanlines : (a b c y z : ℕ) (s t u : List ℕ) → a ≤ b → b ≤ c → Risen g m run-min thick-max a b y z s t → Risen g m run-min thick-max b c y z t u → Risen g m run-min thick-max a c y z s u
+  risen-scanlines a b c y z s t u h k A B =
       record {
         size = B .size ∙ A .size;
         each = λ i o li lo.
@@ -193,7 +194,7 @@ module _ (g : Sweep) (m : List ℕ) (run-min thick-max : ℕ) where
         past = λ j l. B .past j l ∙ A .past j l;
       }
 
-  -- all lines and all places
+  -- all scanlines and all places
   pub risen-all : (s t : List ℕ) → Risen g m run-min thick-max 0 (g .outer) 0 (g .inner) s t → Marked g (length m) (isRuling g m run-min thick-max) 2 s t 0 (g .outer * g .inner)
   risen-all s t A = record { size = A .size; each = each; past = A .past }
     where
@@ -236,11 +237,11 @@ pub recounted-none : (g : Sweep) (m : List ℕ) (a y : ℕ) (s : List ℕ) → R
 recounted-none g m a y s = record { inside = λ o h k. absurd (omega arith); below = λ o h. refl; above = λ o h. refl }
 
 -- one counter more
-pub recounted-next : (g : Sweep) (m : List ℕ) (a x y v : ℕ) (s t : List ℕ) → a ≤ x → x < length t → v ≡ behind (widenedLine g m x) (y + 1) → Recounted g m a x y s t → Recounted g m a (x + 1) y s (set t x v)
+pub recounted-next : (g : Sweep) (m : List ℕ) (a x y v : ℕ) (s t : List ℕ) → a ≤ x → x < length t → v ≡ behind (widenedScanline g m x) (y + 1) → Recounted g m a x y s t → Recounted g m a (x + 1) y s (set t x v)
 recounted-next g m a x y v s t l k e R = record { inside = λ o h j. go o h j (ℕ-discrete o x); below = λ o h. getD-set-other t x o v 0 (λ z. omega arith) ∙ R .below o h; above = λ o h. getD-set-other t x o v 0 (λ z. omega arith) ∙ R .above o (omega arith) }
   where
-    go : (o : ℕ) → a ≤ o → o < x + 1 → Dec (o ≡ x) → getD (set t x v) o 0 ≡ behind (widenedLine g m o) (y + 1)
-    go o h j (yes d) = ap (λ k. getD (set t x v) k 0) d ∙ (getD-set-same t x v 0 k ∙ (e ∙ ap (λ k. behind (widenedLine g m k) (y + 1)) (sym d)))
+    go : (o : ℕ) → a ≤ o → o < x + 1 → Dec (o ≡ x) → getD (set t x v) o 0 ≡ behind (widenedScanline g m o) (y + 1)
+    go o h j (yes d) = ap (λ k. getD (set t x v) k 0) d ∙ (getD-set-same t x v 0 k ∙ (e ∙ ap (λ k. behind (widenedScanline g m k) (y + 1)) (sym d)))
     go o h j (no d) = getD-set-other t x o v 0 d ∙ R .inside o h (omega arith)
 
 pub recounted-counted : (g : Sweep) (m : List ℕ) (a b y : ℕ) (s t : List ℕ) → Recounted g m a b y s t → Counted g m a b (y + 1) t
@@ -263,25 +264,25 @@ module _ (g : Sweep) (m : List ℕ) (a b y : ℕ) (s t : List ℕ) (C : Counted 
           above = λ o h. D .above o (omega arith) ∙ (B .above o (omega arith) ∙ A .above o (omega arith));
         }
       where
-        go : (o : ℕ) → a ≤ o → o < b → Dec (o < a + 1) → Dec (o < b - 1) → getD v o 0 ≡ behind (widenedLine g m o) (y + 1)
+        go : (o : ℕ) → a ≤ o → o < b → Dec (o < a + 1) → Dec (o < b - 1) → getD v o 0 ≡ behind (widenedScanline g m o) (y + 1)
         go o h k (yes c) d = D .below o c ∙ (B .below o (omega arith) ∙ A .inside o h c)
         go o h k (no c) (yes d) = D .inside o (omega arith) d
         go o h k (no c) (no d) = D .above o (omega arith) ∙ B .inside o (omega arith) (omega arith)
 
 -- a dot and those beside it, in a row
-widened-row : (g : Sweep) (m : List ℕ) (y o : ℕ) → g .across ≡ 1 → y < g .inner → 0 < o → o + 1 < g .outer → inkBeside m (y * g .along + o) ≡ widenedLine g m o y
+widened-row : (g : Sweep) (m : List ℕ) (y o : ℕ) → g .across ≡ 1 → y < g .inner → 0 < o → o + 1 < g .outer → inkBeside m (y * g .along + o) ≡ widenedScanline g m o y
 unfolding widened
 widened-row g m y o e ly a b =
     sym (λ k. dot o (y * g .along + o) (omega arith) refl k || dot (o - 1) (y * g .along + o - 1) (omega arith) (omega arith) k || dot (o + 1) (y * g .along + o + 1) b (omega arith) k)
   where
-    dot : (q at : ℕ) → q < g .outer → y * g .along + q ≡ at → planeOf g m y q ≡ ltb 0 (getD m at 0)
-    dot q at l z = plane-inside g m y q ly l ∙ ap (λ k. ltb 0 (getD m k 0)) (ap (λ k. q * k + y * g .along) e ∙ (let x : q * 1 + y * g .along ≡ at = omega arith in x))
+    dot : (q at : ℕ) → q < g .outer → y * g .along + q ≡ at → planeOf g m y q ≡ isInk m at
+    dot q at l z = plane-inside g m y q ly l ∙ ap (isInk m) (ap (λ k. q * k + y * g .along) e ∙ (let x : q * 1 + y * g .along ≡ at = omega arith in x))
 
 -- the counters between the first and the last, by the row's dots
 pub recounted-row : (g : Sweep) (m : List ℕ) (a b y : ℕ) (s t : List ℕ) → g .across ≡ 1 → y < g .inner → 0 < a → b < g .outer → Counted g m a b y s → CountedOn m (y * g .along) a b s t → Recounted g m a b y s t
 recounted-row g m a b y s t e ly l h C D =
     record {
-      inside = λ o j k. D .inside o j k ∙ ((λ x. cond (widened-row g m y o e ly (omega arith) (omega arith) x) (C .each o j k x + 1) 0) ∙ sym (count-next (widenedLine g m o) y));
+      inside = λ o j k. D .inside o j k ∙ ((λ x. cond (widened-row g m y o e ly (omega arith) (omega arith) x) (C .each o j k x + 1) 0) ∙ sym (count-next (widenedScanline g m o) y));
       below = D .below;
       above = D .above;
     }
@@ -370,11 +371,11 @@ module _ (p : ℕ → Bool) where
         let b = runThrough-on p n o on in
         omega arith
 
-    pub thick-before : most < 65534 → before ≡ min (behind p o) most → most ≤ before → leb (extent p n o) most ≡ false
+    pub thick-before : most < maxExtent → before ≡ min (behind p o) most → most ≤ before → leb (extent p n o) most ≡ false
     unfolding extent
     thick-before l e h = lt-leb (min (runThrough p n o) maxExtent) most (let a = length-through in omega arith)
 
-    pub thin-after : (after : ℕ) → most < 65534 → before ≡ min (behind p o) most → before < most → after ≡ min (ahead p (o + 1) (n - (o + 1))) (most - before) → ltb after (most - before) ≡ leb (extent p n o) most
+    pub thin-after : (after : ℕ) → most < maxExtent → before ≡ min (behind p o) most → before < most → after ≡ min (ahead p (o + 1) (n - (o + 1))) (most - before) → ltb after (most - before) ≡ leb (extent p n o) most
     unfolding extent
     thin-after after l e h f = go (decLt after (most - before))
       where
@@ -391,7 +392,7 @@ module _ (g : Sweep) (m : List ℕ) (thick-max i o : ℕ) where
   unfolding isThin
   thin-ink t e f = f ∙ sym (ap (λ (b : Bool). b && leb (extent (planeOf g m i) (g .outer) o) thick-max) e)
 
-  pub thin-always : 65534 ≤ thick-max → true ≡ leb (extent (planeOf g m i) (g .outer) o) thick-max
+  pub thin-always : maxExtent ≤ thick-max → true ≡ leb (extent (planeOf g m i) (g .outer) o) thick-max
   unfolding extent
   thin-always l = sym (le-leb (min (runThrough (planeOf g m i) (g .outer) o) maxExtent) thick-max (omega arith))
 
@@ -405,21 +406,21 @@ short-to q n x r s S B l h i k = go (decLt i x)
     go (yes d) = h i d
     go (no d) = back-short q n x r s S B l i (omega arith) k
 
--- nor where less than that is left of the line
-pub short-all : (g : Sweep) (m : List ℕ) (o x r : ℕ) → Starts (widenedLine g m o) x → g .inner < x + r → ((i : ℕ) → i < x → runThrough (widenedLine g m o) (g .inner) i < r)
-    → (i : ℕ) → i < g .inner → runThrough (widenedLine g m o) (g .inner) i < r
+-- nor where less than that is left of the scanline
+pub short-all : (g : Sweep) (m : List ℕ) (o x r : ℕ) → Starts (widenedScanline g m o) x → g .inner < x + r → ((i : ℕ) → i < x → runThrough (widenedScanline g m o) (g .inner) i < r)
+    → (i : ℕ) → i < g .inner → runThrough (widenedScanline g m o) (g .inner) i < r
 short-all g m o x r S l h i k = go (decLt i x)
   where
-    go : Dec (i < x) → runThrough (widenedLine g m o) (g .inner) i < r
+    go : Dec (i < x) → runThrough (widenedScanline g m o) (g .inner) i < r
     go (yes d) = h i d
-    go (no d) = let b = runThrough-last (widenedLine g m o) (g .inner) x i S (widened-past g m o (g .inner) (le-refl (g .inner))) (omega arith) k in omega arith
+    go (no d) = let b = runThrough-last (widenedScanline g m o) (g .inner) x i S (widened-past g m o (g .inner) (le-refl (g .inner))) (omega arith) k in omega arith
 
 -- the columns before o have none, nor o itself
-pub short-more : (g : Sweep) (m : List ℕ) (a x r : ℕ) → ((o i : ℕ) → a ≤ o → o < x → i < g .inner → runThrough (widenedLine g m o) (g .inner) i < r)
-    → ((i : ℕ) → i < g .inner → runThrough (widenedLine g m x) (g .inner) i < r) → (o i : ℕ) → a ≤ o → o < x + 1 → i < g .inner → runThrough (widenedLine g m o) (g .inner) i < r
+pub short-more : (g : Sweep) (m : List ℕ) (a x r : ℕ) → ((o i : ℕ) → a ≤ o → o < x → i < g .inner → runThrough (widenedScanline g m o) (g .inner) i < r)
+    → ((i : ℕ) → i < g .inner → runThrough (widenedScanline g m x) (g .inner) i < r) → (o i : ℕ) → a ≤ o → o < x + 1 → i < g .inner → runThrough (widenedScanline g m o) (g .inner) i < r
 short-more g m a x r h e o i l k j = go (decLt o x)
   where
-    go : Dec (o < x) → runThrough (widenedLine g m o) (g .inner) i < r
+    go : Dec (o < x) → runThrough (widenedScanline g m o) (g .inner) i < r
     go (yes d) = h o i l d j
     go (no d) = let z : o ≡ x = omega arith in rw z (e i j)
 

@@ -8,7 +8,7 @@ use native.Mathlib.Decide.{ℕ-discrete, decLt, decLe}
 use native.Mathlib.Omega.{arith}
 use borrow.Author.Tests.{lt-ltb, le-ltb, le-leb, lt-leb, not-true, not-false}
 use borrow.Rule.Slice.PartMut.{putMid}
-use lib.ListN.{length, getD, take, drop, set, replicate, length-set, length-drop}
+use lib.ListN.{length, getD, take, drop, set, length-set, length-drop}
 use lib.Seq.{getD-set-same, getD-set-other, getD-drop}
 use lib.Dec.{ltb, leb}
 use Rattle.memory.specs.rules.Lists.{table}
@@ -19,22 +19,24 @@ use Rattle.extents.specs.rules.Extents.{Plane, inkAt, behind, runThrough, exten
 use Rattle.rulings.specs.rules.Rulings.{transposed, widened, inThinRuling, cutHorizontal, cutVertical}
 use Rattle.rulings.specs.stages.Marks.{cutMark, Blank}
 use Rattle.extents.specs.stages.Scans.{ScannedTo, Starts, clear, blank, MaskFits}
-use Rattle.rulings.specs.stages.Sweeps.{sweepDown, sweepAcross, spotOf, planeOf, widenedLine, isThin, isRuling, Laid, ScannedBack, Cached, Marked, Unmarked, Walked}
-use Rattle.rulings.specs.declared.lines.Sweep.{Sweep}
-use Rattle.extents.proofs.MaskLaws.{dot-column, dot-row, dot-inside, isInk-maskOf}
-use Rattle.extents.proofs.OverLaws.{over-unique, part-filled}
+use Rattle.rulings.specs.stages.Sweeps.{sweepDown, sweepAcross, spotOf, planeOf, widenedScanline, isThin, isRuling, Laid, ScannedBack, Cached, Marked, Unmarked, Walked}
+use Rattle.rulings.specs.declared.scanlines.Sweep.{Sweep}
+use Rattle.memory.proofs.PlaneLaws.{dot-column, dot-row, dot-inside}
+use Rattle.extents.proofs.MaskLaws.{isInk-maskOf}
+use Rattle.extents.proofs.OverLaws.{over-unique}
+use Rattle.memory.proofs.StoredLaws.{stored-at, stored-filled}
 use Rattle.extents.proofs.RunLaws.{behind-off, ahead-off, runThrough-ends, runThrough-between, runThrough-last, starts-run}
 use Rattle.extents.proofs.ExtentLaws.{row-next, ink-past}
 
--- Dots counted line by line
+-- Dots counted scanline by scanline
 
 count-apart : (n i o j q : ℕ) → i < n → j < n → o * n + i ≡ q * n + j → (i ≡ j) × (o ≡ q)
 count-apart n i o j q a b e =
     (sym (dot-column n i o a) ∙ (ap (λ k. k % n) e ∙ dot-column n j q b), sym (dot-row n i o a) ∙ (ap (λ k. k / n) e ∙ dot-row n j q b))
 
--- a count within one line
-pub count-line : (n o x s i q : ℕ) → s ≤ n → i < n → o * n + x ≤ q * n + i → q * n + i < o * n + s → (q ≡ o) × (x ≤ i) × (i < s)
-count-line n o x s i q h l a b =
+-- a count within one scanline
+pub count-scanline : (n o x s i q : ℕ) → s ≤ n → i < n → o * n + x ≤ q * n + i → q * n + i < o * n + s → (q ≡ o) × (x ≤ i) × (i < s)
+count-scanline n o x s i q h l a b =
     let z : (o + 1) * n ≡ o * n + n = sym (row-next n o) in
     let e : q ≡ o = sym (dot-row n i q l) ∙ div-eq-of-lt-le {k = o} n {m = q * n + i} (omega arith) (omega arith) in
     let f : q * n ≡ o * n = ap (λ k. k * n) e in
@@ -136,9 +138,9 @@ module _ (g : Sweep) (n : ℕ) where
           let u = U .small i o l k (omega arith) in
           omega arith
 
--- Ink by place and line
+-- Ink by place and scanline
 
-pub plane-inside : (g : Sweep) (m : List ℕ) (i o : ℕ) → i < g .inner → o < g .outer → planeOf g m i o ≡ ltb 0 (getD m (spotOf g i o) 0)
+pub plane-inside : (g : Sweep) (m : List ℕ) (i o : ℕ) → i < g .inner → o < g .outer → planeOf g m i o ≡ isInk m (spotOf g i o)
 unfolding planeOf
 plane-inside g m i o a b = rw (lt-ltb i (g .inner) a, lt-ltb o (g .outer) b)
 
@@ -150,19 +152,19 @@ pub plane-below : (g : Sweep) (m : List ℕ) (i o : ℕ) → g .outer ≤ o → 
 unfolding planeOf
 plane-below g m i o a = rw (le-ltb o (g .outer) a) (and-off (ltb i (g .inner)))
   where
-    and-off : (b : Bool) → (b && false && ltb 0 (getD m (spotOf g i o) 0)) ≡ false
+    and-off : (b : Bool) → (b && false && isInk m (spotOf g i o)) ≡ false
     and-off true = refl
     and-off false = refl
 
-pub widened-past : (g : Sweep) (m : List ℕ) (o i : ℕ) → g .inner ≤ i → widenedLine g m o i ≡ false
+pub widened-past : (g : Sweep) (m : List ℕ) (o i : ℕ) → g .inner ≤ i → widenedScanline g m o i ≡ false
 unfolding widened
 widened-past g m o i a = rw (plane-past g m i o a, plane-past g m i (o - 1) a, plane-past g m i (o + 1) a)
 
--- the line before is the first line itself at line 0, and past the last line there is no ink
-pub widened-lines : (g : Sweep) (m : List ℕ) (i o up down : ℕ) → up ≡ o - 1 → (o + 1 < g .outer → down ≡ o + 1) → (g .outer ≤ o + 1 → down ≡ o)
+-- the scanline before is the first scanline itself at scanline 0, and past the last scanline there is no ink
+pub widened-scanlines : (g : Sweep) (m : List ℕ) (i o up down : ℕ) → up ≡ o - 1 → (o + 1 < g .outer → down ≡ o + 1) → (g .outer ≤ o + 1 → down ≡ o)
     → widened (planeOf g m) i o ≡ (planeOf g m i o || planeOf g m i up || planeOf g m i down)
 unfolding widened
-widened-lines g m i o up down a b c = rw a (go (decLt (o + 1) (g .outer)))
+widened-scanlines g m i o up down a b c = rw a (go (decLt (o + 1) (g .outer)))
   where
     absorbed : (x y : Bool) → (x || y || false) ≡ (x || y || x)
     absorbed true y = refl
@@ -191,9 +193,9 @@ back-short q n x r s S B l i y z =
 pub back-starts : (q : ℕ → Bool) (x to s : ℕ) → ScannedBack q x to s → x < s → Starts q s
 back-starts q x to s B l = clear (let e : suc (s - 1) ≡ s = omega arith in ap (behind q) (sym e) ∙ behind-off q (s - 1) (B .stop (s - 1) (omega arith) (omega arith)))
 
-module _ (g : Sweep) (m : List ℕ) (run-min thick-max v o x : ℕ) (S : Starts (widenedLine g m o) x) where
+module _ (g : Sweep) (m : List ℕ) (run-min thick-max v o x : ℕ) (S : Starts (widenedScanline g m o) x) where
   abbrev q : ℕ → Bool
-  q = widenedLine g m o
+  q = widenedScanline g m o
 
   abbrev ruling : Plane
   ruling = isRuling g m run-min thick-max
@@ -224,7 +226,7 @@ module _ (g : Sweep) (m : List ℕ) (run-min thick-max v o x : ℕ) (S : Starts 
         starts = blank off;
         marked =
             marked-ext g (length m) ruling (isThin g m thick-max) v a b (o * g .inner + x) (o * g .inner + e)
-            (λ i j li lj y z. let w = count-line (g .inner) o x e i j (E .high) li y z in ap (isThin g m thick-max i) (w .0) ∙ (long-ruling i (long i (w .1) (w .2)) ∙ ap (ruling i) (sym (w .0)))) A;
+            (λ i j li lj y z. let w = count-scanline (g .inner) o x e i j (E .high) li y z in ap (isThin g m thick-max i) (w .0) ∙ (long-ruling i (long i (w .1) (w .2)) ∙ ap (ruling i) (sym (w .0)))) A;
       }
     where
       off : q e ≡ false
@@ -252,14 +254,14 @@ module _ (g : Sweep) (m : List ℕ) (run-min thick-max v o x : ℕ) (S : Starts 
         starts = back-starts q x (x + run-min) s B l;
         marked =
             marked-none g (length m) ruling v a (o * g .inner + x) (o * g .inner + s)
-            (λ i j li lj y z. let k = B .high in let w = count-line (g .inner) o x s i j (omega arith) li y z in ap (ruling i) (w .0) ∙ short-ruling i (back-short q (g .inner) x run-min s S B l i (w .1) (w .2)));
+            (λ i j li lj y z. let k = B .high in let w = count-scanline (g .inner) o x s i j (omega arith) li y z in ap (ruling i) (w .0) ∙ short-ruling i (back-short q (g .inner) x run-min s S B l i (w .1) (w .2)));
       }
 
-  -- nor where less than run-min is left of the line
+  -- nor where less than run-min is left of the scanline
   pub marked-rest : (a : List ℕ) → x ≤ g .inner → g .inner < x + run-min → Marked g (length m) ruling v a a (o * g .inner + x) (o * g .inner + g .inner)
   marked-rest a h l =
       marked-none g (length m) ruling v a (o * g .inner + x) (o * g .inner + g .inner)
-      (λ i j li lj y z. let w = count-line (g .inner) o x (g .inner) i j (le-refl (g .inner)) li y z in
+      (λ i j li lj y z. let w = count-scanline (g .inner) o x (g .inner) i j (le-refl (g .inner)) li y z in
       ap (ruling i) (w .0)
       ∙ short-ruling i (let r = runThrough-last q (g .inner) x i S (widened-past g m o (g .inner) (le-refl (g .inner))) (w .1) li in omega arith))
 
@@ -312,7 +314,7 @@ module _ (g : Sweep) (m : List ℕ) (i o s e : ℕ) (on : planeOf g m i o ≡ tr
           getD-set-other (set cache i e) (g .inner + i) (g .inner + j) r 0 (λ x. d (omega arith))
           ∙ (getD-set-other cache i (g .inner + j) e 0 (λ x. omega arith) ∙ C .told j q lj h (omega arith))
 
--- what is kept holds for later lines too
+-- what is kept holds for later scanlines too
 pub cached-later : (g : Sweep) (m : List ℕ) (o q : ℕ) (cache : List ℕ) → o ≤ q → Cached g m o cache → Cached g m q cache
 cached-later g m o q cache h C = record { room = C .room; told = λ i r l a b. C .told i r l (omega arith) b }
 
@@ -358,25 +360,25 @@ run-loop g n p v a b e from i o L h li lo room A z =
     marked-trans g n p v a b e (o * g .inner + from) (o * g .inner + i) (o * g .inner + (i + 1)) (omega arith) (omega arith) A
     (marked-dot g n L p v b e i o li lo (let s = A .size in omega arith) z)
 
--- one turn more along a line
-pub line-loop : (g : Sweep) (m : List ℕ) (run-min thick-max v o x r : ℕ) (a b e : List ℕ)
+-- one step more along a scanline
+pub scanline-loop : (g : Sweep) (m : List ℕ) (run-min thick-max v o x r : ℕ) (a b e : List ℕ)
     → Marked g (length m) (isRuling g m run-min thick-max) v a b (o * g .inner) (o * g .inner + x) → Walked g m run-min thick-max v o x r b e
     → Marked g (length m) (isRuling g m run-min thick-max) v a e (o * g .inner) (o * g .inner + r)
-line-loop g m run-min thick-max v o x r a b e A W =
+scanline-loop g m run-min thick-max v o x r a b e A W =
     marked-trans g (length m) (isRuling g m run-min thick-max) v a b e (o * g .inner) (o * g .inner + x) (o * g .inner + r) (omega arith) (let f = W .further in omega arith) A (W .marked)
 
 -- the rest of it
-pub line-end : (g : Sweep) (m : List ℕ) (run-min thick-max v o x : ℕ) (a b : List ℕ) → Starts (widenedLine g m o) x → x ≤ g .inner → g .inner < x + run-min
+pub scanline-end : (g : Sweep) (m : List ℕ) (run-min thick-max v o x : ℕ) (a b : List ℕ) → Starts (widenedScanline g m o) x → x ≤ g .inner → g .inner < x + run-min
     → Marked g (length m) (isRuling g m run-min thick-max) v a b (o * g .inner) (o * g .inner + x)
     → Marked g (length m) (isRuling g m run-min thick-max) v a b (o * g .inner) (o * g .inner + g .inner)
-line-end g m run-min thick-max v o x a b S h l A =
+scanline-end g m run-min thick-max v o x a b S h l A =
     marked-trans g (length m) (isRuling g m run-min thick-max) v a b b (o * g .inner) (o * g .inner + x) (o * g .inner + g .inner) (omega arith) (omega arith) A
     (marked-rest g m run-min thick-max v o x S b h l)
 
--- one line more
-pub lines-loop : (g : Sweep) (n : ℕ) (p : Plane) (v o : ℕ) (a b e : List ℕ) → Marked g n p v a b 0 (o * g .inner)
+-- one scanline more
+pub scanlines-loop : (g : Sweep) (n : ℕ) (p : Plane) (v o : ℕ) (a b e : List ℕ) → Marked g n p v a b 0 (o * g .inner)
     → Marked g n p v b e (o * g .inner) (o * g .inner + g .inner) → Marked g n p v a e 0 ((o + 1) * g .inner)
-lines-loop g n p v o a b e A B =
+scanlines-loop g n p v o a b e A B =
     subst (λ k. Marked g n p v a e 0 k) (row-next (g .inner) o)
     (marked-trans g n p v a b e 0 (o * g .inner) (o * g .inner + g .inner) (omega arith) (omega arith) A B)
 
@@ -422,8 +424,7 @@ unmarked true v k e = absurd (omega arith)
 unmarked false v k e = refl
 
 module _ (run-min thick-max w h : ℕ) (m : List ℕ) (wide : 0 < w) (size : length m ≡ w * h) where
-  ink-past-rows : (x y : ℕ) → x < w → h ≤ y → ltb 0 (getD m (y * w + x) 0) ≡ false
-  unfolding isInk
+  ink-past-rows : (x y : ℕ) → x < w → h ≤ y → isInk m (y * w + x) ≡ false
   ink-past-rows x y l k = ink-past m (y * w + x) (let a : h * w ≤ y * w = mul-le-mul-right w k in let b = mul-comm h w in omega arith)
 
   plane-across : (i o : ℕ) → planeOf (sweepAcross w h) m i o ≡ inkAt w m i o
@@ -433,8 +434,8 @@ module _ (run-min thick-max w h : ℕ) (m : List ℕ) (wide : 0 < w) (size : len
       z : o * w + i * 1 ≡ o * w + i
       z = omega arith
 
-      go : Dec (i < w) → Dec (o < h) → (ltb i w && ltb o h && ltb 0 (getD m (o * w + i * 1) 0)) ≡ (ltb i w && ltb 0 (getD m (o * w + i) 0))
-      go (yes a) (yes b) = rw (lt-ltb i w a, lt-ltb o h b) (ap (λ k. ltb 0 (getD m k 0)) z)
+      go : Dec (i < w) → Dec (o < h) → (ltb i w && ltb o h && isInk m (o * w + i * 1)) ≡ (ltb i w && isInk m (o * w + i))
+      go (yes a) (yes b) = rw (lt-ltb i w a, lt-ltb o h b) (ap (isInk m) z)
       go (yes a) (no b) = rw (lt-ltb i w a, le-ltb o h (omega arith), ink-past-rows i o a (omega arith))
       go (no a) b = rw (le-ltb i w (omega arith))
 
@@ -445,8 +446,8 @@ module _ (run-min thick-max w h : ℕ) (m : List ℕ) (wide : 0 < w) (size : len
       z : o * 1 + i * w ≡ i * w + o
       z = omega arith
 
-      go : Dec (o < w) → Dec (i < h) → (ltb i h && ltb o w && ltb 0 (getD m (o * 1 + i * w) 0)) ≡ (ltb o w && ltb 0 (getD m (i * w + o) 0))
-      go (yes a) (yes b) = rw (lt-ltb i h b, lt-ltb o w a) (ap (λ k. ltb 0 (getD m k 0)) z)
+      go : Dec (o < w) → Dec (i < h) → (ltb i h && ltb o w && isInk m (o * 1 + i * w)) ≡ (ltb o w && isInk m (i * w + o))
+      go (yes a) (yes b) = rw (lt-ltb i h b, lt-ltb o w a) (ap (isInk m) z)
       go (yes a) (no b) = rw (le-ltb i h (omega arith), lt-ltb o w a, ink-past-rows o i a (omega arith))
       go (no a) (yes b) = rw (lt-ltb i h b, le-ltb o w (omega arith))
       go (no a) (no b) = rw (le-ltb i h (omega arith), le-ltb o w (omega arith))
@@ -525,15 +526,16 @@ pub record Cleared (marks n : ℕ) (s t : List ℕ) : Type 0 where
   pub past : (k : ℕ) → n ≤ k → getD (drop marks t) k 0 ≡ getD (drop marks s) k 0
 
 pub marks-cleared : (marks area n : ℕ) (s t : List ℕ) → area ≡ n → n ≤ length s - marks → marks ≤ length s
-    → t ≡ replicate (length (take (marks + area - marks) (drop marks s))) 0 → Cleared marks n s (putMid marks (marks + area - marks) s t)
+    → t ≡ table (λ _. 0) (length (take (marks + area - marks) (drop marks s))) → Cleared marks n s (putMid marks (marks + area - marks) s t)
 marks-cleared marks area n s t q l b h =
-    let f = part-filled marks (marks + area) 0 s t (omega arith) (omega arith) h in
+    let f = stored-filled 0 marks (marks + area) s t (omega arith) (omega arith) h in
+    let z = f .within .len in
     let x = length-drop marks s in
     let y = length-drop marks (putMid marks (marks + area - marks) s t) in
     record {
-      size = f .0;
-      room = omega (arith, f .0);
-      behind = omega (arith, f .0);
-      zeros = λ k c. getD-drop marks (putMid marks (marks + area - marks) s t) k 0 ∙ f .1 (marks + k) (omega arith) (omega arith);
-      past = λ k c. getD-drop marks (putMid marks (marks + area - marks) s t) k 0 ∙ (f .2 (marks + k) (omega arith) ∙ sym (getD-drop marks s k 0));
+      size = z;
+      room = omega arith;
+      behind = omega arith;
+      zeros = λ k c. getD-drop marks (putMid marks (marks + area - marks) s t) k 0 ∙ stored-at f (marks + k) (omega arith) (omega arith);
+      past = λ k c. getD-drop marks (putMid marks (marks + area - marks) s t) k 0 ∙ (f .within .past (marks + k) (omega arith) ∙ sym (getD-drop marks s k 0));
     }

@@ -1,23 +1,27 @@
 // Thin rulings down the columns, row by row: the dots of a row lie side by side, those of a column a row apart. A counter a column
-// holds the length of the widened run that ends in this row.
+// holds the length of the widened run that ends in this row; where it reaches the least length all of its run so far is cut, and after that
+// the row's own dot. Columns are probed a strip of 64 at a time. Strips that follow one another and have a long run each are walked together:
+// narrow strips would leave fast memory before their next row is read. Whether a dot is thin is looked up beside it, no further than the
+// greatest thickness.
 ghost use mathlib.Core.Path.{_≡_};
 ghost use mathlib.Core.Bool.{cond, true, false, _||_};
 ghost use Prim.Native.Nat.{ℕ, _+_, _*_, _-_, _≤_, _<_, min};
 ghost use lib.ListN.{length, getD, set, take, drop};
 ghost use lib.Dec.{ltb};
 ghost use Rattle.extents.specs.rules.Extents.{behind, ahead, runThrough};
-ghost use Rattle.rulings.specs.stages.Sweeps.{spotOf, planeOf, widenedLine, isThin, isRuling, Laid, Marked, UpTo, Counted, CountedOn, Recounted, Risen};
-use crate::lines::Sweep;
-use crate::lines::Walk;
-use crate::lines::is_ink;
-use crate::lines::is_widened;
-use crate::lines::run_start;
-use crate::lines::spot;
-use extents::fill;
-use extents::stretch_end;
-use memory::smaller;
+ghost use Rattle.rulings.specs.stages.Sweeps.{spotOf, planeOf, widenedScanline, isThin, isRuling, Laid, Marked, UpTo, Counted, CountedOn, Recounted, Risen};
+use crate::scanlines::Sweep;
+use crate::scanlines::Walk;
+use crate::scanlines::is_ink;
+use crate::scanlines::is_widened;
+use crate::scanlines::run_start;
+use crate::scanlines::spot;
+use extents::chunk_end;
+use memory::MAX_EXTENT;
+use memory::fill_words;
+use memory::min_usize;
 
-// Down every column, some stretches of columns at a time. Answers whether a dot was marked.
+// Down every column, some strips of columns at a time. Answers whether a dot was marked.
 pub fn mark_columns(
     ink: &[u8],
     words: &mut [u32],
@@ -33,16 +37,16 @@ pub fn mark_columns(
     let mut found = false;
     let mut a: usize = 0;
     while a < outer {
-        let walk = mark_stretches(ink, words, marks, g, a, run_min, thick_max);
+        let walk = mark_strips(ink, words, marks, g, a, run_min, thick_max);
         a = walk.to;
         found = found | walk.found;
     }
     found
 }
 
-// The stretch from column a on, and those behind it that have a long run as it has: their rows are walked at once, dot after dot.
-// Without a long run no row is walked. Answers where the next stretch starts, and whether a dot was marked.
-fn mark_stretches(
+// The strip from column a on, and those behind it that have a long run as it has: their rows are walked at once, dot after dot.
+// Without a long run no row is walked. Answers where the next strip starts, and whether a dot was marked.
+fn mark_strips(
     ink: &[u8],
     words: &mut [u32],
     marks: usize,
@@ -55,7 +59,7 @@ fn mark_stretches(
     ensures { λ r. ⌜ (a < r .to) × (r .to ≤ g .outer) × (Risen g (now (ink .entry)) «run_min» «thick_max» a (r .to) 0 (g .inner) (drop marks (now (words .entry))) (drop marks (now (words .exit)))) × (r .found ≡ false → drop marks (now (words .exit)) ≡ drop marks (now (words .entry))) ⌝ }
 {
     let least = run_min as usize;
-    let b = stretch_end(a, g.outer);
+    let b = chunk_end(a, g.outer);
     if !any_long_run(ink, g, a, b, least) {
         return Walk {
             to: b,
@@ -67,7 +71,7 @@ fn mark_stretches(
     Walk { to: end, found }
 }
 
-// Where the stretches from column `from` on end that have a long run each.
+// Where the strips from column `from` on end that have a long run each.
 fn long_end(ink: &[u8], g: Sweep, from: usize, run_min: usize) -> usize
     requires { ⌜ (Laid g (length (now ink))) × (from ≤ g .outer) × (0 < «run_min») × («run_min» ≤ 4294967295) ⌝ }
     ensures { λ r. ⌜ (from ≤ r) × (r ≤ g .outer) ⌝ }
@@ -75,7 +79,7 @@ fn long_end(ink: &[u8], g: Sweep, from: usize, run_min: usize) -> usize
     let outer = g.outer;
     let mut b = from;
     while b < outer {
-        let next = stretch_end(b, outer);
+        let next = chunk_end(b, outer);
         if !any_long_run(ink, g, b, next, run_min) {
             return b;
         }
@@ -99,7 +103,7 @@ fn mark_rows(
     ensures { λ r. ⌜ (Risen g (now (ink .entry)) «run_min» «thick_max» a b 0 (g .inner) (drop marks (now (words .entry))) (drop marks (now (words .exit)))) × (r ≡ false → drop marks (now (words .exit)) ≡ drop marks (now (words .entry))) ⌝ }
 {
     let inner = g.inner;
-    fill(&mut words[a..b], 0);
+    fill_words(&mut words[a..b], 0);
     let mut found = false;
     let mut y: usize = 0;
     while y < inner {
@@ -168,12 +172,12 @@ fn mark_place(
     run_min: u32,
     thick_max: u32,
 ) -> bool
-    requires { ⌜ (Laid g (length (now ink))) × (o < g .outer) × (y < g .inner) × (0 < «run_min») × (UpTo g (length (now ink)) (drop marks (now words)) 8) × (getD (now words) o 0 ≡ behind (widenedLine g (now ink) o) (y + 1)) × (g .outer ≤ marks) × (marks ≤ length (now words)) ⌝ }
+    requires { ⌜ (Laid g (length (now ink))) × (o < g .outer) × (y < g .inner) × (0 < «run_min») × (UpTo g (length (now ink)) (drop marks (now words)) 8) × (getD (now words) o 0 ≡ behind (widenedScanline g (now ink) o) (y + 1)) × (g .outer ≤ marks) × (marks ≤ length (now words)) ⌝ }
     ensures { λ r. ⌜ (Risen g (now (ink .entry)) «run_min» «thick_max» o (o + 1) y (y + 1) (drop marks (now (words .entry))) (drop marks (now (words .exit)))) × (take marks (now (words .exit)) ≡ take marks (now (words .entry))) × (r ≡ false → drop marks (now (words .exit)) ≡ drop marks (now (words .entry))) ⌝ }
 {
     let since = words[o];
     if run_min < since {
-        return cut_places(ink, words, marks, g, o, y, y + 1, thick_max);
+        return cut_place(ink, words, marks, g, y, o, thick_max);
     }
     if since == run_min {
         let from = y + 1 - run_min as usize;
@@ -235,7 +239,7 @@ fn is_thin(ink: &[u8], g: Sweep, i: usize, o: usize, thick_max: u32) -> bool
     if !is_ink(ink, g, i, o) {
         return false;
     }
-    if 65534 <= thick_max {
+    if MAX_EXTENT <= thick_max {
         return true;
     }
     let most = thick_max as usize;
@@ -246,12 +250,12 @@ fn is_thin(ink: &[u8], g: Sweep, i: usize, o: usize, thick_max: u32) -> bool
     ink_after(ink, g, i, o + 1, most - before) < most - before
 }
 
-// How many ink dots in a row end before line o at place i, of at most `most`.
+// How many ink dots in a row end before scanline o at place i, of at most `most`.
 fn ink_before(ink: &[u8], g: Sweep, i: usize, o: usize, most: usize) -> usize
     requires { ⌜ (Laid g (length (now ink))) × (i < g .inner) × (o < g .outer) ⌝ }
     ensures { λ r. ⌜ r ≡ min (behind (planeOf g (now (ink .entry)) i) o) most ⌝ }
 {
-    let end = smaller(most, o);
+    let end = min_usize(most, o);
     let mut n: usize = 0;
     while n < end {
         if !is_ink(ink, g, i, o - 1 - n) {
@@ -262,12 +266,12 @@ fn ink_before(ink: &[u8], g: Sweep, i: usize, o: usize, most: usize) -> usize
     n
 }
 
-// How many in a row from line o on, of at most `most`.
+// How many in a row from scanline o on, of at most `most`.
 fn ink_after(ink: &[u8], g: Sweep, i: usize, o: usize, most: usize) -> usize
     requires { ⌜ (Laid g (length (now ink))) × (i < g .inner) × (o ≤ g .outer) ⌝ }
     ensures { λ r. ⌜ r ≡ min (ahead (planeOf g (now (ink .entry)) i) o (g .outer - o)) most ⌝ }
 {
-    let end = smaller(most, g.outer - o);
+    let end = min_usize(most, g.outer - o);
     let mut n: usize = 0;
     while n < end {
         if !is_ink(ink, g, i, o + n) {
@@ -292,7 +296,7 @@ fn any_reached(words: &[u32], a: usize, b: usize, run_min: u32) -> bool
     found
 }
 
-// The counters of a stretch in row y; those at its ends may lie at the edge of the plane.
+// The counters of a strip in row y; those at its ends may lie at the edge of the plane.
 fn count_row(ink: &[u8], words: &mut [u32], g: Sweep, a: usize, b: usize, y: usize)
     requires { ⌜ (Laid g (length (now ink))) × (g .across ≡ 1) × (a < b) × (b ≤ g .outer) × (y < g .inner) × (Counted g (now ink) a b y (now words)) × (b ≤ length (now words)) ⌝ }
     ensures { λ _. ⌜ Recounted g (now (ink .entry)) a b y (now (words .entry)) (now (words .exit)) ⌝ }
@@ -334,10 +338,10 @@ fn count_on(dot: u8, left: u8, right: u8, since: u32) -> u32
     on * (since + 1)
 }
 
-// Whether a column of the stretch has a run of at least run_min.
+// Whether a column of the strip has a run of at least run_min.
 fn any_long_run(ink: &[u8], g: Sweep, a: usize, b: usize, run_min: usize) -> bool
     requires { ⌜ (Laid g (length (now ink))) × (a ≤ b) × (b ≤ g .outer) × (0 < «run_min») × («run_min» ≤ 4294967295) ⌝ }
-    ensures { λ r. ⌜ (r ≡ false → (o i : ℕ) → a ≤ o → o < b → i < g .inner → runThrough (widenedLine g (now (ink .entry)) o) (g .inner) i < «run_min») ⌝ }
+    ensures { λ r. ⌜ (r ≡ false → (o i : ℕ) → a ≤ o → o < b → i < g .inner → runThrough (widenedScanline g (now (ink .entry)) o) (g .inner) i < «run_min») ⌝ }
 {
     let mut o = a;
     while o < b {
@@ -352,7 +356,7 @@ fn any_long_run(ink: &[u8], g: Sweep, a: usize, b: usize, run_min: usize) -> boo
 // A run of at least run_min from x on covers the place run_min - 1 further, so that few places of most columns are looked at.
 fn has_long_run(ink: &[u8], g: Sweep, o: usize, run_min: usize) -> bool
     requires { ⌜ (Laid g (length (now ink))) × (o < g .outer) × (0 < «run_min») × («run_min» ≤ 4294967295) ⌝ }
-    ensures { λ r. ⌜ (r ≡ false → (i : ℕ) → i < g .inner → runThrough (widenedLine g (now (ink .entry)) o) (g .inner) i < «run_min») ⌝ }
+    ensures { λ r. ⌜ (r ≡ false → (i : ℕ) → i < g .inner → runThrough (widenedScanline g (now (ink .entry)) o) (g .inner) i < «run_min») ⌝ }
 {
     let inner = g.inner;
     let mut x: usize = 0;

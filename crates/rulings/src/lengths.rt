@@ -4,8 +4,8 @@ ghost use lib.ListN.{length};
 ghost use Rattle.rulings.specs.rules.Rulings.{runMin, thickMax};
 ghost use Rattle.rulings.specs.stages.Marks.{RulingsMarked};
 ghost use Rattle.rulings.specs.stages.Sweeps.{RulingsRoom};
-use crate::lines::Found;
-use crate::lines::mark_rulings;
+use crate::scanlines::Found;
+use crate::scanlines::mark_rulings;
 use params::LayoutParams;
 use rounding::round_to_u32;
 

@@ -21,7 +21,7 @@ use Rattle.store.specs.rules.Readings.ResultReading.{figures, summary, list, tw
 use Rattle.store.specs.rules.Outcomes.{Left, left, levelLeft, segmentLeft, clearLeft, Told, told, levelTold, resultTold}
 use Rattle.account.specs.rules.Calls.{Act, world, call, says}
 use Rattle.account.specs.rules.Calls.Act.{level, segment, clear, readLevel, readResult}
-use Rattle.scripts.specs.rules.Scripts.{Outputs, outputs, Memory, memory, opAt, storeAt, inkAt, kindsAt, scratchAt, outAt, widthAt, heightAt, capacityAt, kindAt, leftAt, topAt, turnsAt, cut, lentOf, bytesOf, numberAt, sheetFrom, boxOf, leafFrom, listNamed, levelReading, wordsReading, resultReading, lentBy, actOf, fillsBytes, putBack, stepped}
+use Rattle.scripts.specs.rules.Scripts.{Outputs, outputs, Memory, memory, opAt, storeAt, inkAt, kindsAt, scratchAt, outAt, widthAt, heightAt, capacityAt, kindAt, leftAt, topAt, turnsAt, cut, lentOf, bytesOf, numberAt, sheetFrom, boxFrom, leafFrom, listNamed, levelReading, wordsReading, resultReading, lentBy, actOf, fillsBytes, putBack, stepped}
 use Rattle.scripts.specs.stages.Playing.{leftBack, Filled, Did}
 
 -- ---- front parts
@@ -124,7 +124,7 @@ module _ (w bs s ws gs : List ℕ) (is : List ℤ) where
   unfolding levelReading
   is-point z o = simp (eq-eqb (wordAt w opAt) 3 z)
 
-  is-box : (wordAt w opAt ≡ 3 → ⊥) → wordAt w opAt ≡ 4 → (o : Outputs) → levelReading w bs o ≡ box (boxOf w) (lentOf w outAt (o .integers))
+  is-box : (wordAt w opAt ≡ 3 → ⊥) → wordAt w opAt ≡ 4 → (o : Outputs) → levelReading w bs o ≡ box (boxFrom w) (lentOf w outAt (o .integers))
   unfolding levelReading
   is-box y z o = simp (ne-eqb (wordAt w opAt) 3 y, eq-eqb (wordAt w opAt) 4 z)
 
@@ -148,7 +148,7 @@ module _ (w bs s ws gs : List ℕ) (is : List ℤ) where
         read-as _ ns (is-point (sym eo ∙ z) (outputs ws gs is ns))
         (filled-integers false _ r 0 n ws gs is ns out (h ∙ (λ j. levelTold (point (ex j) (ey j) (take (en j) is)) s)) (long ∙ sym (part-long (wordAt w outAt) n is en)))
 
-    pub read-box : (op ≡ 3 → ⊥) → op ≡ 4 → n ≡ cut w outAt is → {b : Rect} → b ≡ boxOf w
+    pub read-box : (op ≡ 3 → ⊥) → op ≡ 4 → n ≡ cut w outAt is → {b : Rect} → b ≡ boxFrom w
         → {out : List ℤ} → told r 0 (integers out) ≡ levelTold (box b (take n is)) s → length out ≡ length (take n is) → LevelRead r ws gs (out ++ drop n is)
     read-box y z en eb {out} h long ns =
         read-as _ ns (is-box (λ q. y (eo ∙ q)) (sym eo ∙ z) (outputs ws gs is ns))
@@ -199,11 +199,11 @@ module _ (w out s i k : List ℕ) {op : ℕ} (eo : op ≡ wordAt w opAt) {a b n 
   unfolding wordsReading
   words-figures z h = words-as (figures out) (simp (eq-eqb (wordAt w opAt) 7 (sym eo ∙ z))) h
 
-  pub words-dots : (op ≡ 7 → ⊥) → op ≡ 11 → {kind : ℕ} → kind ≡ wordAt w kindAt → {r : Rect} → r ≡ boxOf w
+  pub words-dots : (op ≡ 7 → ⊥) → op ≡ 11 → {kind : ℕ} → kind ≡ wordAt w kindAt → {r : Rect} → r ≡ boxFrom w
       → told n v (words x) ≡ resultTold (dots kind r out) s i k → told a b (words x) ≡ resultTold (wordsReading w out) s i k
   unfolding wordsReading
   words-dots y z ek er h =
-      words-as (dots (wordAt w kindAt) (boxOf w) out) (simp (ne-eqb (wordAt w opAt) 7 (λ (q : wordAt w opAt ≡ 7). y (eo ∙ q)), eq-eqb (wordAt w opAt) 11 (sym eo ∙ z)))
+      words-as (dots (wordAt w kindAt) (boxFrom w) out) (simp (ne-eqb (wordAt w opAt) 7 (λ (q : wordAt w opAt ≡ 7). y (eo ∙ q)), eq-eqb (wordAt w opAt) 11 (sym eo ∙ z)))
       (h ∙ (λ j. resultTold (dots (ek j) (er j) out) s i k))
 
   pub words-list : (op ≡ 7 → ⊥) → (op ≡ 11 → ⊥)
@@ -229,7 +229,7 @@ module _ (w s i k ws gs : List ℕ) (ns : List Float) where
   unfolding resultReading
   is-twenty y z o = simp (ne-eqb (wordAt w opAt) 8 y, eq-eqb (wordAt w opAt) 9 z)
 
-  is-count : (wordAt w opAt ≡ 8 → ⊥) → (wordAt w opAt ≡ 9 → ⊥) → wordAt w opAt ≡ 10 → (o : Outputs) → resultReading w o ≡ countDots (wordAt w kindAt) (boxOf w)
+  is-count : (wordAt w opAt ≡ 8 → ⊥) → (wordAt w opAt ≡ 9 → ⊥) → wordAt w opAt ≡ 10 → (o : Outputs) → resultReading w o ≡ countDots (wordAt w kindAt) (boxFrom w)
   unfolding resultReading
   is-count y x z o = simp (ne-eqb (wordAt w opAt) 8 y, ne-eqb (wordAt w opAt) 9 x, eq-eqb (wordAt w opAt) 10 z)
 
@@ -247,7 +247,7 @@ module _ (w s i k ws gs : List ℕ) (ns : List Float) where
   unfolding wordsReading
   words-only out = go (eqb (wordAt w opAt) 7) (eqb (wordAt w opAt) 11)
     where
-      go : (b c : Bool) → fillsBytes (readResult (cond b (figures out) (cond c (dots (wordAt w kindAt) (boxOf w) out) (list (listNamed (wordAt w opAt)) out)))) ≡ false
+      go : (b c : Bool) → fillsBytes (readResult (cond b (figures out) (cond c (dots (wordAt w kindAt) (boxFrom w) out) (list (listNamed (wordAt w opAt)) out)))) ≡ false
       go true c = refl
       go false true = refl
       go false false = refl
@@ -269,7 +269,7 @@ module _ (w s i k ws gs : List ℕ) (ns : List Float) where
         result-as _ is (is-twenty (λ q. y (eo ∙ q)) (sym eo ∙ z) (outputs ws gs is ns))
         (filled-none false _ a b 0 ws gs is ns ((λ j. told (ea j) (eb j) none) ∙ h))
 
-    pub read-count : (op ≡ 8 → ⊥) → (op ≡ 9 → ⊥) → op ≡ 10 → {kind : ℕ} → kind ≡ wordAt w kindAt → {x : Rect} → x ≡ boxOf w
+    pub read-count : (op ≡ 8 → ⊥) → (op ≡ 9 → ⊥) → op ≡ 10 → {kind : ℕ} → kind ≡ wordAt w kindAt → {x : Rect} → x ≡ boxFrom w
         → told r v none ≡ resultTold (countDots kind x) s i k → ResultRead a b ws gs ns
     read-count y x z ek er h is =
         result-as _ is (is-count (λ q. y (eo ∙ q)) (λ q. x (eo ∙ q)) (sym eo ∙ z) (outputs ws gs is ns))
@@ -348,15 +348,20 @@ module _ (fs : List Float) (bs : List ℕ) (x : ℕ) (w s i k : List ℕ) (o : O
         (ea ∙ ap (λ (u : Left). u .number) g, eb, λ j. memory (world (g j .store) (sym (part-back (wordAt w inkAt) i) j) (sym (part-back (wordAt w kindsAt) k) j)) o)
 
   pub did-read-result : (op ≡ 1 → ⊥) → (op ≡ 2 → ⊥) → (leb 3 op && leb op 6) ≡ false → (leb 7 op && leb op 18) ≡ true
-      → {n m l : ℕ} → n ≡ cut w storeAt s → m ≡ cut w inkAt i → l ≡ cut w kindsAt k → {a b : ℕ} {o' : Outputs}
-      → Filled (fillsBytes (readResult (resultReading w o))) (resultTold (resultReading w o) (take n s) (take m i) (take l k)) a b o o' → Did fs bs x w (memory (world s i k) o) a b (memory (world s i k) o')
+      → {n : ℕ} → n ≡ cut w storeAt s → {a b : ℕ} {o' : Outputs}
+      → Filled (fillsBytes (readResult (resultReading w o))) (resultTold (resultReading w o) (take n s) (lentOf w inkAt i) (lentOf w kindsAt k)) a b o o' → Did fs bs x w (memory (world s i k) o) a b (memory (world s i k) o')
   unfolding actOf
-  did-read-result y z t u {n} {m} {l} en em el F =
-      let e : resultTold (resultReading w o) (take n s) (take m i) (take l k) ≡ resultTold (resultReading w o) (lentOf w storeAt s) (lentOf w inkAt i) (lentOf w kindsAt k) =
-      (λ j. resultTold (resultReading w o) (take (en j) s) (take (em j) i) (take (el j) k)) in
+  did-read-result y z t u {n} en F =
+      let e : resultTold (resultReading w o) (take n s) (lentOf w inkAt i) (lentOf w kindsAt k) ≡ resultTold (resultReading w o) (lentOf w storeAt s) (lentOf w inkAt i) (lentOf w kindsAt k) =
+      (λ j. resultTold (resultReading w o) (take (en j) s) (lentOf w inkAt i) (lentOf w kindsAt k)) in
       did-as (readResult (resultReading w o))
       (simp (ne-eqb (wordAt w opAt) 1 (not-here y), ne-eqb (wordAt w opAt) 2 (not-here z), test-here (λ (n : ℕ). leb 3 n && leb n 6) t, test-here (λ (n : ℕ). leb 7 n && leb n 18) u)) (
         F .number ∙ ap (λ (z : Told). z .number) e,
         F .value ∙ ap (λ (z : Told). z .value) e,
         λ j. memory (world (sym (part-back (wordAt w storeAt) s) j) (sym (part-back (wordAt w inkAt) i) j) (sym (part-back (wordAt w kindsAt) k) j)) ((F .outputs ∙ ap (λ (z : Told). putBack (z .output) (fillsBytes (readResult (resultReading w o))) o) e) j),
       )
+
+-- a reading of results told by the parts of the planes that are cut out is told by those that are lent
+pub lent-planes : (w s i k : List ℕ) (m l : ℕ) → m ≡ cut w inkAt i → l ≡ cut w kindsAt k → (r : ResultReading) {g : Bool} {a b : ℕ} {o o' : Outputs}
+    → Filled g (resultTold r s (take m i) (take l k)) a b o o' → Filled g (resultTold r s (lentOf w inkAt i) (lentOf w kindsAt k)) a b o o'
+lent-planes w s i k m l em el r {g} {a} {b} {o} {o'} F = subst (λ (t : Told). Filled g t a b o o') (λ j. resultTold r s (take (em j) i) (take (el j) k)) F

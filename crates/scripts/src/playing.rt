@@ -13,7 +13,7 @@ ghost use Rattle.store.specs.rules.Outcomes.{left, levelLeft, segmentLeft, told
 ghost use Rattle.account.specs.rules.Calls.{Act, world};
 ghost use Rattle.scripts.specs.rules.Scripts.{scriptOf, outputs, memory, callWords, storeAt, inkAt, kindsAt, scratchAt, wordsOf, lentOf, sheetFrom, leafFrom, listNamed, levelReading, wordsReading, resultReading, fillsBytes, Played};
 ghost use Rattle.scripts.specs.stages.Playing.{leftBack, Filled, Did};
-use crate::script::box_of;
+use crate::script::box_from;
 use crate::script::bytes_of;
 use crate::script::cut;
 use crate::script::float_at;
@@ -32,7 +32,7 @@ use crate::words::STORE;
 use crate::words::TOP;
 use crate::words::TURNS;
 use crate::words::WIDTH;
-use memory::smaller;
+use memory::min_usize;
 use memory::word_at;
 use store::Answer;
 use store::Outcome;
@@ -209,7 +209,7 @@ fn read_level(
     }
     if op == RECT_TO_PAGE {
         let n = cut(call, OUT, integers.len());
-        return rect_to_page(store, box_of(call), &mut integers[..n]);
+        return rect_to_page(store, box_from(call), &mut integers[..n]);
     }
     if op == LEVEL_GRAY {
         let n = cut(call, OUT, gray.len());
@@ -251,7 +251,7 @@ fn read_words(call: &[u32], store: &[u32], ink: &[u8], kinds: &[u8], out: &mut [
     }
     if op == READ_DOTS {
         let kind = word_at(call, KIND);
-        return log_answer(read_dots(store, ink, kinds, kind, box_of(call), out));
+        return log_answer(read_dots(store, ink, kinds, kind, box_from(call), out));
     }
     log_answer(read_list(op, store, ink, kinds, out))
 }
@@ -278,7 +278,7 @@ fn read_results(
     }
     if op == COUNT_DOTS {
         let kind = word_at(call, KIND);
-        return log_answer(count_dots(store, ink, kinds, kind, box_of(call)));
+        return log_answer(count_dots(store, ink, kinds, kind, box_from(call)));
     }
     if op == SHEET {
         let n = cut(call, OUT, gray.len());
@@ -286,6 +286,23 @@ fn read_results(
     }
     let n = cut(call, OUT, words.len());
     read_words(call, store, ink, kinds, &mut words[..n])
+}
+
+// The same on the parts of the planes that the call is lent.
+fn read_planes(
+    call: &[u32],
+    store: &[u32],
+    ink: &[u8],
+    kinds: &[u8],
+    words: &mut [u32],
+    gray: &mut [u8],
+    numbers: &mut [f64],
+) -> Logged
+    ensures { λ r. ⌜ ((is : List ℤ) → Filled (fillsBytes (Act.readResult (resultReading (now (call .entry)) (outputs (now (words .entry)) (now (gray .entry)) is (now (numbers .entry)))))) (resultTold (resultReading (now (call .entry)) (outputs (now (words .entry)) (now (gray .entry)) is (now (numbers .entry)))) (now (store .entry)) (lentOf (now (call .entry)) inkAt (now (ink .entry))) (lentOf (now (call .entry)) kindsAt (now (kinds .entry)))) (r .number) (r .value) (outputs (now (words .entry)) (now (gray .entry)) is (now (numbers .entry))) (outputs (now (words .exit)) (now (gray .exit)) is (now (numbers .exit)))) ⌝ }
+{
+    let m = cut(call, INK, ink.len());
+    let k = cut(call, KINDS, kinds.len());
+    read_results(call, store, &ink[..m], &kinds[..k], words, gray, numbers)
 }
 
 // The call that these words are. What one call does not take, the others have as it was.
@@ -316,17 +333,7 @@ fn perform(
         return log_outcome(read_level(call, bytes, &store[..n], words, gray, integers));
     }
     if (op >= FIGURES) & (op <= SHEET) {
-        let m = cut(call, INK, ink.len());
-        let k = cut(call, KINDS, kinds.len());
-        return read_results(
-            call,
-            &store[..n],
-            &ink[..m],
-            &kinds[..k],
-            words,
-            gray,
-            numbers,
-        );
+        return read_planes(call, &store[..n], ink, kinds, words, gray, numbers);
     }
     log_outcome(clear(&mut store[..n]))
 }
@@ -384,7 +391,7 @@ pub fn play(
 ) -> usize
     ensures { λ r. ⌜ Played (scriptOf (now (script .entry)) (now (floats .entry)) (now (bytes .entry)) (length (now (scratch .entry)))) (memory (world (now (store .entry)) (now (ink .entry)) (now (kinds .entry))) (outputs (now (words .entry)) (now (gray .entry)) (now (integers .entry)) (now (numbers .entry)))) (now (log .entry)) r (memory (world (now (store .exit)) (now (ink .exit)) (now (kinds .exit))) (outputs (now (words .exit)) (now (gray .exit)) (now (integers .exit)) (now (numbers .exit)))) (now (log .exit)) (length (now (scratch .exit))) ⌝ }
 {
-    let n = smaller(script.len() / CALL_WORDS, log.len() / 2);
+    let n = min_usize(script.len() / CALL_WORDS, log.len() / 2);
     let mut i = 0;
     while i < n {
         let r = nth(

@@ -2,7 +2,7 @@
 ghost use mathlib.Core.Path.{_≡_};
 ghost use Prim.Native.Nat.{min};
 ghost use Rattle.memory.specs.rules.Words.{wordAt};
-ghost use Rattle.scripts.specs.rules.Scripts.{numberAt, bytesOf, sheetFrom, boxOf};
+ghost use Rattle.scripts.specs.rules.Scripts.{numberAt, bytesOf, sheetFrom, boxFrom};
 use crate::words::BOTTOM;
 use crate::words::BYTES;
 use crate::words::BYTES_LENGTH;
@@ -14,7 +14,7 @@ use crate::words::SHEET;
 use crate::words::TOP;
 use crate::words::XHEIGHT_AREA;
 use memory::Rect;
-use memory::smaller;
+use memory::min_usize;
 use memory::word_at;
 use params::LayoutParams;
 
@@ -33,7 +33,7 @@ pub fn float_at(floats: &[f64], k: usize) -> f64
 pub fn cut(call: &[u32], k: usize, n: usize) -> usize
     ensures { λ r. ⌜ r ≡ min (wordAt (now (call .entry)) k) n ⌝ }
 {
-    smaller(word_at(call, k) as usize, n)
+    min_usize(word_at(call, k) as usize, n)
 }
 
 // Its bytes, cut to what is there.
@@ -47,8 +47,8 @@ pub fn bytes_of<'a, 'b>(call: &'a [u32], bytes: &'b [u8]) -> &'b [u8]
 }
 
 // Its box.
-pub fn box_of(call: &[u32]) -> Rect
-    ensures { λ r. ⌜ r ≡ boxOf (now (call .entry)) ⌝ }
+pub fn box_from(call: &[u32]) -> Rect
+    ensures { λ r. ⌜ r ≡ boxFrom (now (call .entry)) ⌝ }
 {
     Rect {
         x0: word_at(call, LEFT),

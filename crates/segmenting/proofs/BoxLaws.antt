@@ -18,7 +18,7 @@ use Rattle.memory.proofs.TableLaws.{length-table}
 use Rattle.memory.proofs.PartLaws.{tail-part, over-behind}
 use Rattle.memory.proofs.RecordLaws.{length-encoded, record-more}
 use Rattle.memory.specs.declared.rect.Rect.{Rect}
-use Rattle.segmenting.specs.rules.Results.{boxWords}
+use Rattle.memory.specs.rules.Rects.{boxWords}
 use Rattle.segmenting.specs.stages.Held.{heldBox, heldKind, ofKind, heldBoxes, heldArea, unpackedBox, unpackedBoxes, heldRules}
 use Rattle.memory.proofs.ListLaws.{keep-snoc-yes, keep-snoc-no, upto-suc, map-append, keep-few}
 use Rattle.memory.proofs.PlaceLaws.{count-length, count-below}

@@ -25,25 +25,26 @@ use Rattle.sorting.specs.rules.Kinds.{glyphKind}
 use Rattle.rounding.specs.rules.Lengths.{_·_, dots}
 use Rattle.extents.specs.rules.Extents.{Plane, maskOf}
 use Rattle.rulings.specs.rules.Rulings.{afterCut}
-use Rattle.sorting.specs.stages.Scratch.{horizontalAt, verticalAt, sizesAt, kindsAt, smoothedAt, glyphsAt, inkAfterCut}
+use Rattle.sorting.specs.stages.Scratch.{horizontalAt, verticalAt, sizesAt, kindsAt, smearsAt, glyphsAt, inkAfterCut}
 use Rattle.sorting.specs.rules.Sorted.{sorted, rulesOf, graphicsOf, kindCounts}
 use Rattle.sorting.specs.rules.Units.{unitValue}
-use Rattle.sorting.specs.declared.sort.Sorting.{Sorting}
+use Rattle.sorting.specs.declared.sort.SortCounts.{SortCounts}
 use Rattle.sorting.proofs.PlanLaws.{frame-of, plan-dots, plan-across, plan-down, plan-runs}
 use Rattle.sorting.proofs.ComponentLaws.{areas-ink}
-use Rattle.smoothing.specs.stages.LineWords.{glyphsOf, kindWord, HoldsGlyphs, HoldsRows}
+use Rattle.smoothing.specs.stages.LineWords.{glyphsOf, kindWord, HoldsGlyphs, HoldsSmears}
 use Rattle.grouping.specs.rules.Blocks.{opensBlock, blockOf, blockFirsts, blocksOf}
 use Rattle.grouping.specs.rules.Columns.{cover, covered, columnsOf}
 use Rattle.smoothing.specs.rules.Lines.{LabelledGlyph, firstDot, SmoothedLine, keptLines, glyphBox}
 use Rattle.smoothing.specs.rules.Smoothing.{smoothingGap, smoothed}
-use Rattle.grouping.specs.stages.LineBoxes.{Inside}
+use Rattle.memory.specs.stages.Boxes.{Inside}
 use Rattle.smoothing.specs.rules.LineRecords.{glyphRecord}
-use Rattle.segmenting.specs.rules.Results.{rulesAt, graphicsAt, glyphRecordsAt, boxWords, resultsLeft}
+use Rattle.memory.specs.rules.Rects.{boxWords}
+use Rattle.segmenting.specs.rules.Results.{rulesAt, graphicsAt, glyphRecordsAt, resultsLeft}
 use Rattle.segmenting.specs.stages.Held.{heldArea, KindsHeld, unpackedBoxes}
 use Rattle.segmenting.specs.stages.Painting.{paintedKind, Paintable}
 use Rattle.segmenting.specs.rules.Layouts.{layout, textLine}
-use Rattle.smoothing.specs.stages.Segments.{rowsOf, glyphsIn, linesIn, glyphLabel, HoldsPage}
-use Rattle.smoothing.specs.declared.rows.Rows.{Rows}
+use Rattle.smoothing.specs.stages.Segments.{smearsOf, glyphsIn, linesIn, glyphLabel, HoldsPage}
+use Rattle.smoothing.specs.declared.smears.Smears.{Smears}
 use Rattle.segmenting.specs.rules.Figures.{figuresOf}
 use Rattle.segmenting.specs.stages.Writing.{rulesRead, graphicsRead, BoxRoom, LinesHeld, linesLeft, boxesOfLines, GroupRoom, groupsLeft, countedFigures, ResultsRoom}
 use Rattle.segmenting.specs.declared.groups.GroupCounts.{GroupCounts}
@@ -76,8 +77,8 @@ mask-bit : (w h : ℕ) (f : Plane) (i : ℕ) → i < w * h → getD (maskOf w h 
 unfolding maskOf
 mask-bit w h f i l = subst (λ z. z ≤ 1) (sym (getD-table _ (w * h) i 0 l)) (bit-low (f (i % w) (i / w)))
 
-module _ {p : LayoutParams} {w h : ℕ} {m : List ℕ} {P : ℕ} {s : List ℕ} {found : Sorting} {rows : Rows} {results kinds : ℕ}
-    (R : ResultsRoom p w h m P s found rows results kinds) where
+module _ {p : LayoutParams} {w h : ℕ} {m : List ℕ} {P : ℕ} {s : List ℕ} {found : SortCounts} {smears : Smears} {results kinds : ℕ}
+    (R : ResultsRoom p w h m P s found smears results kinds) where
   page : HoldsPage p w h m P s (found .runs)
   page = R .held .held
 
@@ -85,7 +86,7 @@ module _ {p : LayoutParams} {w h : ℕ} {m : List ℕ} {P : ℕ} {s : List ℕ} 
   unfolding greatest
   few-each = let h = R .few in (omega arith, omega arith, omega arith)
 
-  few-components : found .components ≤ P
+  few-components : found .«component_count» ≤ P
   few-components = let a = few-each .2 in let b = R .figures .components-is in omega arith
 
   few-dots : w * h ≤ 1073741824
@@ -121,14 +122,14 @@ module _ {p : LayoutParams} {w h : ℕ} {m : List ℕ} {P : ℕ} {s : List ℕ} 
   plane-painted = sorted-plane p w h m s (kindsAt (w * h) P) (R .plane .wide) (R .plane .ones) kinds-are
 
   -- the dots of a kind
-  pub area-is : (kind : ℕ) → 1 < kind → heldArea s (sizesAt (w * h) P) (kindsAt (w * h) P) kind (found .components) ≡ occurs kind (sorted p w h m .plane)
+  pub area-is : (kind : ℕ) → 1 < kind → heldArea s (sizesAt (w * h) P) (kindsAt (w * h) P) kind (found .«component_count») ≡ occurs kind (sorted p w h m .plane)
   area-is kind l =
       ap (heldArea s (sizesAt (w * h) P) (kindsAt (w * h) P) kind) (R .figures .components-is)
       ∙ sorted-area p w h m s (sizesAt (w * h) P) (kindsAt (w * h) P) (R .plane .wide) few-dots (R .plane .ones) (page .glyphs .held) kinds-are kind l
 
   -- with the cut dots they are the ink
   pub cut-is : occurs 1 (sorted p w h m .plane)
-      + (heldArea s (sizesAt (w * h) P) (kindsAt (w * h) P) 2 (found .components) + (heldArea s (sizesAt (w * h) P) (kindsAt (w * h) P) 3 (found .components) + (heldArea s (sizesAt (w * h) P) (kindsAt (w * h) P) 4 (found .components) + heldArea s (sizesAt (w * h) P) (kindsAt (w * h) P) 5 (found .components))))
+      + (heldArea s (sizesAt (w * h) P) (kindsAt (w * h) P) 2 (found .«component_count») + (heldArea s (sizesAt (w * h) P) (kindsAt (w * h) P) 3 (found .«component_count») + (heldArea s (sizesAt (w * h) P) (kindsAt (w * h) P) 4 (found .«component_count») + heldArea s (sizesAt (w * h) P) (kindsAt (w * h) P) 5 (found .«component_count»))))
       ≡ found .ink
   cut-is =
       ap (λ n. occurs 1 (sorted p w h m .plane)
@@ -136,25 +137,25 @@ module _ {p : LayoutParams} {w h : ℕ} {m : List ℕ} {P : ℕ} {s : List ℕ} 
       ∙ (sorted-cut p w h m s (sizesAt (w * h) P) (kindsAt (w * h) P) (R .plane .wide) few-dots (R .plane .ones) (page .glyphs .held) kinds-are (R .plane .whole) ∙ sym (R .figures .ink-is))
 
   -- what the lists of boxes ask
-  pub boxes-ask : BoxRoom w (w * h) P (found .horizontal) (found .vertical) (found .components) (length s) results
+  pub boxes-ask : BoxRoom w (w * h) P (found .horizontal) (found .vertical) (found .«component_count») (length s) results
   boxes-ask = record { cuts = (let a = few-each .0 in let b = R .figures .horizontal-is in omega arith, let a = few-each .1 in let b = R .figures .vertical-is in omega arith); few = few-components; room = R .plane .room; results-room = R .results-room }
 
   -- Glyphs and lines
 
   glyphs-in : glyphsIn p w h m ≡ glyphsOf (sorted p w h m .rest .components) (sorted p w h m .kinds) (glyphLabel p w h m)
   unfolding glyphsIn
-  glyphs-in = labelled-glyphs (sorted p w h m .rest) (sorted p w h m .kinds) (rowsOf p w h m)
+  glyphs-in = labelled-glyphs (sorted p w h m .rest) (sorted p w h m .kinds) (smearsOf p w h m)
 
-  lines-in : linesIn p w h m ≡ keptLines p (unitValue (sorted p w h m .unit)) (glyphsOf (sorted p w h m .rest .components) (sorted p w h m .kinds) (glyphLabel p w h m)) (rowsOf p w h m .components)
+  lines-in : linesIn p w h m ≡ keptLines p (unitValue (sorted p w h m .unit)) (glyphsOf (sorted p w h m .rest .components) (sorted p w h m .kinds) (glyphLabel p w h m)) (smearsOf p w h m .components)
   unfolding linesIn
-  lines-in = ap (λ (g : List LabelledGlyph). keptLines p (unitValue (sorted p w h m .unit)) g (rowsOf p w h m .components)) glyphs-in
+  lines-in = ap (λ (g : List LabelledGlyph). keptLines p (unitValue (sorted p w h m .unit)) g (smearsOf p w h m .components)) glyphs-in
 
   mask : List ℕ
   mask = smoothed (smoothingGap p (unitValue (sorted p w h m .unit))) w h (sorted p w h m .plane)
 
-  rows-are : rowsOf p w h m ≡ labelling w h mask
-  unfolding rowsOf mask
-  rows-are = refl
+  smears-are : smearsOf p w h m ≡ labelling w h mask
+  unfolding smearsOf mask
+  smears-are = refl
 
   inside : (k : List ℕ) (i : ℕ) → i < length (labelling w h k .components) → Inside w h (boxOf (getD (labelling w h k .components) i noDots))
   inside k i l =
@@ -201,18 +202,18 @@ module _ {p : LayoutParams} {w h : ℕ} {m : List ℕ} {P : ℕ} {s : List ℕ} 
       omega arith
 
   -- what writing glyphs and lines asks
-  pub lines-held : LinesHeld p (unitValue (sorted p w h m .unit)) (sorted p w h m .rest .components) (sorted p w h m .kinds) (glyphLabel p w h m) (rowsOf p w h m .components) w h (w * h) P s results
+  pub lines-held : LinesHeld p (unitValue (sorted p w h m .unit)) (sorted p w h m .rest .components) (sorted p w h m .kinds) (glyphLabel p w h m) (smearsOf p w h m .components) w h (w * h) P s results
   lines-held =
       record {
         glyphs = page .glyphs;
-        smoothed = subst (λ (g : List LabelledGlyph). HoldsRows g (rowsOf p w h m .components) (smoothedAt (w * h) P) (glyphsAt (w * h) P) s) glyphs-in (page .rows);
+        smoothed = subst (λ (g : List LabelledGlyph). HoldsSmears g (smearsOf p w h m .components) (smearsAt (w * h) P) (glyphsAt (w * h) P) s) glyphs-in (page .smears);
         few = R .plane .few;
         few-components = let a = few-components in let b = R .figures .components-is in omega arith;
-        few-rows = R .held .few;
+        few-smears = R .held .few;
         few-lines = let a = R .held .few-lines in let b = ap length lines-in in omega arith;
-        low = λ k l. subst (λ (z : Labelling). getD (z .labels) (firstDot (sorted p w h m .rest .labels) (suc k)) 0 ≤ length (z .components)) (sym rows-are) (label-low mask (firstDot (sorted p w h m .rest .labels) (suc k)));
+        low = λ k l. subst (λ (z : Labelling). getD (z .labels) (firstDot (sorted p w h m .rest .labels) (suc k)) 0 ≤ length (z .components)) (sym smears-are) (label-low mask (firstDot (sorted p w h m .rest .labels) (suc k)));
         boxes = subst (λ (z : Labelling). (k : ℕ) → k < length (z .components) → Inside w h (boxOf (getD (z .components) k noDots))) (sym rest-is) (inside (inkAfterCut p w h m));
-        row-boxes = subst (λ (z : Labelling). (k : ℕ) → k < length (z .components) → Inside w h (boxOf (getD (z .components) k noDots))) (sym rows-are) (inside mask);
+        smear-boxes = subst (λ (z : Labelling). (k : ℕ) → k < length (z .components) → Inside w h (boxOf (getD (z .components) k noDots))) (sym smears-are) (inside mask);
         ink = areas-fit;
         heights = let a = plan-down (frame-of (R .plane)) in omega arith;
         high = R .plane .low;
@@ -232,12 +233,12 @@ module _ {p : LayoutParams} {w h : ℕ} {m : List ℕ} {P : ℕ} {s : List ℕ} 
   vertical-unpacked =
       components-unpacked w h _ s (verticalAt (w * h) P) (R .plane .wide) (let a = R .plane .narrow in omega arith) (let a = R .plane .low in omega arith) few-dots (page .vertical)
 
-  pub rules-are : rulesRead s (w * h) P (found .horizontal) (found .vertical) (found .components) ≡ rulesOf p w h (sorted p w h m)
+  pub rules-are : rulesRead s (w * h) P (found .horizontal) (found .vertical) (found .«component_count») ≡ rulesOf p w h (sorted p w h m)
   rules-are =
       (λ i. rulesRead s (w * h) P (R .figures .horizontal-is i) (R .figures .vertical-is i) (R .figures .components-is i))
       ∙ sorted-rules p w h m s (horizontalAt (w * h)) (verticalAt (w * h) P) (sizesAt (w * h) P) (kindsAt (w * h) P) (page .glyphs .held) kinds-are horizontal-unpacked vertical-unpacked
 
-  pub graphics-are : graphicsRead s (w * h) P (found .components) ≡ graphicsOf p w h (sorted p w h m)
+  pub graphics-are : graphicsRead s (w * h) P (found .«component_count») ≡ graphicsOf p w h (sorted p w h m)
   unfolding graphicsOf
   graphics-are =
       ap (graphicsRead s (w * h) P) (R .figures .components-is)
@@ -248,14 +249,14 @@ module _ {p : LayoutParams} {w h : ℕ} {m : List ℕ} {P : ℕ} {s : List ℕ} 
       ≡ groupsLeft p (unitValue (sorted p w h m .unit)) w P (linesIn p w h m)
       (putAt (glyphRecordsAt w P) (encoded glyphRecord (map (glyphBox (linesIn p w h m)) (glyphsIn p w h m)))
       (putAt (graphicsAt w P) (encoded boxWords (graphicsOf p w h (sorted p w h m))) (putAt (rulesAt w) (encoded boxWords (rulesOf p w h (sorted p w h m))) first)))
-  unfolding resultsLeft layout linesIn glyphsIn rowsOf
+  unfolding resultsLeft layout linesIn glyphsIn smearsOf
   layout-left first = refl
 
   -- What the calls of writing them ask
 
   -- the dots of each kind
-  pub counts-ask : (sizesAt (w * h) P + 5 * found .components ≤ length s) × (kindsAt (w * h) P + found .components ≤ length s)
-      × (heldArea s (sizesAt (w * h) P) (kindsAt (w * h) P) 2 (found .components) + (heldArea s (sizesAt (w * h) P) (kindsAt (w * h) P) 3 (found .components) + (heldArea s (sizesAt (w * h) P) (kindsAt (w * h) P) 4 (found .components) + heldArea s (sizesAt (w * h) P) (kindsAt (w * h) P) 5 (found .components))) ≤ found .ink)
+  pub counts-ask : (sizesAt (w * h) P + 5 * found .«component_count» ≤ length s) × (kindsAt (w * h) P + found .«component_count» ≤ length s)
+      × (heldArea s (sizesAt (w * h) P) (kindsAt (w * h) P) 2 (found .«component_count») + (heldArea s (sizesAt (w * h) P) (kindsAt (w * h) P) 3 (found .«component_count») + (heldArea s (sizesAt (w * h) P) (kindsAt (w * h) P) 4 (found .«component_count») + heldArea s (sizesAt (w * h) P) (kindsAt (w * h) P) 5 (found .«component_count»))) ≤ found .ink)
   counts-ask = let a = few-components in let b = R .plane .room in let e = cut-is in (omega arith, omega arith, omega arith)
 
   glyphs-few : length (glyphsOf (sorted p w h m .rest .components) (sorted p w h m .kinds) (glyphLabel p w h m)) ≤ P
@@ -273,58 +274,58 @@ module _ {p : LayoutParams} {w h : ℕ} {m : List ℕ} {P : ℕ} {s : List ℕ} 
     unit-is = sym (e ∙ ap unitValue (R .figures .unit-is))
 
     -- glyphs and lines
-    pub text-ask : LinesHeld p x (sorted p w h m .rest .components) (sorted p w h m .kinds) (glyphLabel p w h m) (rowsOf p w h m .components) w h (w * h) P s results
-    text-ask = subst (λ (z : Float). LinesHeld p z (sorted p w h m .rest .components) (sorted p w h m .kinds) (glyphLabel p w h m) (rowsOf p w h m .components) w h (w * h) P s results) unit-is lines-held
+    pub text-ask : LinesHeld p x (sorted p w h m .rest .components) (sorted p w h m .kinds) (glyphLabel p w h m) (smearsOf p w h m .components) w h (w * h) P s results
+    text-ask = subst (λ (z : Float). LinesHeld p z (sorted p w h m .rest .components) (sorted p w h m .kinds) (glyphLabel p w h m) (smearsOf p w h m .components) w h (w * h) P s results) unit-is lines-held
 
-    lines-by : linesIn p w h m ≡ keptLines p x (glyphsOf (sorted p w h m .rest .components) (sorted p w h m .kinds) (glyphLabel p w h m)) (rowsOf p w h m .components)
-    lines-by = lines-in ∙ ap (λ (z : Float). keptLines p z (glyphsOf (sorted p w h m .rest .components) (sorted p w h m .kinds) (glyphLabel p w h m)) (rowsOf p w h m .components)) unit-is
+    lines-by : linesIn p w h m ≡ keptLines p x (glyphsOf (sorted p w h m .rest .components) (sorted p w h m .kinds) (glyphLabel p w h m)) (smearsOf p w h m .components)
+    lines-by = lines-in ∙ ap (λ (z : Float). keptLines p z (glyphsOf (sorted p w h m .rest .components) (sorted p w h m .kinds) (glyphLabel p w h m)) (smearsOf p w h m .components)) unit-is
 
-    glyphs-long : (r : List ℕ) → length r ≡ results → length (putAt (glyphRecordsAt w P) (encoded glyphRecord (map (glyphBox (keptLines p x (glyphsOf (sorted p w h m .rest .components) (sorted p w h m .kinds) (glyphLabel p w h m)) (rowsOf p w h m .components))) (glyphsOf (sorted p w h m .rest .components) (sorted p w h m .kinds) (glyphLabel p w h m)))) r) ≡ length r
+    glyphs-long : (r : List ℕ) → length r ≡ results → length (putAt (glyphRecordsAt w P) (encoded glyphRecord (map (glyphBox (keptLines p x (glyphsOf (sorted p w h m .rest .components) (sorted p w h m .kinds) (glyphLabel p w h m)) (smearsOf p w h m .components))) (glyphsOf (sorted p w h m .rest .components) (sorted p w h m .kinds) (glyphLabel p w h m)))) r) ≡ length r
     glyphs-long r q =
-        put-long (glyphRecordsAt w P) (encoded glyphRecord (map (glyphBox (keptLines p x (glyphsOf (sorted p w h m .rest .components) (sorted p w h m .kinds) (glyphLabel p w h m)) (rowsOf p w h m .components))) (glyphsOf (sorted p w h m .rest .components) (sorted p w h m .kinds) (glyphLabel p w h m)))) r
-        (let a = length-encoded glyphRecord 6 (λ _. refl) (map (glyphBox (keptLines p x (glyphsOf (sorted p w h m .rest .components) (sorted p w h m .kinds) (glyphLabel p w h m)) (rowsOf p w h m .components))) (glyphsOf (sorted p w h m .rest .components) (sorted p w h m .kinds) (glyphLabel p w h m))) in
-        let b = length-map (glyphsOf (sorted p w h m .rest .components) (sorted p w h m .kinds) (glyphLabel p w h m)) (glyphBox (keptLines p x (glyphsOf (sorted p w h m .rest .components) (sorted p w h m .kinds) (glyphLabel p w h m)) (rowsOf p w h m .components))) in
+        put-long (glyphRecordsAt w P) (encoded glyphRecord (map (glyphBox (keptLines p x (glyphsOf (sorted p w h m .rest .components) (sorted p w h m .kinds) (glyphLabel p w h m)) (smearsOf p w h m .components))) (glyphsOf (sorted p w h m .rest .components) (sorted p w h m .kinds) (glyphLabel p w h m)))) r
+        (let a = length-encoded glyphRecord 6 (λ _. refl) (map (glyphBox (keptLines p x (glyphsOf (sorted p w h m .rest .components) (sorted p w h m .kinds) (glyphLabel p w h m)) (smearsOf p w h m .components))) (glyphsOf (sorted p w h m .rest .components) (sorted p w h m .kinds) (glyphLabel p w h m))) in
+        let b = length-map (glyphsOf (sorted p w h m .rest .components) (sorted p w h m .kinds) (glyphLabel p w h m)) (glyphBox (keptLines p x (glyphsOf (sorted p w h m .rest .components) (sorted p w h m .kinds) (glyphLabel p w h m)) (smearsOf p w h m .components))) in
         let d = glyphs-few in
         let f = R .results-room in
         omega arith)
 
     -- blocks and columns
     pub group-ask : (first after : List ℕ) (words : ℕ) → length first ≡ results → length after ≡ results → words ≡ length s
-        → after ≡ linesLeft w P (glyphsOf (sorted p w h m .rest .components) (sorted p w h m .kinds) (glyphLabel p w h m)) (keptLines p x (glyphsOf (sorted p w h m .rest .components) (sorted p w h m .kinds) (glyphLabel p w h m)) (rowsOf p w h m .components)) first
-        → GroupRoom w h P (keptLines p x (glyphsOf (sorted p w h m .rest .components) (sorted p w h m .kinds) (glyphLabel p w h m)) (rowsOf p w h m .components)) (putAt (glyphRecordsAt w P) (encoded glyphRecord (map (glyphBox (keptLines p x (glyphsOf (sorted p w h m .rest .components) (sorted p w h m .kinds) (glyphLabel p w h m)) (rowsOf p w h m .components))) (glyphsOf (sorted p w h m .rest .components) (sorted p w h m .kinds) (glyphLabel p w h m)))) first) after (rows .lines) words
+        → after ≡ linesLeft w P (glyphsOf (sorted p w h m .rest .components) (sorted p w h m .kinds) (glyphLabel p w h m)) (keptLines p x (glyphsOf (sorted p w h m .rest .components) (sorted p w h m .kinds) (glyphLabel p w h m)) (smearsOf p w h m .components)) first
+        → GroupRoom w h P (keptLines p x (glyphsOf (sorted p w h m .rest .components) (sorted p w h m .kinds) (glyphLabel p w h m)) (smearsOf p w h m .components)) (putAt (glyphRecordsAt w P) (encoded glyphRecord (map (glyphBox (keptLines p x (glyphsOf (sorted p w h m .rest .components) (sorted p w h m .kinds) (glyphLabel p w h m)) (smearsOf p w h m .components))) (glyphsOf (sorted p w h m .rest .components) (sorted p w h m .kinds) (glyphLabel p w h m)))) first) after (smears .lines) words
     group-ask first after words a b same held =
-        groups-ask text-ask (putAt (glyphRecordsAt w P) (encoded glyphRecord (map (glyphBox (keptLines p x (glyphsOf (sorted p w h m .rest .components) (sorted p w h m .kinds) (glyphLabel p w h m)) (rowsOf p w h m .components))) (glyphsOf (sorted p w h m .rest .components) (sorted p w h m .kinds) (glyphLabel p w h m)))) first) after (rows .lines) words held
+        groups-ask text-ask (putAt (glyphRecordsAt w P) (encoded glyphRecord (map (glyphBox (keptLines p x (glyphsOf (sorted p w h m .rest .components) (sorted p w h m .kinds) (glyphLabel p w h m)) (smearsOf p w h m .components))) (glyphsOf (sorted p w h m .rest .components) (sorted p w h m .kinds) (glyphLabel p w h m)))) first) after (smears .lines) words held
         (b ∙ sym (glyphs-long first a ∙ a)) b (R .held .lines-is ∙ ap length lines-by) same (R .plane .narrow)
         (let d = plan-across (frame-of (R .plane)) in let f = R .plane .room in omega arith)
 
     -- What the stages have counted and written
 
     module _ (boxes : BoxCounts) (glyphs : ℕ) (groups : GroupCounts)
-        (rules-is : boxes .rules ≡ length (rulesRead s (w * h) P (found .horizontal) (found .vertical) (found .components)))
-        (graphics-is : boxes .graphics ≡ length (graphicsRead s (w * h) P (found .components)))
+        (rules-is : boxes .rules ≡ length (rulesRead s (w * h) P (found .horizontal) (found .vertical) (found .«component_count»)))
+        (graphics-is : boxes .graphics ≡ length (graphicsRead s (w * h) P (found .«component_count»)))
         (glyphs-is : glyphs ≡ length (glyphsOf (sorted p w h m .rest .components) (sorted p w h m .kinds) (glyphLabel p w h m)))
-        (blocks-is : groups .blocks ≡ length (blocksOf (boxesOfLines (keptLines p x (glyphsOf (sorted p w h m .rest .components) (sorted p w h m .kinds) (glyphLabel p w h m)) (rowsOf p w h m .components))) (blockFirsts p (boxesOfLines (keptLines p x (glyphsOf (sorted p w h m .rest .components) (sorted p w h m .kinds) (glyphLabel p w h m)) (rowsOf p w h m .components))))))
-        (columns-is : groups .columns ≡ length (columnsOf p x w (boxesOfLines (keptLines p x (glyphsOf (sorted p w h m .rest .components) (sorted p w h m .kinds) (glyphLabel p w h m)) (rowsOf p w h m .components))))) where
-      blocks-few : length (blocksOf (boxesOfLines (keptLines p x (glyphsOf (sorted p w h m .rest .components) (sorted p w h m .kinds) (glyphLabel p w h m)) (rowsOf p w h m .components))) (blockFirsts p (boxesOfLines (keptLines p x (glyphsOf (sorted p w h m .rest .components) (sorted p w h m .kinds) (glyphLabel p w h m)) (rowsOf p w h m .components))))) ≤ length (keptLines p x (glyphsOf (sorted p w h m .rest .components) (sorted p w h m .kinds) (glyphLabel p w h m)) (rowsOf p w h m .components))
+        (blocks-is : groups .blocks ≡ length (blocksOf (boxesOfLines (keptLines p x (glyphsOf (sorted p w h m .rest .components) (sorted p w h m .kinds) (glyphLabel p w h m)) (smearsOf p w h m .components))) (blockFirsts p (boxesOfLines (keptLines p x (glyphsOf (sorted p w h m .rest .components) (sorted p w h m .kinds) (glyphLabel p w h m)) (smearsOf p w h m .components))))))
+        (columns-is : groups .columns ≡ length (columnsOf p x w (boxesOfLines (keptLines p x (glyphsOf (sorted p w h m .rest .components) (sorted p w h m .kinds) (glyphLabel p w h m)) (smearsOf p w h m .components))))) where
+      blocks-few : length (blocksOf (boxesOfLines (keptLines p x (glyphsOf (sorted p w h m .rest .components) (sorted p w h m .kinds) (glyphLabel p w h m)) (smearsOf p w h m .components))) (blockFirsts p (boxesOfLines (keptLines p x (glyphsOf (sorted p w h m .rest .components) (sorted p w h m .kinds) (glyphLabel p w h m)) (smearsOf p w h m .components))))) ≤ length (keptLines p x (glyphsOf (sorted p w h m .rest .components) (sorted p w h m .kinds) (glyphLabel p w h m)) (smearsOf p w h m .components))
       unfolding blocksOf
       blocks-few =
-          let ls = boxesOfLines (keptLines p x (glyphsOf (sorted p w h m .rest .components) (sorted p w h m .kinds) (glyphLabel p w h m)) (rowsOf p w h m .components)) in
-          let fs = blockFirsts p (boxesOfLines (keptLines p x (glyphsOf (sorted p w h m .rest .components) (sorted p w h m .kinds) (glyphLabel p w h m)) (rowsOf p w h m .components))) in
+          let ls = boxesOfLines (keptLines p x (glyphsOf (sorted p w h m .rest .components) (sorted p w h m .kinds) (glyphLabel p w h m)) (smearsOf p w h m .components)) in
+          let fs = blockFirsts p (boxesOfLines (keptLines p x (glyphsOf (sorted p w h m .rest .components) (sorted p w h m .kinds) (glyphLabel p w h m)) (smearsOf p w h m .components))) in
           let a = length-map (keep (opensBlock fs) (upto (length ls))) (blockOf ls fs) in
           let b = keep-few (opensBlock fs) (length ls) in
-          let d = length-map (keptLines p x (glyphsOf (sorted p w h m .rest .components) (sorted p w h m .kinds) (glyphLabel p w h m)) (rowsOf p w h m .components)) (λ (l : SmoothedLine). l .bbox) in
+          let d = length-map (keptLines p x (glyphsOf (sorted p w h m .rest .components) (sorted p w h m .kinds) (glyphLabel p w h m)) (smearsOf p w h m .components)) (λ (l : SmoothedLine). l .bbox) in
           omega arith
 
-      columns-few : length (columnsOf p x w (boxesOfLines (keptLines p x (glyphsOf (sorted p w h m .rest .components) (sorted p w h m .kinds) (glyphLabel p w h m)) (rowsOf p w h m .components)))) ≤ w
+      columns-few : length (columnsOf p x w (boxesOfLines (keptLines p x (glyphsOf (sorted p w h m .rest .components) (sorted p w h m .kinds) (glyphLabel p w h m)) (smearsOf p w h m .components)))) ≤ w
       unfolding columnsOf
-      columns-few = runs-few (dots (p .«column_gap_xh» · x)) (covered p (greatest (table (cover (boxesOfLines (keptLines p x (glyphsOf (sorted p w h m .rest .components) (sorted p w h m .kinds) (glyphLabel p w h m)) (rowsOf p w h m .components)))) w)) (boxesOfLines (keptLines p x (glyphsOf (sorted p w h m .rest .components) (sorted p w h m .kinds) (glyphLabel p w h m)) (rowsOf p w h m .components)))) w
+      columns-few = runs-few (dots (p .«column_gap_xh» · x)) (covered p (greatest (table (cover (boxesOfLines (keptLines p x (glyphsOf (sorted p w h m .rest .components) (sorted p w h m .kinds) (glyphLabel p w h m)) (smearsOf p w h m .components)))) w)) (boxesOfLines (keptLines p x (glyphsOf (sorted p w h m .rest .components) (sorted p w h m .kinds) (glyphLabel p w h m)) (smearsOf p w h m .components)))) w
 
       -- counts that fit in a word
-      pub figures-ask : (boxes .rules ≤ 4294967295) × (boxes .graphics ≤ 4294967295) × (glyphs ≤ 4294967295) × (rows .lines ≤ 4294967295)
+      pub figures-ask : (boxes .rules ≤ 4294967295) × (boxes .graphics ≤ 4294967295) × (glyphs ≤ 4294967295) × (smears .lines ≤ 4294967295)
           × (groups .blocks ≤ 4294967295) × (groups .columns ≤ 4294967295)
       figures-ask =
-          let a = rules-few s (horizontalAt (w * h)) (found .horizontal) (verticalAt (w * h) P) (found .vertical) (sizesAt (w * h) P) (kindsAt (w * h) P) (found .components) in
-          let b = boxes-few s (kindsAt (w * h) P) 3 (sizesAt (w * h) P) (found .components) in
+          let a = rules-few s (horizontalAt (w * h)) (found .horizontal) (verticalAt (w * h) P) (found .vertical) (sizesAt (w * h) P) (kindsAt (w * h) P) (found .«component_count») in
+          let b = boxes-few s (kindsAt (w * h) P) 3 (sizesAt (w * h) P) (found .«component_count») in
           let d = boxes-ask .cuts in
           let f = few-components in
           let g = R .plane .few in
@@ -338,10 +339,10 @@ module _ {p : LayoutParams} {w h : ℕ} {m : List ℕ} {P : ℕ} {s : List ℕ} 
           (omega arith, omega arith, omega arith, omega arith, omega arith, omega arith)
 
       -- they are the figures of the layout
-      pub figures-are : (areas : KindDots) → areas .rule ≡ heldArea s (sizesAt (w * h) P) (kindsAt (w * h) P) 2 (found .components) → areas .graphic ≡ heldArea s (sizesAt (w * h) P) (kindsAt (w * h) P) 3 (found .components) → areas .glyph ≡ heldArea s (sizesAt (w * h) P) (kindsAt (w * h) P) 4 (found .components) → areas .speck ≡ heldArea s (sizesAt (w * h) P) (kindsAt (w * h) P) 5 (found .components)
+      pub figures-are : (areas : KindDots) → areas .rule ≡ heldArea s (sizesAt (w * h) P) (kindsAt (w * h) P) 2 (found .«component_count») → areas .graphic ≡ heldArea s (sizesAt (w * h) P) (kindsAt (w * h) P) 3 (found .«component_count») → areas .glyph ≡ heldArea s (sizesAt (w * h) P) (kindsAt (w * h) P) 4 (found .«component_count») → areas .speck ≡ heldArea s (sizesAt (w * h) P) (kindsAt (w * h) P) 5 (found .«component_count»)
           → areas .cut + (areas .rule + (areas .graphic + (areas .glyph + areas .speck))) ≡ found .ink
-          → countedFigures (found .unit) (found .ink) areas boxes glyphs (rows .lines) groups ≡ figuresOf (layout p w h m)
-      unfolding layout kindCounts linesIn glyphsIn rowsOf
+          → countedFigures (found .unit) (found .ink) areas boxes glyphs (smears .lines) groups ≡ figuresOf (layout p w h m)
+      unfolding layout kindCounts linesIn glyphsIn smearsOf
       figures-are areas a₂ a₃ a₄ a₅ all i =
           record {
             unit = R .figures .unit-is i;
@@ -364,8 +365,8 @@ module _ {p : LayoutParams} {w h : ℕ} {m : List ℕ} {P : ℕ} {s : List ℕ} 
 
     -- the results of the layout, as the stages leave them
     pub results-are : (first second last : List ℕ)
-        → second ≡ putAt (graphicsAt w P) (encoded boxWords (graphicsRead s (w * h) P (found .components))) (putAt (rulesAt w) (encoded boxWords (rulesRead s (w * h) P (found .horizontal) (found .vertical) (found .components))) first)
-        → last ≡ groupsLeft p x w P (keptLines p x (glyphsOf (sorted p w h m .rest .components) (sorted p w h m .kinds) (glyphLabel p w h m)) (rowsOf p w h m .components)) (putAt (glyphRecordsAt w P) (encoded glyphRecord (map (glyphBox (keptLines p x (glyphsOf (sorted p w h m .rest .components) (sorted p w h m .kinds) (glyphLabel p w h m)) (rowsOf p w h m .components))) (glyphsOf (sorted p w h m .rest .components) (sorted p w h m .kinds) (glyphLabel p w h m)))) second)
+        → second ≡ putAt (graphicsAt w P) (encoded boxWords (graphicsRead s (w * h) P (found .«component_count»))) (putAt (rulesAt w) (encoded boxWords (rulesRead s (w * h) P (found .horizontal) (found .vertical) (found .«component_count»))) first)
+        → last ≡ groupsLeft p x w P (keptLines p x (glyphsOf (sorted p w h m .rest .components) (sorted p w h m .kinds) (glyphLabel p w h m)) (smearsOf p w h m .components)) (putAt (glyphRecordsAt w P) (encoded glyphRecord (map (glyphBox (keptLines p x (glyphsOf (sorted p w h m .rest .components) (sorted p w h m .kinds) (glyphLabel p w h m)) (smearsOf p w h m .components))) (glyphsOf (sorted p w h m .rest .components) (sorted p w h m .kinds) (glyphLabel p w h m)))) second)
         → last ≡ resultsLeft w P (layout p w h m) first
     results-are first second last a b =
         b
@@ -375,6 +376,6 @@ module _ {p : LayoutParams} {w h : ℕ} {m : List ℕ} {P : ℕ} {s : List ℕ} 
 
   -- the plane of kinds
   pub kinds-painted : (first last : List ℕ) → last ≡ over (table (paintedKind (inkAfterCut p w h m) (labelling w h (inkAfterCut p w h m) .labels) s (kindsAt (w * h) P) m) (w * h)) first
-      → last ≡ over (layout p w h m .kinds) first
+      → last ≡ over (layout p w h m .plane) first
   unfolding layout
   kinds-painted first last e = e ∙ ap (λ (z : List ℕ). over z first) plane-painted

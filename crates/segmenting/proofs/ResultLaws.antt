@@ -22,10 +22,12 @@ use Rattle.grouping.specs.rules.Columns.{columnsOf}
 use Rattle.smoothing.specs.rules.Lines.{TextLine, SmoothedLine}
 use Rattle.segmenting.specs.rules.Layouts.{textLine}
 use Rattle.grouping.specs.stages.Numbering.{withBlocks}
-use Rattle.segmenting.specs.rules.Results.{rulesAt, graphicsAt, linesAt, blocksAt, boxWords}
+use Rattle.memory.specs.rules.Rects.{boxWords}
+use Rattle.segmenting.specs.rules.Results.{rulesAt, graphicsAt, linesAt, blocksAt}
 use Rattle.smoothing.specs.stages.LineWords.{plainLine}
 use Rattle.segmenting.specs.stages.Writing.{rulesRead, graphicsRead, BoxRoom, BoxesLeft, plainRecords, boxesOfLines, GroupRoom, groupsLeft}
-use Rattle.grouping.specs.stages.LineBoxes.{Inside, Lines, ByTop, Groupable, lineBoxes}
+use Rattle.memory.specs.stages.Boxes.{Inside}
+use Rattle.grouping.specs.stages.LineBoxes.{Lines, ByTop, Groupable, lineBoxes}
 use Rattle.grouping.specs.rules.HeldLines.{lineBox}
 use Rattle.smoothing.specs.rules.LineRecords.{lineRecord}
 use Rattle.grouping.specs.rules.BlockRecords.{blockRecord, columnRecord}

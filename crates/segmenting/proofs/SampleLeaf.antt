@@ -31,7 +31,7 @@ sample-sheet-valid = refl
 
 -- its kinds, dot by dot
 pub sample-kinds :
-    sampleLeaf .layout .kinds
+    sampleLeaf .layout .plane
     ≡ 0 ∷ 0 ∷ 0 ∷ 0 ∷ 0 ∷ 0
     ∷ 0 ∷ 4 ∷ 0 ∷ 4 ∷ 0 ∷ 0
     ∷ 0 ∷ 4 ∷ 0 ∷ 4 ∷ 0 ∷ 0
@@ -54,6 +54,6 @@ unfolding computed
 sample-twenty-lines = refl
 
 -- the glyph dots of the left half, column and row of each
-pub sample-dots : dotList (sampleLeaf .levelled .frame) (sampleLeaf .layout .kinds) 4 (record { x0 = 0; y0 = 0; x1 = 2; y1 = 3 }) ≡ 1 ∷ 1 ∷ 1 ∷ 2 ∷ []
+pub sample-dots : dotList (sampleLeaf .levelled .frame) (sampleLeaf .layout .plane) 4 (record { x0 = 0; y0 = 0; x1 = 2; y1 = 3 }) ≡ 1 ∷ 1 ∷ 1 ∷ 2 ∷ []
 unfolding computed
 sample-dots = refl

@@ -57,7 +57,12 @@ module _ (cs : List Component) (f : Component → ℕ) (s : List ℕ) (sizes kin
   kind-is k l = ap (λ z. eqb z kind) (K k (let e = length-map cs f in omega arith) ∙ getD-map f cs k 0 noDots l)
 
   box-is : (k : ℕ) → k < length cs → heldBox s sizes k ≡ boxOf (getD cs k noDots)
-  box-is k l = let S = size-at cs s sizes k H l in λ i. record { x0 = S .x0 i; y0 = S .y0 i; x1 = S .x1 i; y1 = S .y1 i }
+  box-is k l =
+      let S = size-at cs s sizes k H l in
+      let one : sizes + 5 * k + 1 + 1 ≡ sizes + 5 * k + 2 = omega arith in
+      let two : sizes + 5 * k + 1 + 2 ≡ sizes + 5 * k + 3 = omega arith in
+      let three : sizes + 5 * k + 1 + 3 ≡ sizes + 5 * k + 4 = omega arith in
+      λ i. record { x0 = S .x0 i; y0 = (ap (λ (j : ℕ). getD s j 0) one ∙ S .y0) i; x1 = (ap (λ (j : ℕ). getD s j 0) two ∙ S .x1) i; y1 = (ap (λ (j : ℕ). getD s j 0) three ∙ S .y1) i }
 
   -- the boxes read are those of the components of the kind, by number
   pub held-boxes : heldBoxes s sizes kinds kind (length cs) ≡ map boxOf (keep (λ (c : Component). eqb (f c) kind) cs)

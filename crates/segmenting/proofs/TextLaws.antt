@@ -12,10 +12,11 @@ use Rattle.memory.specs.rules.Records.{encoded}
 use Rattle.memory.specs.rules.Words.{over, putAt}
 use Rattle.labelling.specs.declared.component.Component.{Component}
 use Rattle.params.specs.declared.LayoutParams.{LayoutParams}
-use Rattle.sorting.specs.stages.Scratch.{horizontalAt, verticalAt, sizesAt, kindsAt, smoothedAt, glyphsAt}
+use Rattle.sorting.specs.stages.Scratch.{horizontalAt, verticalAt, sizesAt, kindsAt, smearsAt, glyphsAt}
 use Rattle.smoothing.specs.rules.Lines.{glyphBox, keptLines}
 use Rattle.smoothing.specs.rules.LineRecords.{glyphRecord}
-use Rattle.smoothing.specs.stages.LineWords.{glyphsOf, Filled, lineRows, OrderRoom, orderedRow, OrderedLines, NumberRoom, orderAt, GlyphRoom, WrittenGlyphs}
+use Rattle.memory.specs.stages.Stored.{Stored}
+use Rattle.smoothing.specs.stages.LineWords.{glyphsOf, lineSmears, OrderRoom, orderedSmear, OrderedLines, NumberRoom, orderAt, GlyphRoom, WrittenGlyphs}
 use Rattle.smoothing.specs.stages.GlyphLists.{recordAt, LinesRoom}
 use Rattle.smoothing.specs.declared.lines.LinePlaces.{LinePlaces}
 use Rattle.segmenting.specs.rules.Results.{glyphRecordsAt, linesAt}
@@ -23,27 +24,27 @@ use Rattle.segmenting.specs.stages.Writing.{plainRecords, LinesHeld, Lin
 use Rattle.segmenting.proofs.PutLaws.{part-length, put-part}
 use Rattle.segmenting.proofs.WritingLaws.{order-ask, number-ask, lines-ordered, glyphs-ask, glyphs-count, glyphs-records, lines-ask, lines-records}
 
-module _ {p : LayoutParams} {unit : Float} {cs : List Component} {ks : List ℕ} {labels : ℕ → ℕ} {rows : List Component} {w h dots P : ℕ} {s : List ℕ} {out : ℕ}
-    (H : LinesHeld p unit cs ks labels rows w h dots P s out) where
+module _ {p : LayoutParams} {unit : Float} {cs : List Component} {ks : List ℕ} {labels : ℕ → ℕ} {smears : List Component} {w h dots P : ℕ} {s : List ℕ} {out : ℕ}
+    (H : LinesHeld p unit cs ks labels smears w h dots P s out) where
   -- by the count of smoothed components
-  module _ {n : ℕ} (e : n ≡ length rows) where
-    pub text-order : OrderRoom (horizontalAt dots) (smoothedAt dots P) (glyphsAt dots P) n s
-    text-order = subst (λ k. OrderRoom (horizontalAt dots) (smoothedAt dots P) (glyphsAt dots P) k s) (sym e) (order-ask H)
+  module _ {n : ℕ} (e : n ≡ length smears) where
+    pub text-order : OrderRoom (horizontalAt dots) (smearsAt dots P) (glyphsAt dots P) n s
+    text-order = subst (λ k. OrderRoom (horizontalAt dots) (smearsAt dots P) (glyphsAt dots P) k s) (sym e) (order-ask H)
 
-    module _ {s₁ : List ℕ} {r : ℕ} (O : OrderedLines (lineRows p unit s (smoothedAt dots P) (glyphsAt dots P) n) (horizontalAt dots) s s₁ r) where
-      ordered : OrderedLines (lineRows p unit s (smoothedAt dots P) (glyphsAt dots P) (length rows)) (horizontalAt dots) s s₁ r
-      ordered = subst (λ k. OrderedLines (lineRows p unit s (smoothedAt dots P) (glyphsAt dots P) k) (horizontalAt dots) s s₁ r) e O
+    module _ {s₁ : List ℕ} {r : ℕ} (O : OrderedLines (lineSmears p unit s (smearsAt dots P) (glyphsAt dots P) n) (horizontalAt dots) s s₁ r) where
+      ordered : OrderedLines (lineSmears p unit s (smearsAt dots P) (glyphsAt dots P) (length smears)) (horizontalAt dots) s s₁ r
+      ordered = subst (λ k. OrderedLines (lineSmears p unit s (smearsAt dots P) (glyphsAt dots P) k) (horizontalAt dots) s s₁ r) e O
 
       pub text-number : NumberRoom (horizontalAt dots) r (verticalAt dots P) n s₁
       text-number = subst (λ k. NumberRoom (horizontalAt dots) r (verticalAt dots P) k s₁) (sym e) (number-ask H ordered)
 
-      pub text-ordered : {s₂ : List ℕ} → Filled (λ t. indexFrom noLine 0 (suc t) (orderAt s₁ (horizontalAt dots) r)) (verticalAt dots P) n s₁ s₂
-          → LinesOrdered p unit cs ks labels rows dots P s s₂ r
+      pub text-ordered : {s₂ : List ℕ} → Stored (λ t. indexFrom noLine 0 (suc t) (orderAt s₁ (horizontalAt dots) r)) (verticalAt dots P) n s₁ s₂
+          → LinesOrdered p unit cs ks labels smears dots P s s₂ r
       text-ordered {s₂} F =
-          lines-ordered H ordered (subst (λ k. Filled (λ t. indexFrom noLine 0 (suc t) (orderAt s₁ (horizontalAt dots) r)) (verticalAt dots P) k s₁ s₂) e F)
+          lines-ordered H ordered (subst (λ k. Stored (λ t. indexFrom noLine 0 (suc t) (orderAt s₁ (horizontalAt dots) r)) (verticalAt dots P) k s₁ s₂) e F)
 
   -- by the count of components, with words enough for the results
-  module _ {s₂ : List ℕ} {n : ℕ} (L : LinesOrdered p unit cs ks labels rows dots P s s₂ n) {m : ℕ} (d : m ≡ length cs) where
+  module _ {s₂ : List ℕ} {n : ℕ} (L : LinesOrdered p unit cs ks labels smears dots P s s₂ n) {m : ℕ} (d : m ≡ length cs) where
     pub text-glyphs : (results : List ℕ) → length results ≡ out
         → GlyphRoom (sizesAt dots P) (kindsAt dots P) m (verticalAt dots P) s₂ (length (take (length results - glyphRecordsAt w P) (drop (glyphRecordsAt w P) results)))
     text-glyphs results q =
@@ -53,15 +54,15 @@ module _ {p : LayoutParams} {unit : Float} {cs : List Component} {ks : List ℕ}
         let f = H .few-components in
         subst (λ k. GlyphRoom (sizesAt dots P) (kindsAt dots P) k (verticalAt dots P) s₂ (length part)) (sym d) (glyphs-ask H L (length part) (omega arith))
 
-    pub text-lines : {k : ℕ} → k ≡ length rows → (places : LinePlaces) → places ≡ linePlaces h dots P m k → (results : List ℕ) → length results ≡ out
+    pub text-lines : {k : ℕ} → k ≡ length smears → (places : LinePlaces) → places ≡ linePlaces h dots P m k → (results : List ℕ) → length results ≡ out
         → LinesRoom places n s₂ (length (take (length results - linesAt w P) (drop (linesAt w P) results)))
     text-lines {k} e places z results q =
         let part = take (length results - linesAt w P) (drop (linesAt w P) results) in
         let a = part-length (linesAt w P) results in
         let b = H .results-room in
-        let f = H .few-rows in
+        let f = H .few-smears in
         let g = L .few in
-        let same : linePlaces h dots P (length cs) (length rows) ≡ places = sym (z ∙ (λ i. linePlaces h dots P (d i) (e i))) in
+        let same : linePlaces h dots P (length cs) (length smears) ≡ places = sym (z ∙ (λ i. linePlaces h dots P (d i) (e i))) in
         subst (λ (y : LinePlaces). LinesRoom y n s₂ (length part)) same (lines-ask H L (length part) (omega arith))
 
     -- what both leave
@@ -75,18 +76,18 @@ module _ {p : LayoutParams} {unit : Float} {cs : List Component} {ks : List ℕ}
       text-found = written .count-is ∙ glyphs-count H L
 
       glyphs-put : putMid (glyphRecordsAt w P) (length results - glyphRecordsAt w P) results part
-          ≡ putAt (glyphRecordsAt w P) (encoded glyphRecord (map (glyphBox (keptLines p unit (glyphsOf cs ks labels) rows)) (glyphsOf cs ks labels))) results
+          ≡ putAt (glyphRecordsAt w P) (encoded glyphRecord (map (glyphBox (keptLines p unit (glyphsOf cs ks labels) smears)) (glyphsOf cs ks labels))) results
       glyphs-put =
-          put-part (glyphRecordsAt w P) results (encoded glyphRecord (map (glyphBox (keptLines p unit (glyphsOf cs ks labels) rows)) (glyphsOf cs ks labels))) part
+          put-part (glyphRecordsAt w P) results (encoded glyphRecord (map (glyphBox (keptLines p unit (glyphsOf cs ks labels) smears)) (glyphsOf cs ks labels))) part
           (written .words ∙ ap (λ (z : List ℕ). over z (take (length results - glyphRecordsAt w P) (drop (glyphRecordsAt w P) results))) (glyphs-records H L))
 
       pub text-left : {k : ℕ} (places : LinePlaces) → places ≡ linePlaces h dots P m k → (one last : List ℕ)
           → one ≡ putMid (glyphRecordsAt w P) (length results - glyphRecordsAt w P) results part
-          → last ≡ over (encoded (λ i. recordAt places s₂ (orderedRow s₂ (places .order) i)) (upto n)) (take (length one - linesAt w P) (drop (linesAt w P) one))
-          → putMid (linesAt w P) (length one - linesAt w P) one last ≡ linesLeft w P (glyphsOf cs ks labels) (keptLines p unit (glyphsOf cs ks labels) rows) results
+          → last ≡ over (encoded (λ i. recordAt places s₂ (orderedSmear s₂ (places .order) i)) (upto n)) (take (length one - linesAt w P) (drop (linesAt w P) one))
+          → putMid (linesAt w P) (length one - linesAt w P) one last ≡ linesLeft w P (glyphsOf cs ks labels) (keptLines p unit (glyphsOf cs ks labels) smears) results
       text-left {k} places z one last q F =
           let own : places ≡ linePlaces h dots P (length cs) k = z ∙ ap (λ j. linePlaces h dots P j k) d in
-          let records = ap (λ (y : LinePlaces). encoded (λ i. recordAt y s₂ (orderedRow s₂ (y .order) i)) (upto n)) own ∙ lines-records H L in
-          put-part (linesAt w P) one (plainRecords (keptLines p unit (glyphsOf cs ks labels) rows)) last
+          let records = ap (λ (y : LinePlaces). encoded (λ i. recordAt y s₂ (orderedSmear s₂ (y .order) i)) (upto n)) own ∙ lines-records H L in
+          put-part (linesAt w P) one (plainRecords (keptLines p unit (glyphsOf cs ks labels) smears)) last
           (F ∙ ap (λ (y : List ℕ). over y (take (length one - linesAt w P) (drop (linesAt w P) one))) records)
-          ∙ ap (putAt (linesAt w P) (plainRecords (keptLines p unit (glyphsOf cs ks labels) rows))) (q ∙ glyphs-put)
+          ∙ ap (putAt (linesAt w P) (plainRecords (keptLines p unit (glyphsOf cs ks labels) smears))) (q ∙ glyphs-put)

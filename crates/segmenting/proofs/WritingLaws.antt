@@ -15,110 +15,111 @@ use Rattle.labelling.specs.rules.Components.{noDots, boxOf}
 use Rattle.labelling.specs.declared.component.Component.{Component}
 use Rattle.params.specs.declared.LayoutParams.{LayoutParams}
 use Rattle.sorting.specs.rules.Kinds.{glyphKind}
-use Rattle.sorting.specs.stages.Scratch.{horizontalAt, verticalAt, sizesAt, kindsAt, smoothedAt, glyphsAt}
+use Rattle.sorting.specs.stages.Scratch.{horizontalAt, verticalAt, sizesAt, kindsAt, smearsAt, glyphsAt}
 use Rattle.smoothing.specs.rules.Lines.{glyphBox, SmoothedLine, smoothedLine, keptLines}
-use Rattle.smoothing.specs.stages.LineWords.{plainLine, glyphsOf, Filled, labelAt, boxAt, lineRows, OrderRoom, orderedRow, OrderedLines, NumberRoom, orderAt, glyphsAmong, glyphRecordAt, GlyphRoom, lineRecordAt, HoldsGlyphs, HoldsRows}
+use Rattle.memory.specs.stages.Stored.{Stored}
+use Rattle.smoothing.specs.stages.LineWords.{plainLine, glyphsOf, labelAt, boxAt, lineSmears, OrderRoom, orderedSmear, OrderedLines, NumberRoom, orderAt, glyphsAmong, glyphRecordAt, GlyphRoom, lineRecordAt, HoldsGlyphs, HoldsSmears}
 use Rattle.smoothing.specs.stages.GlyphLists.{LinesRoom}
 use Rattle.segmenting.specs.rules.Results.{linesAt}
 use Rattle.segmenting.specs.stages.Writing.{plainRecords, LinesHeld, LinesOrdered, linePlaces, GroupRoom}
-use Rattle.grouping.specs.stages.LineBoxes.{Inside}
+use Rattle.memory.specs.stages.Boxes.{Inside}
 use Rattle.smoothing.specs.rules.LineRecords.{lineRecord, glyphRecord}
 use Rattle.smoothing.proofs.LineLaws.{held-box, label-of, glyphOf, glyphs-are, lineOf, lines-are, labels-are, order-is, numbers-are}
 use Rattle.smoothing.proofs.LineRecords.{glyph-records, line-records}
-use Rattle.smoothing.proofs.LineRooms.{areas-are, glyphs-kept, rows-kept, rows-counted, order-labels, order-rows}
-use Rattle.smoothing.proofs.RowLaws.{rows-few, rows-low}
+use Rattle.smoothing.proofs.LineRooms.{areas-are, glyphs-kept, smears-kept, smears-counted, order-labels, order-smears}
+use Rattle.smoothing.proofs.SmearLaws.{smears-few, smears-low}
 use Rattle.memory.proofs.ListLaws.{getD-map, each-at}
 use Rattle.smoothing.proofs.Theorems.{lines-go-by-top}
 
-module _ {p : LayoutParams} {unit : Float} {cs : List Component} {ks : List ℕ} {labels : ℕ → ℕ} {rows : List Component} {w h dots P : ℕ} {s : List ℕ} {out : ℕ}
-    (H : LinesHeld p unit cs ks labels rows w h dots P s out) where
-  row-box : (t : ℕ) → t < length rows → Inside w h (boxAt s (smoothedAt dots P) t)
-  row-box t l = subst (Inside w h) (sym (held-box rows s (smoothedAt dots P) (H .smoothed .held) t l)) (H .row-boxes t l)
+module _ {p : LayoutParams} {unit : Float} {cs : List Component} {ks : List ℕ} {labels : ℕ → ℕ} {smears : List Component} {w h dots P : ℕ} {s : List ℕ} {out : ℕ}
+    (H : LinesHeld p unit cs ks labels smears w h dots P s out) where
+  smear-box : (t : ℕ) → t < length smears → Inside w h (boxAt s (smearsAt dots P) t)
+  smear-box t l = subst (Inside w h) (sym (held-box smears s (smearsAt dots P) (H .smoothed .held) t l)) (H .smear-boxes t l)
 
   -- what ordering the lines asks
-  pub order-ask : OrderRoom (horizontalAt dots) (smoothedAt dots P) (glyphsAt dots P) (length rows) s
+  pub order-ask : OrderRoom (horizontalAt dots) (smearsAt dots P) (glyphsAt dots P) (length smears) s
   order-ask =
-      let a = H .few-rows in
+      let a = H .few-smears in
       let b = H .room in
       record {
         before = omega arith;
-        rows-room = record {
+        smears-room = record {
           behind = omega arith;
           room = omega arith;
           few = let d = H .few in omega arith;
-          tops = λ t l. row-box t l .rows;
-          bottoms = λ t l. let d = row-box t l .bottom in let e = H .high in omega arith;
+          tops = λ t l. smear-box t l .rows;
+          bottoms = λ t l. let d = smear-box t l .bottom in let e = H .high in omega arith;
         };
       }
 
-  module _ {s₁ : List ℕ} {r : ℕ} (O : OrderedLines (lineRows p unit s (smoothedAt dots P) (glyphsAt dots P) (length rows)) (horizontalAt dots) s s₁ r) where
-    few-ordered : r ≤ length rows
-    few-ordered = let a = O .count in let b = rows-few p unit s (smoothedAt dots P) (glyphsAt dots P) (length rows) in omega arith
+  module _ {s₁ : List ℕ} {r : ℕ} (O : OrderedLines (lineSmears p unit s (smearsAt dots P) (glyphsAt dots P) (length smears)) (horizontalAt dots) s s₁ r) where
+    few-ordered : r ≤ length smears
+    few-ordered = let a = O .count in let b = smears-few p unit s (smearsAt dots P) (glyphsAt dots P) (length smears) in omega arith
 
     order-room : horizontalAt dots + r ≤ length s₁
-    order-room = let a = few-ordered in let b = H .few-rows in let d = H .room in let e = O .words .len in omega arith
+    order-room = let a = few-ordered in let b = H .few-smears in let d = H .room in let e = O .words .within .len in omega arith
 
-    labels-in-order : take r (drop (horizontalAt dots) s₁) ≡ map (λ (l : SmoothedLine). l .label) (keptLines p unit (glyphsOf cs ks labels) rows)
-    labels-in-order = order-is p unit (glyphsOf cs ks labels) rows (smoothedAt dots P) (glyphsAt dots P) s (H .smoothed) (horizontalAt dots) s₁ r order-room O
+    labels-in-order : take r (drop (horizontalAt dots) s₁) ≡ map (λ (l : SmoothedLine). l .label) (keptLines p unit (glyphsOf cs ks labels) smears)
+    labels-in-order = order-is p unit (glyphsOf cs ks labels) smears (smearsAt dots P) (glyphsAt dots P) s (H .smoothed) (horizontalAt dots) s₁ r order-room O
 
-    ordered-count : r ≡ length (keptLines p unit (glyphsOf cs ks labels) rows)
+    ordered-count : r ≡ length (keptLines p unit (glyphsOf cs ks labels) smears)
     ordered-count =
         O .count
-        ∙ (sym (length-map (lineRows p unit s (smoothedAt dots P) (glyphsAt dots P) (length rows)) suc)
-        ∙ (sym (ap length (labels-are p unit (glyphsOf cs ks labels) rows (smoothedAt dots P) (glyphsAt dots P) s (H .smoothed)))
-        ∙ length-map (keptLines p unit (glyphsOf cs ks labels) rows) (λ (l : SmoothedLine). l .label)))
+        ∙ (sym (length-map (lineSmears p unit s (smearsAt dots P) (glyphsAt dots P) (length smears)) suc)
+        ∙ (sym (ap length (labels-are p unit (glyphsOf cs ks labels) smears (smearsAt dots P) (glyphsAt dots P) s (H .smoothed)))
+        ∙ length-map (keptLines p unit (glyphsOf cs ks labels) smears) (λ (l : SmoothedLine). l .label)))
 
     -- what numbering them asks
-    pub number-ask : NumberRoom (horizontalAt dots) r (verticalAt dots P) (length rows) s₁
+    pub number-ask : NumberRoom (horizontalAt dots) r (verticalAt dots P) (length smears) s₁
     number-ask =
         let a = few-ordered in
-        let b = H .few-rows in
+        let b = H .few-smears in
         let d = H .room in
-        let e = O .words .len in
+        let e = O .words .within .len in
         record {
           behind = omega arith;
           room = omega arith;
           few = let f = H .few-lines in let g = ordered-count in omega arith;
-          labels = λ i l. order-labels p unit (smoothedAt dots P) (glyphsAt dots P) (length rows) (horizontalAt dots) r s s₁ O i l .0;
-          low = λ i l. order-labels p unit (smoothedAt dots P) (glyphsAt dots P) (length rows) (horizontalAt dots) r s s₁ O i l .1;
+          labels = λ i l. order-labels p unit (smearsAt dots P) (glyphsAt dots P) (length smears) (horizontalAt dots) r s s₁ O i l .0;
+          low = λ i l. order-labels p unit (smearsAt dots P) (glyphsAt dots P) (length smears) (horizontalAt dots) r s s₁ O i l .1;
         }
 
     -- what both leave
-    pub lines-ordered : {s₂ : List ℕ} → Filled (λ t. indexFrom noLine 0 (suc t) (orderAt s₁ (horizontalAt dots) r)) (verticalAt dots P) (length rows) s₁ s₂
-        → LinesOrdered p unit cs ks labels rows dots P s s₂ r
+    pub lines-ordered : {s₂ : List ℕ} → Stored (λ t. indexFrom noLine 0 (suc t) (orderAt s₁ (horizontalAt dots) r)) (verticalAt dots P) (length smears) s₁ s₂
+        → LinesOrdered p unit cs ks labels smears dots P s s₂ r
     lines-ordered {s₂} F =
         record {
           count = ordered-count;
           kept = record {
-            len = F .len ∙ O .words .len;
-            same = λ i l. F .behind i (let a = H .few-rows in omega arith) ∙ O .words .behind i (let a = few-ordered in let b = H .few-rows in omega arith);
+            len = F .within .len ∙ O .words .within .len;
+            same = λ i l. F .within .past i (let a = H .few-smears in omega arith) ∙ O .words .within .past i (let a = few-ordered in let b = H .few-smears in omega arith);
           };
           few = few-ordered;
-          labelled = λ i l. subst (λ z. (0 < z) × (z ≤ length rows)) (sym (there i l)) (order-labels p unit (smoothedAt dots P) (glyphsAt dots P) (length rows) (horizontalAt dots) r s s₁ O i l);
-          order = λ i l. ap (λ z. z - 1) (there i l) ∙ order-rows p unit (smoothedAt dots P) (glyphsAt dots P) (length rows) (horizontalAt dots) r s s₁ O i l;
-          numbers = numbers-are (keptLines p unit (glyphsOf cs ks labels) rows) (horizontalAt dots) r (verticalAt dots P) (length rows) s₁ s₂ order-room labels-in-order F;
+          labelled = λ i l. subst (λ z. (0 < z) × (z ≤ length smears)) (sym (there i l)) (order-labels p unit (smearsAt dots P) (glyphsAt dots P) (length smears) (horizontalAt dots) r s s₁ O i l);
+          order = λ i l. ap (λ z. z - 1) (there i l) ∙ order-smears p unit (smearsAt dots P) (glyphsAt dots P) (length smears) (horizontalAt dots) r s s₁ O i l;
+          numbers = numbers-are (keptLines p unit (glyphsOf cs ks labels) smears) (horizontalAt dots) r (verticalAt dots P) (length smears) s₁ s₂ order-room labels-in-order F;
         }
       where
         there : (i : ℕ) → i < r → getD s₂ (horizontalAt dots + i) 0 ≡ getD s₁ (horizontalAt dots + i) 0
-        there i l = F .before (horizontalAt dots + i) (let a = few-ordered in let b = H .few-rows in omega arith)
+        there i l = F .within .before (horizontalAt dots + i) (let a = few-ordered in let b = H .few-smears in omega arith)
 
   -- From here on the words s₂, with the lines ordered
 
-  module _ {s₂ : List ℕ} {n : ℕ} (L : LinesOrdered p unit cs ks labels rows dots P s s₂ n) where
+  module _ {s₂ : List ℕ} {n : ℕ} (L : LinesOrdered p unit cs ks labels smears dots P s s₂ n) where
     held₂ : HoldsGlyphs cs ks labels (sizesAt dots P) (kindsAt dots P) s₂
     held₂ =
         glyphs-kept cs ks labels (sizesAt dots P) (kindsAt dots P) (sizesAt dots P) s s₂ (omega arith) (omega arith)
         (let a = H .few-components in let b = H .room in omega arith) (L .kept) (H .glyphs)
 
-    smoothed₂ : HoldsRows (glyphsOf cs ks labels) rows (smoothedAt dots P) (glyphsAt dots P) s₂
+    smoothed₂ : HoldsSmears (glyphsOf cs ks labels) smears (smearsAt dots P) (glyphsAt dots P) s₂
     smoothed₂ =
-        rows-kept (glyphsOf cs ks labels) rows (smoothedAt dots P) (glyphsAt dots P) (sizesAt dots P) s s₂ (omega arith) (omega arith)
-        (let a = H .few-rows in let b = H .room in omega arith) (L .kept) (H .smoothed)
+        smears-kept (glyphsOf cs ks labels) smears (smearsAt dots P) (glyphsAt dots P) (sizesAt dots P) s s₂ (omega arith) (omega arith)
+        (let a = H .few-smears in let b = H .room in omega arith) (L .kept) (H .smoothed)
 
-    label-low : (k : ℕ) → k < length cs → labelAt s₂ (kindsAt dots P) k ≤ length rows
-    label-low k l = subst (λ z. z ≤ length rows) (sym (label-of cs ks labels (sizesAt dots P) (kindsAt dots P) s₂ held₂ k l)) (go (eqb (getD ks k 0) glyphKind))
+    label-low : (k : ℕ) → k < length cs → labelAt s₂ (kindsAt dots P) k ≤ length smears
+    label-low k l = subst (λ z. z ≤ length smears) (sym (label-of cs ks labels (sizesAt dots P) (kindsAt dots P) s₂ held₂ k l)) (go (eqb (getD ks k 0) glyphKind))
       where
-        go : (t : Bool) → cond t (labels k) 0 ≤ length rows
+        go : (t : Bool) → cond t (labels k) 0 ≤ length smears
         go true = H .low k l
         go false = omega arith
 
@@ -128,7 +129,7 @@ module _ {p : LayoutParams} {unit : Float} {cs : List Component} {ks : List ℕ}
         let a = H .few-components in
         let b = H .room in
         let d = L .kept .len in
-        let e = H .few-rows in
+        let e = H .few-smears in
         record {
           sizes-room = omega arith;
           kinds-room = omega arith;
@@ -141,20 +142,20 @@ module _ {p : LayoutParams} {unit : Float} {cs : List Component} {ks : List ℕ}
         sym (ap length (glyphs-are cs ks labels (sizesAt dots P) (kindsAt dots P) s₂ held₂) ∙ length-map (glyphsAmong s₂ (kindsAt dots P) (length cs)) (glyphOf cs labels))
 
     pub glyphs-records : encoded (glyphRecordAt s₂ (sizesAt dots P) (kindsAt dots P) (verticalAt dots P)) (glyphsAmong s₂ (kindsAt dots P) (length cs))
-        ≡ encoded glyphRecord (map (glyphBox (keptLines p unit (glyphsOf cs ks labels) rows)) (glyphsOf cs ks labels))
+        ≡ encoded glyphRecord (map (glyphBox (keptLines p unit (glyphsOf cs ks labels) smears)) (glyphsOf cs ks labels))
     glyphs-records =
-        glyph-records cs ks labels (sizesAt dots P) (kindsAt dots P) s₂ held₂ (keptLines p unit (glyphsOf cs ks labels) rows) (verticalAt dots P) (length rows) (L .numbers) label-low
+        glyph-records cs ks labels (sizesAt dots P) (kindsAt dots P) s₂ held₂ (keptLines p unit (glyphsOf cs ks labels) smears) (verticalAt dots P) (length smears) (L .numbers) label-low
 
     own-box : (k : ℕ) → k < length cs → Inside w h (boxAt s₂ (sizesAt dots P) k)
     own-box k l = subst (Inside w h) (sym (held-box cs s₂ (sizesAt dots P) (held₂ .held) k l)) (H .boxes k l)
 
     -- what writing the lines asks
-    pub lines-ask : (room : ℕ) → n * 8 ≤ room → LinesRoom (linePlaces h dots P (length cs) (length rows)) n s₂ room
+    pub lines-ask : (room : ℕ) → n * 8 ≤ room → LinesRoom (linePlaces h dots P (length cs) (length smears)) n s₂ room
     lines-ask room q =
         let a = H .few-components in
         let b = H .room in
         let d = L .kept .len in
-        let e = H .few-rows in
+        let e = H .few-smears in
         let f = L .few in
         let g = H .heights in
         record {
@@ -177,7 +178,7 @@ module _ {p : LayoutParams} {unit : Float} {cs : List Component} {ks : List ℕ}
             before-glyphs = omega arith;
             smoothed-room = omega arith;
             glyphs-room = omega arith;
-            counted = rows-counted cs ks labels (sizesAt dots P) (kindsAt dots P) (smoothedAt dots P) (glyphsAt dots P) rows s₂ held₂ smoothed₂;
+            counted = smears-counted cs ks labels (sizesAt dots P) (kindsAt dots P) (smearsAt dots P) (glyphsAt dots P) smears s₂ held₂ smoothed₂;
           };
           before-order = omega arith;
           order-room = omega arith;
@@ -187,50 +188,50 @@ module _ {p : LayoutParams} {unit : Float} {cs : List Component} {ks : List ℕ}
         }
 
     -- the order is the same by either words
-    same-row : (i : ℕ) → i < n → orderedRow s₂ (horizontalAt dots) i ≡ getD (lineRows p unit s₂ (smoothedAt dots P) (glyphsAt dots P) (length rows)) i 0
-    same-row i l =
-        let a = labels-are p unit (glyphsOf cs ks labels) rows (smoothedAt dots P) (glyphsAt dots P) s (H .smoothed) in
-        let b = labels-are p unit (glyphsOf cs ks labels) rows (smoothedAt dots P) (glyphsAt dots P) s₂ smoothed₂ in
+    same-smear : (i : ℕ) → i < n → orderedSmear s₂ (horizontalAt dots) i ≡ getD (lineSmears p unit s₂ (smearsAt dots P) (glyphsAt dots P) (length smears)) i 0
+    same-smear i l =
+        let a = labels-are p unit (glyphsOf cs ks labels) smears (smearsAt dots P) (glyphsAt dots P) s (H .smoothed) in
+        let b = labels-are p unit (glyphsOf cs ks labels) smears (smearsAt dots P) (glyphsAt dots P) s₂ smoothed₂ in
         let d = ap (λ (z : List ℕ). getD z i 1) (sym a ∙ b) in
-        let e = List·getD-map suc (lineRows p unit s (smoothedAt dots P) (glyphsAt dots P) (length rows)) i 0 in
-        let f = List·getD-map suc (lineRows p unit s₂ (smoothedAt dots P) (glyphsAt dots P) (length rows)) i 0 in
+        let e = List·getD-map suc (lineSmears p unit s (smearsAt dots P) (glyphsAt dots P) (length smears)) i 0 in
+        let f = List·getD-map suc (lineSmears p unit s₂ (smearsAt dots P) (glyphsAt dots P) (length smears)) i 0 in
         let g = L .order i l in
         omega arith
 
-    pub lines-records : encoded (λ i. lineRecordAt s₂ (smoothedAt dots P) (glyphsAt dots P) (sizesAt dots P) (kindsAt dots P) (length cs) (orderedRow s₂ (horizontalAt dots) i)) (upto n)
-        ≡ plainRecords (keptLines p unit (glyphsOf cs ks labels) rows)
+    pub lines-records : encoded (λ i. lineRecordAt s₂ (smearsAt dots P) (glyphsAt dots P) (sizesAt dots P) (kindsAt dots P) (length cs) (orderedSmear s₂ (horizontalAt dots) i)) (upto n)
+        ≡ plainRecords (keptLines p unit (glyphsOf cs ks labels) smears)
     lines-records =
-        line-records p unit cs ks labels (sizesAt dots P) (kindsAt dots P) s₂ held₂ rows (smoothedAt dots P) (glyphsAt dots P) smoothed₂ (horizontalAt dots) n s₂ (L .count) same-row
-        ∙ ap (λ k. encoded lineRecord (table (plainLine (keptLines p unit (glyphsOf cs ks labels) rows)) k)) (L .count)
+        line-records p unit cs ks labels (sizesAt dots P) (kindsAt dots P) s₂ held₂ smears (smearsAt dots P) (glyphsAt dots P) smoothed₂ (horizontalAt dots) n s₂ (L .count) same-smear
+        ∙ ap (λ k. encoded lineRecord (table (plainLine (keptLines p unit (glyphsOf cs ks labels) smears)) k)) (L .count)
 
   -- The lines for grouping
 
-  line-row : (i : ℕ) (d : SmoothedLine) → i < length (keptLines p unit (glyphsOf cs ks labels) rows)
-      → (t : ℕ) × (t < length rows) × (getD (keptLines p unit (glyphsOf cs ks labels) rows) i d .bbox ≡ boxOf (getD rows t noDots))
+  line-smear : (i : ℕ) (d : SmoothedLine) → i < length (keptLines p unit (glyphsOf cs ks labels) smears)
+      → (t : ℕ) × (t < length smears) × (getD (keptLines p unit (glyphsOf cs ks labels) smears) i d .bbox ≡ boxOf (getD smears t noDots))
   unfolding smoothedLine
-  line-row i d l =
-      let rs = lineRows p unit s (smoothedAt dots P) (glyphsAt dots P) (length rows) in
-      let e = lines-are p unit (glyphsOf cs ks labels) rows (smoothedAt dots P) (glyphsAt dots P) s (H .smoothed) in
-      let n = ap length e ∙ length-map rs (lineOf (glyphsOf cs ks labels) rows) in (
+  line-smear i d l =
+      let rs = lineSmears p unit s (smearsAt dots P) (glyphsAt dots P) (length smears) in
+      let e = lines-are p unit (glyphsOf cs ks labels) smears (smearsAt dots P) (glyphsAt dots P) s (H .smoothed) in
+      let n = ap length e ∙ length-map rs (lineOf (glyphsOf cs ks labels) smears) in (
         getD rs i 0,
-        each-at (λ t. t < length rows) rs (rows-low p unit s (smoothedAt dots P) (glyphsAt dots P) (length rows)) i 0 (omega arith),
-        ap (λ (z : List SmoothedLine). getD z i d .bbox) e ∙ ap (λ (z : SmoothedLine). z .bbox) (getD-map (lineOf (glyphsOf cs ks labels) rows) rs i d 0 (omega arith)),
+        each-at (λ t. t < length smears) rs (smears-low p unit s (smearsAt dots P) (glyphsAt dots P) (length smears)) i 0 (omega arith),
+        ap (λ (z : List SmoothedLine). getD z i d .bbox) e ∙ ap (λ (z : SmoothedLine). z .bbox) (getD-map (lineOf (glyphsOf cs ks labels) smears) rs i d 0 (omega arith)),
       )
 
-  pub few-lines : length (keptLines p unit (glyphsOf cs ks labels) rows) ≤ length rows
+  pub few-lines : length (keptLines p unit (glyphsOf cs ks labels) smears) ≤ length smears
   few-lines =
-      let rs = lineRows p unit s (smoothedAt dots P) (glyphsAt dots P) (length rows) in
-      let e = ap length (lines-are p unit (glyphsOf cs ks labels) rows (smoothedAt dots P) (glyphsAt dots P) s (H .smoothed)) ∙ length-map rs (lineOf (glyphsOf cs ks labels) rows) in
-      let f = rows-few p unit s (smoothedAt dots P) (glyphsAt dots P) (length rows) in
+      let rs = lineSmears p unit s (smearsAt dots P) (glyphsAt dots P) (length smears) in
+      let e = ap length (lines-are p unit (glyphsOf cs ks labels) smears (smearsAt dots P) (glyphsAt dots P) s (H .smoothed)) ∙ length-map rs (lineOf (glyphsOf cs ks labels) smears) in
+      let f = smears-few p unit s (smearsAt dots P) (glyphsAt dots P) (length smears) in
       omega arith
 
   -- what grouping the lines asks
-  pub groups-ask : (before results : List ℕ) (n words : ℕ) → results ≡ putAt (linesAt w P) (plainRecords (keptLines p unit (glyphsOf cs ks labels) rows)) before
-      → length results ≡ length before → length results ≡ out → n ≡ length (keptLines p unit (glyphsOf cs ks labels) rows) → words ≡ length s → w ≤ maxFrameWidth → 2 * w ≤ length s
-      → GroupRoom w h P (keptLines p unit (glyphsOf cs ks labels) rows) before results n words
+  pub groups-ask : (before results : List ℕ) (n words : ℕ) → results ≡ putAt (linesAt w P) (plainRecords (keptLines p unit (glyphsOf cs ks labels) smears)) before
+      → length results ≡ length before → length results ≡ out → n ≡ length (keptLines p unit (glyphsOf cs ks labels) smears) → words ≡ length s → w ≤ maxFrameWidth → 2 * w ≤ length s
+      → GroupRoom w h P (keptLines p unit (glyphsOf cs ks labels) smears) before results n words
   groups-ask before results n words held long room count same narrow across =
       let a = few-lines in
-      let b = H .few-rows in
+      let b = H .few-smears in
       let d = H .room in
       let e = H .heights in
       record {
@@ -241,8 +242,8 @@ module _ {p : LayoutParams} {unit : Float} {cs : List Component} {ks : List ℕ}
         capacity = H .few;
         narrow = narrow;
         low = H .high;
-        boxes = λ i d l. let (t, q, f) = line-row i d l in subst (Inside w h) (sym f) (H .row-boxes t q);
-        by-top = lines-go-by-top p unit (glyphsOf cs ks labels) rows;
+        boxes = λ i d l. let (t, q, f) = line-smear i d l in subst (Inside w h) (sym f) (H .smear-boxes t q);
+        by-top = lines-go-by-top p unit (glyphsOf cs ks labels) smears;
         room = let f = H .results-room in omega arith;
         heights = omega arith;
         parents = omega arith;

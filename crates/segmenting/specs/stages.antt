@@ -6,3 +6,5 @@ pub mod Painting
 pub mod Rooms
 -- what the stages of writing the results ask and leave
 pub mod Writing
+-- the places of the lists of results
+pub mod Places

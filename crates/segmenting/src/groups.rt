@@ -7,9 +7,13 @@ ghost use Rattle.grouping.specs.rules.Blocks.{blockFirsts, blocksOf};
 ghost use Rattle.grouping.specs.rules.Columns.{columnsOf};
 ghost use Rattle.smoothing.specs.rules.Lines.{SmoothedLine};
 ghost use Rattle.segmenting.specs.stages.Writing.{boxesOfLines, GroupRoom, groupsLeft};
+use crate::places::COLUMN_WORDS;
+use crate::places::LINES_AT;
 use grouping::blocks;
 use grouping::columns;
 use params::LayoutParams;
+use smoothing::LINE_WORDS;
+use sorting::Plan;
 
 // How many blocks and columns there are.
 pub struct GroupCounts {
@@ -19,23 +23,22 @@ pub struct GroupCounts {
 
 // Groups the lines that stand in the results: writes the blocks, the number of its block into each line, and the columns.
 pub fn write_groups(
+    plan: Plan,
     sheet: LayoutParams,
     unit: f64,
-    w: usize,
-    height: u32,
-    capacity: usize,
     lines: usize,
     words: &mut [u32],
     results: &mut [u32],
 ) -> GroupCounts
-    requires { ⌜ ((ls : List SmoothedLine) × (before : List ℕ) × GroupRoom w height capacity ls before (now results) lines (length (now words))) ⌝ }
-    ensures { λ r. ⌜ ((ls : List SmoothedLine) (before : List ℕ) → GroupRoom w height capacity ls before (now (results .entry)) lines (length (now (words .entry)))
-        → (r .blocks ≡ length (blocksOf (boxesOfLines ls) (blockFirsts sheet (boxesOfLines ls)))) × (r .columns ≡ length (columnsOf sheet unit w (boxesOfLines ls)))
-        × (now (results .exit) ≡ groupsLeft sheet unit w capacity ls before)) ⌝ }
+    requires { ⌜ ((ls : List SmoothedLine) × (before : List ℕ) × GroupRoom (plan .width) (plan .height) (plan .capacity) ls before (now results) lines (length (now words))) ⌝ }
+    ensures { λ r. ⌜ ((ls : List SmoothedLine) (before : List ℕ) → GroupRoom (plan .width) (plan .height) (plan .capacity) ls before (now (results .entry)) lines (length (now (words .entry)))
+        → (r .blocks ≡ length (blocksOf (boxesOfLines ls) (blockFirsts sheet (boxesOfLines ls)))) × (r .columns ≡ length (columnsOf sheet unit (plan .width) (boxesOfLines ls)))
+        × (now (results .exit) ≡ groupsLeft sheet unit (plan .width) (plan .capacity) ls before)) ⌝ }
 {
-    let at = 2 * w + 22 * capacity;
-    let behind = 8 * capacity;
-    let found = blocks(&mut results[at..], lines, sheet, height, behind, words);
+    let w = plan.width as usize;
+    let at = COLUMN_WORDS * w + LINES_AT * plan.capacity;
+    let behind = LINE_WORDS * plan.capacity;
+    let found = blocks(&mut results[at..], lines, sheet, plan.height, behind, words);
     let across = columns(results, at, lines, sheet, unit, w, words);
     GroupCounts {
         blocks: found,

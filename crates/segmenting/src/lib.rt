@@ -6,11 +6,16 @@ mod groups;
 mod lists;
 mod page;
 mod painting;
+mod places;
 mod results;
 mod text;
 
+pub use boxes::BOX_WORDS;
 pub use figures::measured_word;
 pub use figures::write_figures;
 pub use page::SegmentAnswer;
 pub use page::segment;
+pub use places::COLUMN_WORDS;
+pub use places::ResultPlaces;
+pub use places::result_places;
 pub use results::Segmentation;

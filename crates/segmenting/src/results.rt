@@ -3,6 +3,7 @@ ghost use mathlib.Core.Path.{_≡_};
 ghost use Prim.Native.Nat.{_+_, _*_, _≤_};
 ghost use lib.ListN.{length};
 ghost use Rattle.memory.specs.rules.Words.{over};
+ghost use Rattle.sorting.specs.stages.Scratch.{Planned};
 ghost use Rattle.segmenting.specs.rules.Layouts.{layout};
 ghost use Rattle.segmenting.specs.stages.Held.{heldArea};
 ghost use Rattle.segmenting.specs.rules.Results.{resultsLeft};
@@ -16,18 +17,14 @@ use crate::lists::write_box_lists;
 use crate::painting::paint_kinds;
 use crate::text::write_glyph_lines;
 use params::LayoutParams;
-use smoothing::Rows;
-use sorting::Sorting;
+use smoothing::Smears;
+use sorting::GLYPH;
+use sorting::GRAPHIC;
+use sorting::Plan;
+use sorting::RULE;
+use sorting::SPECK;
+use sorting::SortCounts;
 use sorting::Unit;
-
-// The kinds of components.
-const RULE: u32 = 2;
-
-const GRAPHIC: u32 = 3;
-
-const GLYPH: u32 = 4;
-
-const SPECK: u32 = 5;
 
 // What is told of a segmentation besides its lists: the unit, how long each list is, the dots of ink and of each kind.
 pub struct Segmentation {
@@ -110,35 +107,27 @@ fn figures(
 // Writes the plane of kinds and all lists of a page that scratch holds, and tells its figures.
 pub fn write_results(
     ink: &[u8],
-    width: u32,
-    height: u32,
+    plan: Plan,
     sheet: LayoutParams,
-    capacity: usize,
-    found: Sorting,
-    rows: Rows,
+    found: SortCounts,
+    smears: Smears,
     words: &mut [u32],
     results: &mut [u32],
-    kinds: &mut [u8],
+    plane: &mut [u8],
 ) -> Segmentation
-    requires { ⌜ ResultsRoom sheet width height (now ink) capacity (now words) found rows (length (now results)) (length (now kinds)) ⌝ }
-    ensures { λ r. ⌜ (r ≡ figuresOf (layout sheet width height (now (ink .entry)))) × (now (results .exit) ≡ resultsLeft width capacity (layout sheet width height (now (ink .entry))) (now (results .entry)))
-        × (now (kinds .exit) ≡ over (layout sheet width height (now (ink .entry)) .kinds) (now (kinds .entry))) ⌝ }
+    requires { ⌜ (ResultsRoom sheet (plan .width) (plan .height) (now ink) (plan .capacity) (now words) found smears (length (now results)) (length (now plane))) × (Planned plan) ⌝ }
+    ensures { λ r. ⌜ (r ≡ figuresOf (layout sheet (plan .width) (plan .height) (now (ink .entry))))
+        × (now (results .exit) ≡ resultsLeft (plan .width) (plan .capacity) (layout sheet (plan .width) (plan .height) (now (ink .entry))) (now (results .entry)))
+        × (now (plane .exit) ≡ over (layout sheet (plan .width) (plan .height) (now (ink .entry)) .plane) (now (plane .entry))) ⌝ }
 {
-    let w = width as usize;
-    let h = height as usize;
-    let dots = w * h;
-    let first = 4 * dots + 64;
-    let kinds_at = first + 9 * capacity;
-    let n = found.components;
+    let n = found.component_count;
     let total = found.ink;
-    let across = found.horizontal;
-    let down = found.vertical;
-    paint_kinds(ink, &words[..], found.runs, kinds_at, kinds);
-    let areas = count_kinds(&words[..], first + 4 * capacity, kinds_at, n, total);
-    let boxes = write_box_lists(&words[..], w, dots, capacity, across, down, n, results);
+    paint_kinds(ink, &words[..], found.runs, plan.kinds, plane);
+    let areas = count_kinds(&words[..], plan.sizes, plan.kinds, n, total);
+    let boxes = write_box_lists(&words[..], plan, found, results);
     let unit = found.unit;
     let x = unit.value();
-    let glyphs = write_glyph_lines(sheet, x, w, h, dots, capacity, n, rows.rows, words, results);
-    let groups = write_groups(sheet, x, w, height, capacity, rows.lines, words, results);
-    figures(unit, total, areas, boxes, glyphs, rows.lines, groups)
+    let glyphs = write_glyph_lines(plan, sheet, x, n, smears.smears, words, results);
+    let groups = write_groups(plan, sheet, x, smears.lines, words, results);
+    figures(unit, total, areas, boxes, glyphs, smears.lines, groups)
 }

@@ -17,9 +17,10 @@ use Rattle.memory.proofs.RecordLaws.{length-encoded, record-more}
 use Rattle.memory.proofs.TableLaws.{length-table}
 use Rattle.memory.specs.rules.Rects.{height}
 use Rattle.sorting.specs.rules.Units.{median}
-use Rattle.smoothing.specs.stages.LineWords.{Filled, labelAt, boxAt, areaAt, glyphsAmong, glyphRecordAt, WrittenGlyph, WrittenGlyphs, ownGlyphs, ownInk, ownHeights, lineFields, lineRecordAt, KeptFrom}
+use Rattle.memory.specs.stages.Stored.{Stored}
+use Rattle.smoothing.specs.stages.LineWords.{labelAt, boxAt, areaAt, glyphsAmong, glyphRecordAt, WrittenGlyph, WrittenGlyphs, ownGlyphs, ownInk, ownHeights, lineFields, lineRecordAt, KeptFrom}
 use Rattle.memory.proofs.ListLaws.{keep-snoc-yes, keep-snoc-no, keep-few, map-append}
-use Rattle.smoothing.proofs.RowLaws.{box-kept}
+use Rattle.smoothing.proofs.SmearLaws.{box-kept}
 
 -- Records of the glyphs
 
@@ -101,8 +102,8 @@ kept-total f q (suc n) = go (q n) refl (kept-total f q n)
 
 -- Words kept from a place on
 
-pub kept-filled : (f : ℕ → ℕ) (at n : ℕ) (s s' : List ℕ) → Filled f at n s s' → KeptFrom (at + n) s s'
-kept-filled f at n s s' r = record { len = r .len; same = r .behind }
+pub kept-stored : {f : ℕ → ℕ} {at n : ℕ} {s s' : List ℕ} → Stored f at n s s' → KeptFrom (at + n) s s'
+kept-stored r = record { len = r .within .len; same = r .within .past }
 
 module _ (at : ℕ) (s s' : List ℕ) (r : KeptFrom at s s') where
   pub label-same : (kinds : ℕ) → at ≤ kinds → (k : ℕ) → labelAt s' kinds k ≡ labelAt s kinds k

@@ -10,12 +10,12 @@ pub mod RowWordLaws
 pub mod RowRunLaws
 -- one run more in that walk, and its ends
 pub mod RowStepLaws
--- that walk seen from a part of the words
-pub mod PartWalkLaws
--- words that a loop fills, and the labels of glyphs counted
-pub mod FilledWords
+-- that walk as the code has it, and a row lent as parts
+pub mod PageWalkLaws
+-- the labels of glyphs counted
+pub mod LabelCounts
 -- smoothed components in the order of lines, and the number of each label
-pub mod RowLaws
+pub mod SmearLaws
 -- records, ink and heights of glyphs, one component after the other
 pub mod GlyphLaws
 -- lists of the glyphs with each label, and walks along them

@@ -24,12 +24,13 @@ use Rattle.labelling.specs.stages.Sizes.{sizeWords, HoldsSizes}
 use Rattle.labelling.specs.declared.component.Component.{Component}
 use Rattle.params.specs.declared.LayoutParams.{LayoutParams}
 use Rattle.sorting.specs.rules.Kinds.{glyphKind}
-use Rattle.smoothing.specs.rules.Lines.{LabelledGlyph, labelledGlyphs, firstDot, SmoothedLine, smoothedLine, isLine, keysAtMost, keptLines, lineNumber}
-use Rattle.smoothing.specs.stages.LineWords.{glyphsOf, Filled, kindWord, firstNumber, labelAt, labelsAt, boxAt, lineBySize, rowIsLine, boxKeys, rowAtMost, lineRows, OrderedLines, orderAt, areaAt, glyphsAmong, ownGlyphs, ownInk, ownHeights, HoldsGlyphs, glyphCount, HoldsRows}
+use Rattle.smoothing.specs.rules.Lines.{LabelledGlyph, labelledGlyphs, firstDot, SmoothedLine, smoothedLine, lineBySize, isLine, keysAtMost, keptLines, lineNumber}
+use Rattle.memory.specs.stages.Stored.{Stored}
+use Rattle.smoothing.specs.stages.LineWords.{glyphsOf, kindWord, firstNumber, labelAt, labelsAt, boxAt, smearIsLine, boxKeys, smearAtMost, lineSmears, OrderedLines, orderAt, areaAt, glyphsAmong, ownGlyphs, ownInk, ownHeights, HoldsGlyphs, glyphCount, HoldsSmears}
 use Rattle.memory.proofs.ListLaws.{Each, each-sort, keep-same, map-table}
 use Rattle.memory.proofs.PlaceLaws.{count-length}
 use Rattle.smoothing.proofs.OrderLaws.{lineAtMost}
-use Rattle.smoothing.proofs.RowLaws.{kept-low, length-sort, row-total, row-trans}
+use Rattle.smoothing.proofs.SmearLaws.{kept-low, length-sort, smear-total, smear-trans}
 
 -- Lists
 
@@ -116,12 +117,12 @@ held-kept cs s s' at room len same held =
 pub glyphs-held : (cs : List Component) (ks : List ℕ) (labels : ℕ → ℕ) (sizes kinds firsts numbers : ℕ) (s s' : List ℕ) → HoldsSizes cs s sizes → sizes + 5 * length cs ≤ kinds → kinds ≤ length s
     → ((k : ℕ) → k < length cs → getD s (kinds + k) 0 ≡ getD ks k 0) → ((k : ℕ) → k < length cs → getD ks k 0 < 8)
     → ((k : ℕ) → k < length cs → getD ks k 0 ≡ glyphKind → (0 < labels k) × (firstNumber s firsts numbers k ≡ labels k))
-    → Filled (λ k. kindWord (getD s (kinds + k) 0) (firstNumber s firsts numbers k)) kinds (length cs) s s' → HoldsGlyphs cs ks labels sizes kinds s'
+    → Stored (λ k. kindWord (getD s (kinds + k) 0) (firstNumber s firsts numbers k)) kinds (length cs) s s' → HoldsGlyphs cs ks labels sizes kinds s'
 unfolding kindWord
 glyphs-held cs ks labels sizes kinds firsts numbers s s' held before room stand known first r =
     record {
-      held = held-kept cs s s' sizes (omega arith) (r .len) (λ i a b. r .before i (omega arith)) held;
-      words = λ k l. r .inside k l ∙ (ap (λ n. kindWord n (firstNumber s firsts numbers k)) (stand k l) ∙ go k l (eqb (getD ks k 0) glyphKind) refl);
+      held = held-kept cs s s' sizes (omega arith) (r .within .len) (λ i a b. r .within .before i (omega arith)) held;
+      words = λ k l. r .each k l ∙ (ap (λ n. kindWord n (firstNumber s firsts numbers k)) (stand k l) ∙ go k l (eqb (getD ks k 0) glyphKind) refl);
       known = known;
       labelled = λ k l e. first k l e .0;
     }
@@ -131,10 +132,10 @@ glyphs-held cs ks labels sizes kinds firsts numbers s s' held before room stand 
     go k l false e = rw e
 
 -- the glyphs of a page, with the labels of their first dots
-pub labelled-glyphs : (rest : Labelling) (kinds : List ℕ) (rows : Labelling)
-    → labelledGlyphs rest kinds rows ≡ glyphsOf (rest .components) kinds (λ k. getD (rows .labels) (firstDot (rest .labels) (suc k)) 0)
+pub labelled-glyphs : (rest : Labelling) (kinds : List ℕ) (smears : Labelling)
+    → labelledGlyphs rest kinds smears ≡ glyphsOf (rest .components) kinds (λ k. getD (smears .labels) (firstDot (rest .labels) (suc k)) 0)
 unfolding labelledGlyphs glyphsOf
-labelled-glyphs rest kinds rows = refl
+labelled-glyphs rest kinds smears = refl
 
 abbrev pub glyphOf : List Component → (ℕ → ℕ) → ℕ → LabelledGlyph
 glyphOf cs labels k = record { component = getD cs k noDots; label = labels k }
@@ -204,64 +205,64 @@ module _ (cs : List Component) (ks : List ℕ) (labels : ℕ → ℕ) (sizes kin
 -- Lines
 
 abbrev pub lineOf : List LabelledGlyph → List Component → ℕ → SmoothedLine
-lineOf gs rows t = smoothedLine gs (getD rows t noDots) (suc t)
+lineOf gs smears t = smoothedLine gs (getD smears t noDots) (suc t)
 
-module _ (p : LayoutParams) (unit : Float) (gs : List LabelledGlyph) (rows : List Component) (smoothed glyphs : ℕ) (s : List ℕ) (h : HoldsRows gs rows smoothed glyphs s) where
-  row-box : (t : ℕ) → t < length rows → lineOf gs rows t .bbox ≡ boxAt s smoothed t
+module _ (p : LayoutParams) (unit : Float) (gs : List LabelledGlyph) (smears : List Component) (smoothed glyphs : ℕ) (s : List ℕ) (h : HoldsSmears gs smears smoothed glyphs s) where
+  smear-box : (t : ℕ) → t < length smears → lineOf gs smears t .bbox ≡ boxAt s smoothed t
   unfolding smoothedLine
-  row-box t l = sym (held-box rows s smoothed (h .held) t l)
+  smear-box t l = sym (held-box smears s smoothed (h .held) t l)
 
-  line-test : (t : ℕ) → t < length rows → rowIsLine p unit s smoothed glyphs t ≡ isLine p unit (lineOf gs rows t)
-  unfolding isLine smoothedLine lineBySize
-  line-test t l = λ i. lineBySize p unit (h .counts t l i) (height (held-box rows s smoothed (h .held) t l i))
+  line-test : (t : ℕ) → t < length smears → smearIsLine p unit s smoothed glyphs t ≡ isLine p unit (lineOf gs smears t)
+  unfolding smoothedLine
+  line-test t l = λ i. lineBySize p unit (h .counts t l i) (height (held-box smears s smoothed (h .held) t l i))
 
-  line-order : (a b : ℕ) → a < length rows → b < length rows → lineAtMost (lineOf gs rows a) (lineOf gs rows b) ≡ rowAtMost s smoothed a b
-  unfolding rowAtMost smoothedLine
+  line-order : (a b : ℕ) → a < length smears → b < length smears → lineAtMost (lineOf gs smears a) (lineOf gs smears b) ≡ smearAtMost s smoothed a b
+  unfolding smearAtMost smoothedLine
   line-order a b l m =
-      λ i. keysAtMost (boxKeys (row-box a l i) a) (boxKeys (row-box b m i) b)
+      λ i. keysAtMost (boxKeys (smear-box a l i) a) (boxKeys (smear-box b m i) b)
 
   -- the lines in their order
-  pub lines-are : keptLines p unit gs rows ≡ map (lineOf gs rows) (lineRows p unit s smoothed glyphs (length rows))
-  unfolding keptLines lineRows
+  pub lines-are : keptLines p unit gs smears ≡ map (lineOf gs smears) (lineSmears p unit s smoothed glyphs (length smears))
+  unfolding keptLines lineSmears
   lines-are =
       ap (λ (l : List SmoothedLine). sortBy lineAtMost (keep (isLine p unit) l)) tables
       ∙ (ap (sortBy lineAtMost)
-      (keep-map (isLine p unit) (lineOf gs rows) (upto (length rows))
-      ∙ ap (map (lineOf gs rows)) (sym (keep-same (rowIsLine p unit s smoothed glyphs) (λ t. isLine p unit (lineOf gs rows t)) (length rows) line-test)))
-      ∙ sort-map (λ t. t < length rows) (lineOf gs rows) lineAtMost (rowAtMost s smoothed) line-order (keep (rowIsLine p unit s smoothed glyphs) (upto (length rows)))
-      (kept-low (rowIsLine p unit s smoothed glyphs) (length rows) (length rows) (le-refl (length rows))))
+      (keep-map (isLine p unit) (lineOf gs smears) (upto (length smears))
+      ∙ ap (map (lineOf gs smears)) (sym (keep-same (smearIsLine p unit s smoothed glyphs) (λ t. isLine p unit (lineOf gs smears t)) (length smears) line-test)))
+      ∙ sort-map (λ t. t < length smears) (lineOf gs smears) lineAtMost (smearAtMost s smoothed) line-order (keep (smearIsLine p unit s smoothed glyphs) (upto (length smears)))
+      (kept-low (smearIsLine p unit s smoothed glyphs) (length smears) (length smears) (le-refl (length smears))))
     where
-      tables : table (lineOf gs rows) (length rows) ≡ map (lineOf gs rows) (upto (length rows))
-      tables = sym (upto-map (lineOf gs rows) (length rows))
+      tables : table (lineOf gs smears) (length smears) ≡ map (lineOf gs smears) (upto (length smears))
+      tables = sym (upto-map (lineOf gs smears) (length smears))
 
   -- what `count_lines` answers
-  pub lines-count : countIf (rowIsLine p unit s smoothed glyphs) (length rows) ≡ length (keptLines p unit gs rows)
-  unfolding lineRows
+  pub lines-count : countIf (smearIsLine p unit s smoothed glyphs) (length smears) ≡ length (keptLines p unit gs smears)
+  unfolding lineSmears
   lines-count =
       sym (ap length lines-are
-      ∙ (length-map (lineRows p unit s smoothed glyphs (length rows)) (lineOf gs rows)
-      ∙ (length-sort (rowAtMost s smoothed) (row-total s smoothed) (row-trans s smoothed) (keep (rowIsLine p unit s smoothed glyphs) (upto (length rows)))
-      ∙ count-length (rowIsLine p unit s smoothed glyphs) (length rows))))
+      ∙ (length-map (lineSmears p unit s smoothed glyphs (length smears)) (lineOf gs smears)
+      ∙ (length-sort (smearAtMost s smoothed) (smear-total s smoothed) (smear-trans s smoothed) (keep (smearIsLine p unit s smoothed glyphs) (upto (length smears)))
+      ∙ count-length (smearIsLine p unit s smoothed glyphs) (length smears))))
 
   -- the labels that `order_lines` writes
-  pub labels-are : map (λ (l : SmoothedLine). l .label) (keptLines p unit gs rows) ≡ map suc (lineRows p unit s smoothed glyphs (length rows))
+  pub labels-are : map (λ (l : SmoothedLine). l .label) (keptLines p unit gs smears) ≡ map suc (lineSmears p unit s smoothed glyphs (length smears))
   unfolding smoothedLine
-  labels-are = ap (map (λ (l : SmoothedLine). l .label)) lines-are ∙ map-map (lineOf gs rows) (λ (l : SmoothedLine). l .label) (lineRows p unit s smoothed glyphs (length rows))
+  labels-are = ap (map (λ (l : SmoothedLine). l .label)) lines-are ∙ map-map (lineOf gs smears) (λ (l : SmoothedLine). l .label) (lineSmears p unit s smoothed glyphs (length smears))
 
-  pub order-is : (order : ℕ) (s' : List ℕ) (r : ℕ) → order + r ≤ length s' → OrderedLines (lineRows p unit s smoothed glyphs (length rows)) order s s' r
-      → take r (drop order s') ≡ map (λ (l : SmoothedLine). l .label) (keptLines p unit gs rows)
+  pub order-is : (order : ℕ) (s' : List ℕ) (r : ℕ) → order + r ≤ length s' → OrderedLines (lineSmears p unit s smoothed glyphs (length smears)) order s s' r
+      → take r (drop order s') ≡ map (λ (l : SmoothedLine). l .label) (keptLines p unit gs smears)
   order-is order s' r room o =
-      let ls = lineRows p unit s smoothed glyphs (length rows) in
+      let ls = lineSmears p unit s smoothed glyphs (length smears) in
       let n = length-map ls suc in
       let c = o .count in
       let len : length (take r (drop order s')) ≡ r = length-take r (drop order s') ∙ (let a = length-drop order s' in omega arith) in
       ext-getD 0 (take r (drop order s')) (map suc ls) (len ∙ (c ∙ sym n))
-      (λ i l. (let q : i < r = omega arith in getD-take r (drop order s') i 0 q ∙ (getD-drop order s' i 0 ∙ (o .words .inside i q ∙ sym (map-at suc ls i (omega arith))))))
+      (λ i l. (let q : i < r = omega arith in getD-take r (drop order s') i 0 q ∙ (getD-drop order s' i 0 ∙ (o .words .each i q ∙ sym (map-at suc ls i (omega arith))))))
       ∙ sym labels-are
 
 -- The numbers of labels
 
-pub numbers-are : (ls : List SmoothedLine) (order n numbers rows : ℕ) (s s' : List ℕ) → order + n ≤ length s → take n (drop order s) ≡ map (λ (l : SmoothedLine). l .label) ls
-    → Filled (λ t. indexFrom noLine 0 (suc t) (orderAt s order n)) numbers rows s s' → (t : ℕ) → t < rows → getD s' (numbers + t) 0 ≡ lineNumber ls (suc t)
+pub numbers-are : (ls : List SmoothedLine) (order n numbers smears : ℕ) (s s' : List ℕ) → order + n ≤ length s → take n (drop order s) ≡ map (λ (l : SmoothedLine). l .label) ls
+    → Stored (λ t. indexFrom noLine 0 (suc t) (orderAt s order n)) numbers smears s s' → (t : ℕ) → t < smears → getD s' (numbers + t) 0 ≡ lineNumber ls (suc t)
 unfolding lineNumber
-numbers-are ls order n numbers rows s s' room e r t l = r .inside t l ∙ ap (indexFrom noLine 0 (suc t)) (sym (part-is-table s order n 0 room) ∙ e)
+numbers-are ls order n numbers smears s s' room e r t l = r .each t l ∙ ap (indexFrom noLine 0 (suc t)) (sym (part-is-table s order n 0 room) ∙ e)

@@ -18,9 +18,9 @@ use Rattle.params.specs.declared.LayoutParams.{LayoutParams}
 use Rattle.sorting.specs.rules.Units.{median}
 use Rattle.smoothing.specs.rules.Lines.{LabelledGlyph, SmoothedLine, smoothedLine, keptLines, lineNumber, glyphBox}
 use Rattle.smoothing.specs.rules.LineRecords.{lineRecord, glyphRecord}
-use Rattle.smoothing.specs.stages.LineWords.{glyphsOf, labelAt, lineRows, orderedRow, glyphsAmong, glyphFields, glyphRecordAt, lineFields, lineRecordAt, plainLine, HoldsGlyphs, HoldsRows}
+use Rattle.smoothing.specs.stages.LineWords.{glyphsOf, labelAt, lineSmears, orderedSmear, glyphsAmong, glyphFields, glyphRecordAt, lineFields, lineRecordAt, plainLine, HoldsGlyphs, HoldsSmears}
 use Rattle.memory.proofs.ListLaws.{Each, each-at, each-keep, each-table, map-table}
-use Rattle.smoothing.proofs.RowLaws.{kept-low, rows-low}
+use Rattle.smoothing.proofs.SmearLaws.{kept-low, smears-low}
 use Rattle.smoothing.proofs.LineLaws.{map-map, upto-map, held-area, held-box, label-of, glyphOf, glyphs-are, ink-is, heights-are, lineOf, lines-are}
 
 encoded-map : {A B : Type 0} (words : B → List ℕ) (f : A → B) (l : List A) → encoded words (map f l) ≡ encoded (λ a. words (f a)) l
@@ -47,8 +47,8 @@ whole l d = ext-getD d (table (λ i. getD l i d) (length l)) l (length-table (λ
 -- Glyphs
 
 module _ (cs : List Component) (ks : List ℕ) (labels : ℕ → ℕ) (sizes kinds : ℕ) (s : List ℕ) (h : HoldsGlyphs cs ks labels sizes kinds s)
-    (ls : List SmoothedLine) (numbers rows : ℕ) (numbered : (t : ℕ) → t < rows → getD s (numbers + t) 0 ≡ lineNumber ls (suc t))
-    (low : (k : ℕ) → k < length cs → labelAt s kinds k ≤ rows) where
+    (ls : List SmoothedLine) (numbers smears : ℕ) (numbered : (t : ℕ) → t < smears → getD s (numbers + t) 0 ≡ lineNumber ls (suc t))
+    (low : (k : ℕ) → k < length cs → labelAt s kinds k ≤ smears) where
   own-label : (k : ℕ) → k < length cs → 0 < labelAt s kinds k → labelAt s kinds k ≡ labels k
   own-label k l p = label-of cs ks labels sizes kinds s h k l ∙ go (eqb (getD ks k 0) 4) (subst (λ n. 0 < n) (label-of cs ks labels sizes kinds s h k l) p)
     where
@@ -84,46 +84,46 @@ plain-at : (ls : List SmoothedLine) (i : ℕ) (d : SmoothedLine) → i < length 
 plain-at ls i d h = ap (λ (l : SmoothedLine). lineFields (l .bbox) (l .glyphs) (l .ink-area) (l .glyph-height)) (getD-default ls i _ d h)
 
 module _ (p : LayoutParams) (unit : Float) (cs : List Component) (ks : List ℕ) (labels : ℕ → ℕ) (sizes kinds : ℕ) (s : List ℕ) (h : HoldsGlyphs cs ks labels sizes kinds s)
-    (rows : List Component) (smoothed glyphs : ℕ) (g : HoldsRows (glyphsOf cs ks labels) rows smoothed glyphs s) where
-  line-fields : (t : ℕ) → t < length rows
+    (smears : List Component) (smoothed glyphs : ℕ) (g : HoldsSmears (glyphsOf cs ks labels) smears smoothed glyphs s) where
+  line-fields : (t : ℕ) → t < length smears
       → lineRecordAt s smoothed glyphs sizes kinds (length cs) t
-      ≡ (let l = lineOf (glyphsOf cs ks labels) rows t in lineFields (l .bbox) (l .glyphs) (l .ink-area) (l .glyph-height))
+      ≡ (let l = lineOf (glyphsOf cs ks labels) smears t in lineFields (l .bbox) (l .glyphs) (l .ink-area) (l .glyph-height))
   unfolding smoothedLine
   line-fields t l =
-      λ i. lineFields (held-box rows s smoothed (g .held) t l i) (g .counts t l i) (ink-is cs ks labels sizes kinds s h (suc t) (omega arith) i) (median (heights-are cs ks labels sizes kinds s h (suc t) (omega arith) i))
+      λ i. lineFields (held-box smears s smoothed (g .held) t l i) (g .counts t l i) (ink-is cs ks labels sizes kinds s h (suc t) (omega arith) i) (median (heights-are cs ks labels sizes kinds s h (suc t) (omega arith) i))
 
   -- the records that `write_lines` writes, where the labels at `order` are those of the lines in their order
-  pub line-records : (order n : ℕ) (s' : List ℕ) → n ≡ length (keptLines p unit (glyphsOf cs ks labels) rows)
-      → ((i : ℕ) → i < n → orderedRow s' order i ≡ getD (lineRows p unit s smoothed glyphs (length rows)) i 0)
-      → encoded (λ i. lineRecordAt s smoothed glyphs sizes kinds (length cs) (orderedRow s' order i)) (upto n)
-      ≡ encoded lineRecord (table (plainLine (keptLines p unit (glyphsOf cs ks labels) rows)) n)
+  pub line-records : (order n : ℕ) (s' : List ℕ) → n ≡ length (keptLines p unit (glyphsOf cs ks labels) smears)
+      → ((i : ℕ) → i < n → orderedSmear s' order i ≡ getD (lineSmears p unit s smoothed glyphs (length smears)) i 0)
+      → encoded (λ i. lineRecordAt s smoothed glyphs sizes kinds (length cs) (orderedSmear s' order i)) (upto n)
+      ≡ encoded lineRecord (table (plainLine (keptLines p unit (glyphsOf cs ks labels) smears)) n)
   line-records order n s' e o =
-      encoded-each (λ i. i < n) (λ i. lineRecordAt s smoothed glyphs sizes kinds (length cs) (orderedRow s' order i)) (λ i. lineRecord (plainLine ls i)) one (upto n) below
+      encoded-each (λ i. i < n) (λ i. lineRecordAt s smoothed glyphs sizes kinds (length cs) (orderedSmear s' order i)) (λ i. lineRecord (plainLine ls i)) one (upto n) below
       ∙ (sym (encoded-map lineRecord (plainLine ls) (upto n)) ∙ ap (encoded lineRecord) (upto-map (plainLine ls) n))
     where
       gs : List LabelledGlyph
       gs = glyphsOf cs ks labels
 
       ls : List SmoothedLine
-      ls = keptLines p unit (glyphsOf cs ks labels) rows
+      ls = keptLines p unit (glyphsOf cs ks labels) smears
 
       rs : List ℕ
-      rs = lineRows p unit s smoothed glyphs (length rows)
+      rs = lineSmears p unit s smoothed glyphs (length smears)
 
       long : n ≡ length rs
-      long = e ∙ (ap length (lines-are p unit gs rows smoothed glyphs s g) ∙ length-map rs (lineOf gs rows))
+      long = e ∙ (ap length (lines-are p unit gs smears smoothed glyphs s g) ∙ length-map rs (lineOf gs smears))
 
       below : Each (λ i. i < n) (upto n)
       below = upto-low n n (le-refl n)
 
-      one : (i : ℕ) → i < n → lineRecordAt s smoothed glyphs sizes kinds (length cs) (orderedRow s' order i) ≡ lineRecord (plainLine ls i)
+      one : (i : ℕ) → i < n → lineRecordAt s smoothed glyphs sizes kinds (length cs) (orderedSmear s' order i) ≡ lineRecord (plainLine ls i)
       one i l =
           let t = getD rs i 0 in
-          let low : t < length rows = each-at (λ a. a < length rows) rs (rows-low p unit s smoothed glyphs (length rows)) i 0 (let m : n ≡ length rs = long in omega arith) in
-          let there : getD ls i (lineOf gs rows 0) ≡ lineOf gs rows t = ap (λ (z : List SmoothedLine). getD z i (lineOf gs rows 0)) (lines-are p unit gs rows smoothed glyphs s g) ∙ List·getD-map (lineOf gs rows) rs i 0 in
+          let low : t < length smears = each-at (λ a. a < length smears) rs (smears-low p unit s smoothed glyphs (length smears)) i 0 (let m : n ≡ length rs = long in omega arith) in
+          let there : getD ls i (lineOf gs smears 0) ≡ lineOf gs smears t = ap (λ (z : List SmoothedLine). getD z i (lineOf gs smears 0)) (lines-are p unit gs smears smoothed glyphs s g) ∙ List·getD-map (lineOf gs smears) rs i 0 in
           ap (lineRecordAt s smoothed glyphs sizes kinds (length cs)) (o i l)
           ∙ (line-fields t low
-          ∙ (ap (λ (z : SmoothedLine). lineFields (z .bbox) (z .glyphs) (z .ink-area) (z .glyph-height)) (sym there) ∙ sym (plain-at ls i (lineOf gs rows 0) (let m : n ≡ length ls = e in omega arith))))
+          ∙ (ap (λ (z : SmoothedLine). lineFields (z .bbox) (z .glyphs) (z .ink-area) (z .glyph-height)) (sym there) ∙ sym (plain-at ls i (lineOf gs smears 0) (let m : n ≡ length ls = e in omega arith))))
 
 pub plain-boxes : (ls : List SmoothedLine) → table (λ i. plainLine ls i .bbox) (length ls) ≡ map (λ (l : SmoothedLine). l .bbox) ls
 plain-boxes ls = sym (map-table (λ (l : SmoothedLine). l .bbox) (λ i. getD ls i _) (length ls)) ∙ ap (map (λ (l : SmoothedLine). l .bbox)) (whole ls _)

@@ -12,9 +12,10 @@ use Rattle.labelling.specs.stages.Sizes.{HoldsSizes}
 use Rattle.labelling.specs.declared.component.Component.{Component}
 use Rattle.params.specs.declared.LayoutParams.{LayoutParams}
 use Rattle.smoothing.specs.rules.Lines.{LabelledGlyph}
-use Rattle.smoothing.specs.stages.LineWords.{glyphsOf, Filled, labelsAt, lineRows, orderedRow, OrderedLines, areaAt, ownGlyphs, KeptFrom, HoldsGlyphs, HoldsRows}
+use Rattle.memory.specs.stages.Stored.{Stored}
+use Rattle.smoothing.specs.stages.LineWords.{glyphsOf, labelsAt, lineSmears, orderedSmear, OrderedLines, areaAt, ownGlyphs, KeptFrom, HoldsGlyphs, HoldsSmears}
 use Rattle.memory.proofs.ListLaws.{each-at, map-table}
-use Rattle.smoothing.proofs.RowLaws.{rows-low}
+use Rattle.smoothing.proofs.SmearLaws.{smears-low}
 use Rattle.smoothing.proofs.LineLaws.{held-area, held-kept, counts-are, own-count}
 use Rattle.smoothing.proofs.LineRecords.{whole}
 
@@ -35,33 +36,33 @@ glyphs-kept cs ks labels sizes kinds at s s' a b room r h =
       labelled = h .labelled;
     }
 
-pub rows-kept : (gs : List LabelledGlyph) (rows : List Component) (smoothed glyphs at : ℕ) (s s' : List ℕ) → at ≤ smoothed → at ≤ glyphs → smoothed + 5 * length rows ≤ length s → KeptFrom at s s'
-    → HoldsRows gs rows smoothed glyphs s → HoldsRows gs rows smoothed glyphs s'
-rows-kept gs rows smoothed glyphs at s s' a b room r h =
-    record { held = held-kept rows s s' smoothed room (r .len) (λ i l m. r .same i (omega arith)) (h .held); counts = λ t l. r .same (glyphs + t) (omega arith) ∙ h .counts t l }
+pub smears-kept : (gs : List LabelledGlyph) (smears : List Component) (smoothed glyphs at : ℕ) (s s' : List ℕ) → at ≤ smoothed → at ≤ glyphs → smoothed + 5 * length smears ≤ length s → KeptFrom at s s'
+    → HoldsSmears gs smears smoothed glyphs s → HoldsSmears gs smears smoothed glyphs s'
+smears-kept gs smears smoothed glyphs at s s' a b room r h =
+    record { held = held-kept smears s s' smoothed room (r .len) (λ i l m. r .same i (omega arith)) (h .held); counts = λ t l. r .same (glyphs + t) (omega arith) ∙ h .counts t l }
 
 -- what `count_glyphs` leaves
-pub rows-held : (cs : List Component) (ks : List ℕ) (labels : ℕ → ℕ) (sizes kinds : ℕ) (rows : List Component) (smoothed glyphs : ℕ) (s s' : List ℕ) → HoldsGlyphs cs ks labels sizes kinds s
-    → HoldsSizes rows s smoothed → smoothed + 5 * length rows ≤ glyphs → glyphs ≤ length s
-    → Filled (λ t. occurs (suc t) (labelsAt s kinds (length cs))) glyphs (length rows) s s' → HoldsRows (glyphsOf cs ks labels) rows smoothed glyphs s'
-rows-held cs ks labels sizes kinds rows smoothed glyphs s s' h held before room r =
+pub smears-held : (cs : List Component) (ks : List ℕ) (labels : ℕ → ℕ) (sizes kinds : ℕ) (smears : List Component) (smoothed glyphs : ℕ) (s s' : List ℕ) → HoldsGlyphs cs ks labels sizes kinds s
+    → HoldsSizes smears s smoothed → smoothed + 5 * length smears ≤ glyphs → glyphs ≤ length s
+    → Stored (λ t. occurs (suc t) (labelsAt s kinds (length cs))) glyphs (length smears) s s' → HoldsSmears (glyphsOf cs ks labels) smears smoothed glyphs s'
+smears-held cs ks labels sizes kinds smears smoothed glyphs s s' h held before room r =
     record {
-      held = held-kept rows s s' smoothed (omega arith) (r .len) (λ i l m. r .before i (omega arith)) held;
-      counts = λ t l. r .inside t l ∙ counts-are cs ks labels sizes kinds s h (suc t) (omega arith);
+      held = held-kept smears s s' smoothed (omega arith) (r .within .len) (λ i l m. r .within .before i (omega arith)) held;
+      counts = λ t l. r .each t l ∙ counts-are cs ks labels sizes kinds s h (suc t) (omega arith);
     }
 
 -- the count of each smoothed component is that of the glyphs with its label
-pub rows-counted : (cs : List Component) (ks : List ℕ) (labels : ℕ → ℕ) (sizes kinds smoothed glyphs : ℕ) (rows : List Component) (s : List ℕ) → HoldsGlyphs cs ks labels sizes kinds s
-    → HoldsRows (glyphsOf cs ks labels) rows smoothed glyphs s → (t : ℕ) → t < length rows → getD s (glyphs + t) 0 ≡ length (ownGlyphs s kinds (length cs) (suc t))
-rows-counted cs ks labels sizes kinds smoothed glyphs rows s h g t l = g .counts t l ∙ sym (own-count cs ks labels sizes kinds s h (suc t) (omega arith))
+pub smears-counted : (cs : List Component) (ks : List ℕ) (labels : ℕ → ℕ) (sizes kinds smoothed glyphs : ℕ) (smears : List Component) (s : List ℕ) → HoldsGlyphs cs ks labels sizes kinds s
+    → HoldsSmears (glyphsOf cs ks labels) smears smoothed glyphs s → (t : ℕ) → t < length smears → getD s (glyphs + t) 0 ≡ length (ownGlyphs s kinds (length cs) (suc t))
+smears-counted cs ks labels sizes kinds smoothed glyphs smears s h g t l = g .counts t l ∙ sym (own-count cs ks labels sizes kinds s h (suc t) (omega arith))
 
 -- what `order_lines` leaves: labels of smoothed components
-module _ (p : LayoutParams) (unit : Float) (smoothed glyphs rows order r : ℕ) (s s' : List ℕ) (o : OrderedLines (lineRows p unit s smoothed glyphs rows) order s s' r) (i : ℕ) (l : i < r) where
-  pub order-labels : (0 < getD s' (order + i) 0) × (getD s' (order + i) 0 ≤ rows)
+module _ (p : LayoutParams) (unit : Float) (smoothed glyphs smears order r : ℕ) (s s' : List ℕ) (o : OrderedLines (lineSmears p unit s smoothed glyphs smears) order s s' r) (i : ℕ) (l : i < r) where
+  pub order-labels : (0 < getD s' (order + i) 0) × (getD s' (order + i) 0 ≤ smears)
   order-labels =
-      let a = o .words .inside i l in
-      let b = each-at (λ t. t < rows) (lineRows p unit s smoothed glyphs rows) (rows-low p unit s smoothed glyphs rows) i 0 (let d = o .count in omega arith) in
+      let a = o .words .each i l in
+      let b = each-at (λ t. t < smears) (lineSmears p unit s smoothed glyphs smears) (smears-low p unit s smoothed glyphs smears) i 0 (let d = o .count in omega arith) in
       (omega arith, omega arith)
 
-  pub order-rows : orderedRow s' order i ≡ getD (lineRows p unit s smoothed glyphs rows) i 0
-  order-rows = let a = o .words .inside i l in omega arith
+  pub order-smears : orderedSmear s' order i ≡ getD (lineSmears p unit s smoothed glyphs smears) i 0
+  order-smears = let a = o .words .each i l in omega arith

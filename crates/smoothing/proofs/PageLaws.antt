@@ -24,25 +24,27 @@ use Rattle.params.specs.declared.LayoutParams.{LayoutParams}
 use Rattle.rounding.specs.rules.Lengths.{_·_, dots}
 use Rattle.sorting.specs.rules.Units.{unitValue}
 use Rattle.sorting.specs.rules.Kinds.{glyphKind}
-use Rattle.sorting.specs.rules.Sorted.{sorted}
-use Rattle.sorting.specs.stages.Scratch.{horizontalAt, verticalAt, sizesAt, kindsAt, smoothedAt, glyphsAt, inkAfterCut}
-use Rattle.sorting.specs.stages.Sortings.{FrameRoom}
+use Rattle.sorting.specs.rules.Sorted.{sorted, Sorted}
+use Rattle.sorting.specs.declared.plan.Plan.{Plan}
+use Rattle.sorting.specs.stages.Scratch.{horizontalAt, verticalAt, sizesAt, kindsAt, smearsAt, glyphsAt, inkAfterCut, Planned}
+use Rattle.sorting.specs.stages.SortSteps.{FrameRoom}
 use Rattle.sorting.proofs.PlanLaws.{frame-of, plan-dots}
 use Rattle.sorting.proofs.SortLaws.{kept-from, part-kept}
 use Rattle.smoothing.specs.rules.Smoothing.{smoothingGap, smoothed}
 use Rattle.smoothing.specs.rules.Lines.{firstDot, LabelledGlyph, keptLines}
 use Rattle.smoothing.specs.stages.RowRuns.{glyphDot, glyphRuns, SmoothRoom, SmoothLeft}
-use Rattle.smoothing.specs.stages.LineWords.{Filled, kindWord, firstNumber, LabelRoom, labelAt, labelsAt, CountRoom, boxAt, rowIsLine, RowRoom, HoldsGlyphs, HoldsRows}
-use Rattle.smoothing.specs.stages.Segments.{rowsOf, glyphsIn, linesIn, glyphLabel, HoldsPage, SortedPage, GlyphNumbered, RowsLabelled, RowsHeld}
-use Rattle.smoothing.specs.declared.rows.RowLabels.{RowLabels}
+use Rattle.memory.specs.stages.Stored.{Stored}
+use Rattle.smoothing.specs.stages.LineWords.{kindWord, firstNumber, LabelRoom, labelAt, labelsAt, CountRoom, boxAt, smearIsLine, SmearRoom, HoldsGlyphs, HoldsSmears}
+use Rattle.smoothing.specs.stages.Segments.{smearsOf, glyphsIn, linesIn, glyphLabel, HoldsPage, SortedPage, GlyphNumbered, SmearsLabelled, SmearsHeld}
+use Rattle.smoothing.specs.declared.smears.SmearLabels.{SmearLabels}
 use Rattle.smoothing.proofs.SmoothedDots.{smoothed-on}
 use Rattle.smoothing.proofs.LineLaws.{held-box, held-kept, glyphs-held, labelled-glyphs, label-of, lines-count}
-use Rattle.smoothing.proofs.LineRooms.{rows-held}
+use Rattle.smoothing.proofs.LineRooms.{smears-held}
 use Rattle.smoothing.proofs.SortedGlyphs.{rest-is, kinds-size, kind-known, glyph-plane, runs-fit, first-dot, dot-number}
 
 -- the mask of the smoothed glyphs
-abbrev pub rowMask : LayoutParams → ℕ → ℕ → List ℕ → List ℕ
-rowMask p w h m = smoothed (smoothingGap p (unitValue (sorted p w h m .unit))) w h (sorted p w h m .plane)
+abbrev pub smearMask : LayoutParams → ℕ → ℕ → List ℕ → List ℕ
+smearMask p w h m = smoothed (smoothingGap p (unitValue (sorted p w h m .unit))) w h (sorted p w h m .plane)
 
 module _ {p : LayoutParams} {w h : ℕ} {m : List ℕ} {P : ℕ} {s : List ℕ} {unit : Float} {runs : ℕ} (S : SortedPage p w h m P s unit runs) where
   frame : FrameRoom w h m P s
@@ -92,32 +94,32 @@ module _ {p : LayoutParams} {w h : ℕ} {m : List ℕ} {P : ℕ} {s : List ℕ} 
 
   module _ {s₁ : List ℕ} {c : ℕ} (L : SmoothLeft w h (inkAfterCut p w h m) (sorted p w h m .kinds) (sorted p w h m .plane) s s₁ runs (kindsAt (w * h) P) (glyphsAt (w * h) P) (smoothingGap p (unitValue (sorted p w h m .unit))) c) where
     -- they end before the boxes of the cuts
-    rows-fit : 3 * runs + 3 * c ≤ horizontalAt (w * h)
-    rows-fit = let b = page-fit in let f = L .fits in omega arith
+    smears-fit : 3 * runs + 3 * c ≤ horizontalAt (w * h)
+    smears-fit = let b = page-fit in let f = L .fits in omega arith
 
-    pub rows-room : (3 * runs ≤ length s₁) × (3 * runs ≤ smoothedAt (w * h) P) × (smoothedAt (w * h) P ≤ 2000000000)
-    rows-room = let b = rows-fit in let q = S .room .room in let e = L .len in let d = page-dots in let f = S .room .few in (omega arith, omega arith, omega arith)
+    pub smears-room : (3 * runs ≤ length s₁) × (3 * runs ≤ smearsAt (w * h) P) × (smearsAt (w * h) P ≤ 2000000000)
+    smears-room = let b = smears-fit in let q = S .room .room in let e = L .len in let d = page-dots in let f = S .room .few in (omega arith, omega arith, omega arith)
 
-    sizes-room : SizesRoom w h (rowMask p w h m) (drop (3 * runs) s₁) c P (smoothedAt (w * h) P - 3 * runs)
+    sizes-room : SizesRoom w h (smearMask p w h m) (drop (3 * runs) s₁) c P (smearsAt (w * h) P - 3 * runs)
     sizes-room =
         let d = page-dots in
         let q = S .room .room in
         let n = S .room .narrow in
         let l = S .room .low in
-        let b = rows-fit in
+        let b = smears-fit in
         let e = L .len in
         let z = length-drop (3 * runs) s₁ in
         record { wide = S .room .wide; narrow = omega arith; low = omega arith; dots = omega arith; few = S .room .few; held = L .held; before = omega arith; room = omega arith }
 
-    pub sizes-ask : SizesRoom w h (rowMask p w h m) (take (length s₁ - 3 * runs) (drop (3 * runs) s₁)) c P (smoothedAt (w * h) P - 3 * runs)
-    sizes-ask = subst (λ z. SizesRoom w h (rowMask p w h m) z c P (smoothedAt (w * h) P - 3 * runs)) (sym (tail-part (3 * runs) s₁)) sizes-room
+    pub sizes-ask : SizesRoom w h (smearMask p w h m) (take (length s₁ - 3 * runs) (drop (3 * runs) s₁)) c P (smearsAt (w * h) P - 3 * runs)
+    sizes-ask = subst (λ z. SizesRoom w h (smearMask p w h m) z c P (smearsAt (w * h) P - 3 * runs)) (sym (tail-part (3 * runs) s₁)) sizes-room
 
-    module _ {part : List ℕ} {rows : ℕ} (Z : SizesLeft w h (rowMask p w h m) (drop (3 * runs) s₁) part c P (smoothedAt (w * h) P - 3 * runs) rows) where
+    module _ {part : List ℕ} {smears : ℕ} (Z : SizesLeft w h (smearMask p w h m) (drop (3 * runs) s₁) part c P (smearsAt (w * h) P - 3 * runs) smears) where
       abbrev s₂ : List ℕ
       s₂ = take (3 * runs) s₁ ++ part
 
       front-long : length (take (3 * runs) s₁) ≡ 3 * runs
-      front-long = length-take-le (3 * runs) s₁ (rows-room .0)
+      front-long = length-take-le (3 * runs) s₁ (smears-room .0)
 
       at-front : (i : ℕ) → i < 3 * runs → getD s₂ i 0 ≡ getD s₁ i 0
       at-front i l = List·getD-append (take (3 * runs) s₁) part 0 i (let e = front-long in omega arith) ∙ getD-take (3 * runs) s₁ i 0 l
@@ -131,21 +133,21 @@ module _ {p : LayoutParams} {w h : ℕ} {m : List ℕ} {P : ℕ} {s : List ℕ} 
           let z : i ≡ 3 * runs + (i - 3 * runs) = omega arith in
           ap (λ k. getD s₂ k 0) z ∙ (at-part (i - 3 * runs) ∙ (e ∙ (getD-drop (3 * runs) s₁ (i - 3 * runs) 0 ∙ ap (λ k. getD s₁ k 0) (sym z))))
 
-      at-between : (i : ℕ) → horizontalAt (w * h) ≤ i → i < smoothedAt (w * h) P → getD s₂ i 0 ≡ getD s₁ i 0
-      at-between i a b = let f = rows-fit in at-kept i (omega arith) (Z .between (i - 3 * runs) (omega arith) (omega arith))
+      at-between : (i : ℕ) → horizontalAt (w * h) ≤ i → i < smearsAt (w * h) P → getD s₂ i 0 ≡ getD s₁ i 0
+      at-between i a b = let f = smears-fit in at-kept i (omega arith) (Z .between (i - 3 * runs) (omega arith) (omega arith))
 
       at-beyond : (i : ℕ) → glyphsAt (w * h) P ≤ i → getD s₂ i 0 ≡ getD s₁ i 0
-      at-beyond i a = let f = rows-fit in at-kept i (omega arith) (kept-from (smoothedAt (w * h) P - 3 * runs + 5 * P) (drop (3 * runs) s₁) part (Z .beyond) (i - 3 * runs) (omega arith))
+      at-beyond i a = let f = smears-fit in at-kept i (omega arith) (kept-from (smearsAt (w * h) P - 3 * runs + 5 * P) (drop (3 * runs) s₁) part (Z .beyond) (i - 3 * runs) (omega arith))
 
       whole : length s₂ ≡ length s
-      whole = length-append (take (3 * runs) s₁) part ∙ (let a = front-long in let b = Z .len in let d = length-drop (3 * runs) s₁ in let e = L .len in let r = rows-room .0 in (let z : length (take (3 * runs) s₁) + length part ≡ length s = omega arith in z))
+      whole = length-append (take (3 * runs) s₁) part ∙ (let a = front-long in let b = Z .len in let d = length-drop (3 * runs) s₁ in let e = L .len in let r = smears-room .0 in (let z : length (take (3 * runs) s₁) + length part ≡ length s = omega arith in z))
 
-      count-is : rows ≤ P → rows ≡ length (labelling w h (rowMask p w h m) .components)
+      count-is : smears ≤ P → smears ≡ length (labelling w h (smearMask p w h m) .components)
       count-is u = let e = Z .count in omega arith
 
       -- Labels of glyphs
 
-      module _ (u : rows ≤ P) (k : ℕ) (l : k < length (sorted p w h m .kinds)) (e : getD (sorted p w h m .kinds) k 0 ≡ glyphKind) where
+      module _ (u : smears ≤ P) (k : ℕ) (l : k < length (sorted p w h m .kinds)) (e : getD (sorted p w h m .kinds) k 0 ≡ glyphKind) where
         dot : ℕ
         dot = firstDot (labelling w h (inkAfterCut p w h m) .labels) (suc k)
 
@@ -157,28 +159,28 @@ module _ {p : LayoutParams} {w h : ℕ} {m : List ℕ} {P : ℕ} {s : List ℕ} 
         unfolding glyphDot
         dot-glyph = ap (λ n. eqb (getD (0 ∷ sorted p w h m .kinds) n 0) glyphKind) (dot-first .1) ∙ eq-eqb (getD (sorted p w h m .kinds) k 0) glyphKind e
 
-        dot-on : isInk (rowMask p w h m) dot ≡ true
+        dot-on : isInk (smearMask p w h m) dot ≡ true
         dot-on = smoothed-on w h (inkAfterCut p w h m) (sorted p w h m .kinds) (sorted p w h m .plane) (smoothingGap p (unitValue (sorted p w h m .unit))) (S .room .wide) (glyph-plane p w h m (S .room .wide)) dot (dot-first .0) dot-glyph
 
-        label-is : glyphLabel p w h m k ≡ getD (labelling w h (rowMask p w h m) .labels) dot 0
-        unfolding rowsOf dot
-        label-is = ap (λ (z : Labelling). getD (labelling w h (rowMask p w h m) .labels) (firstDot (z .labels) (suc k)) 0) (rest-is p w h m)
+        label-is : glyphLabel p w h m k ≡ getD (labelling w h (smearMask p w h m) .labels) dot 0
+        unfolding smearsOf dot
+        label-is = ap (λ (z : Labelling). getD (labelling w h (smearMask p w h m) .labels) (firstDot (z .labels) (suc k)) 0) (rest-is p w h m)
 
-        first-run : getD s₂ (glyphsAt (w * h) P + k) 0 ≡ runOf w (rowMask p w h m) dot
+        first-run : getD s₂ (glyphsAt (w * h) P + k) 0 ≡ runOf w (smearMask p w h m) dot
         unfolding dot
         first-run = at-beyond (glyphsAt (w * h) P + k) (omega arith) ∙ L .first k l e
 
-        numbered : GlyphNumbered (getD s₂ (glyphsAt (w * h) P + k) 0) (firstNumber s₂ (glyphsAt (w * h) P) (3 * runs + 2 * c) k) (glyphLabel p w h m k) c rows
+        numbered : GlyphNumbered (getD s₂ (glyphsAt (w * h) P + k) 0) (firstNumber s₂ (glyphsAt (w * h) P) (3 * runs + 2 * c) k) (glyphLabel p w h m k) c smears
         numbered =
             let f = first-run in
             let d = dot-number (S .room .wide) (Z .numbered u) dot (dot-first .0) dot-on in
             let d₀ = d .0 in
-            let t = label-within w h (rowMask p w h m) dot (dot-first .0) dot-on in
+            let t = label-within w h (smearMask p w h m) dot (dot-first .0) dot-on in
             let t₀ = t .0 in
             let t₁ = t .1 in
             let n = count-is u in
             let q = label-is in
-            let run = runOf w (rowMask p w h m) dot in
+            let run = runOf w (smearMask p w h m) dot in
             record {
               inside = omega arith;
               number-is =
@@ -188,42 +190,42 @@ module _ {p : LayoutParams} {w h : ℕ} {m : List ℕ} {P : ℕ} {s : List ℕ} 
               few = omega arith;
             }
 
-      labelled-part : RowsLabelled p w h m P s s₂ runs (record { runs = c; rows = rows })
-      unfolding rowsOf
+      labelled-part : SmearsLabelled p w h m P s s₂ runs (record { runs = c; smears = smears })
+      unfolding smearsOf
       labelled-part =
           record {
             len = whole;
             count = Z .count;
-            fits = rows-fit;
+            fits = smears-fit;
             front = λ i l. at-front i l ∙ (sym (getD-take (3 * runs) s₁ i 0 l) ∙ (ap (λ z. getD z i 0) (L .front) ∙ getD-take (3 * runs) s i 0 l));
             between = λ i a b. at-between i a b ∙ L .between i (let f = page-fit in omega arith) (omega arith);
             sizes = λ u.
-                ap (take (5 * length (labelling w h (rowMask p w h m) .components)))
-                (ap (λ z. drop z s₂) (let f = rows-room .1 in let z : smoothedAt (w * h) P ≡ 3 * runs + (smoothedAt (w * h) P - 3 * runs) = omega arith in z)
-                ∙ (sym (drop-drop (smoothedAt (w * h) P - 3 * runs) (3 * runs) s₂) ∙ ap (drop (smoothedAt (w * h) P - 3 * runs)) (drop-at (take (3 * runs) s₁) part (3 * runs) front-long)))
+                ap (take (5 * length (labelling w h (smearMask p w h m) .components)))
+                (ap (λ z. drop z s₂) (let f = smears-room .1 in let z : smearsAt (w * h) P ≡ 3 * runs + (smearsAt (w * h) P - 3 * runs) = omega arith in z)
+                ∙ (sym (drop-drop (smearsAt (w * h) P - 3 * runs) (3 * runs) s₂) ∙ ap (drop (smearsAt (w * h) P - 3 * runs)) (drop-at (take (3 * runs) s₁) part (3 * runs) front-long)))
                 ∙ Z .sizes u;
             labels = λ u k l e. numbered u k l e;
           }
 
     -- what labelling leaves in the part, put back
-    pub rows-labelled : {part : List ℕ} {rows : ℕ} → SizesLeft w h (rowMask p w h m) (take (length s₁ - 3 * runs) (drop (3 * runs) s₁)) part c P (smoothedAt (w * h) P - 3 * runs) rows
-        → RowsLabelled p w h m P s (putMid (3 * runs) (length s₁ - 3 * runs) s₁ part) runs (record { runs = c; rows = rows })
-    rows-labelled {part} {rows} Z =
-        subst (λ z. RowsLabelled p w h m P s z runs (record { runs = c; rows = rows })) (sym (tail-put (3 * runs) s₁ part))
-        (labelled-part (subst (λ z. SizesLeft w h (rowMask p w h m) z part c P (smoothedAt (w * h) P - 3 * runs) rows) (tail-part (3 * runs) s₁) Z))
+    pub smears-labelled : {part : List ℕ} {smears : ℕ} → SizesLeft w h (smearMask p w h m) (take (length s₁ - 3 * runs) (drop (3 * runs) s₁)) part c P (smearsAt (w * h) P - 3 * runs) smears
+        → SmearsLabelled p w h m P s (putMid (3 * runs) (length s₁ - 3 * runs) s₁ part) runs (record { runs = c; smears = smears })
+    smears-labelled {part} {smears} Z =
+        subst (λ z. SmearsLabelled p w h m P s z runs (record { runs = c; smears = smears })) (sym (tail-put (3 * runs) s₁ part))
+        (labelled-part (subst (λ z. SizesLeft w h (smearMask p w h m) z part c P (smearsAt (w * h) P - 3 * runs) smears) (tail-part (3 * runs) s₁) Z))
 
   -- Glyphs labelled, counted, and lines counted
 
-  module _ {s₁ : List ℕ} {f : RowLabels} (L : RowsLabelled p w h m P s s₁ runs f) where
-    pub rows-many : P < f .rows → P < length (rowsOf p w h m .components)
-    rows-many u = let e = L .count in omega arith
+  module _ {s₁ : List ℕ} {f : SmearLabels} (L : SmearsLabelled p w h m P s s₁ runs f) where
+    pub smears-many : P < f .smears → P < length (smearsOf p w h m .components)
+    smears-many u = let e = L .count in omega arith
 
-    module _ (u : f .rows ≤ P) {components : ℕ} (n : components ≡ length (sorted p w h m .rest .components)) where
-      rows-count : f .rows ≡ length (rowsOf p w h m .components)
-      rows-count = let e = L .count in omega arith
+    module _ (u : f .smears ≤ P) {components : ℕ} (n : components ≡ length (sorted p w h m .rest .components)) where
+      smears-count : f .smears ≡ length (smearsOf p w h m .components)
+      smears-count = let e = L .count in omega arith
 
       -- where words end
-      pub ends : (kindsAt (w * h) P + components ≤ smoothedAt (w * h) P) × (glyphsAt (w * h) P + P ≤ length s₁) × (3 * runs + 3 * f .runs ≤ kindsAt (w * h) P) × (glyphsAt (w * h) P ≤ 2000000000)
+      pub ends : (kindsAt (w * h) P + components ≤ smearsAt (w * h) P) × (glyphsAt (w * h) P + P ≤ length s₁) × (3 * runs + 3 * f .runs ≤ kindsAt (w * h) P) × (glyphsAt (w * h) P ≤ 2000000000)
       ends = let q = S .room .room in let x = page-few .2 in let e = L .len in let d = page-dots in let b = S .room .few in let t = L .fits in (omega arith, omega arith, omega arith, omega arith)
 
       kind-stands : (k : ℕ) → k < length (sorted p w h m .rest .components) → getD s₁ (kindsAt (w * h) P + k) 0 ≡ getD (sorted p w h m .kinds) k 0
@@ -240,7 +242,7 @@ module _ {p : LayoutParams} {w h : ℕ} {m : List ℕ} {P : ℕ} {s : List ℕ} 
           held-kept (sorted p w h m .rest .components) s s₁ (sizesAt (w * h) P) (omega arith) (L .len) (λ i a b. L .between i (omega arith) (omega arith)) (S .held .sizes)
 
       found : (k : ℕ) → k < length (sorted p w h m .rest .components) → getD (sorted p w h m .kinds) k 0 ≡ glyphKind
-          → GlyphNumbered (getD s₁ (glyphsAt (w * h) P + k) 0) (firstNumber s₁ (glyphsAt (w * h) P) (3 * runs + 2 * f .runs) k) (glyphLabel p w h m k) (f .runs) (f .rows)
+          → GlyphNumbered (getD s₁ (glyphsAt (w * h) P + k) 0) (firstNumber s₁ (glyphsAt (w * h) P) (3 * runs + 2 * f .runs) k) (glyphLabel p w h m k) (f .runs) (f .smears)
       found k l e = L .labels u k (let z = kinds-size p w h m in omega arith) e
 
       pub label-ask : LabelRoom (kindsAt (w * h) P) components (glyphsAt (w * h) P) (3 * runs + 2 * f .runs) s₁
@@ -264,90 +266,90 @@ module _ {p : LayoutParams} {w h : ℕ} {m : List ℕ} {P : ℕ} {s : List ℕ} 
                 omega arith;
           }
 
-      module _ {s₂ : List ℕ} (G : Filled (λ k. kindWord (getD s₁ (kindsAt (w * h) P + k) 0) (firstNumber s₁ (glyphsAt (w * h) P) (3 * runs + 2 * f .runs) k)) (kindsAt (w * h) P) components s₁ s₂) where
+      module _ {s₂ : List ℕ} (G : Stored (λ k. kindWord (getD s₁ (kindsAt (w * h) P + k) 0) (firstNumber s₁ (glyphsAt (w * h) P) (3 * runs + 2 * f .runs) k)) (kindsAt (w * h) P) components s₁ s₂) where
         glyphs-labelled : HoldsGlyphs (sorted p w h m .rest .components) (sorted p w h m .kinds) (glyphLabel p w h m) (sizesAt (w * h) P) (kindsAt (w * h) P) s₂
         glyphs-labelled =
             let x = page-few .2 in
             let e₁ = ends .1 in
             glyphs-held (sorted p w h m .rest .components) (sorted p w h m .kinds) (glyphLabel p w h m) (sizesAt (w * h) P) (kindsAt (w * h) P) (glyphsAt (w * h) P) (3 * runs + 2 * f .runs) s₁ s₂ sizes-stand (omega arith) (omega arith)
             kind-stands (kind-known p w h m) (λ k l e. (let g = found k l e in (g .some, g .number-is)))
-            (subst (λ z. Filled (λ k. kindWord (getD s₁ (kindsAt (w * h) P + k) 0) (firstNumber s₁ (glyphsAt (w * h) P) (3 * runs + 2 * f .runs) k)) (kindsAt (w * h) P) z s₁ s₂) n G)
+            (subst (λ z. Stored (λ k. kindWord (getD s₁ (kindsAt (w * h) P + k) 0) (firstNumber s₁ (glyphsAt (w * h) P) (3 * runs + 2 * f .runs) k)) (kindsAt (w * h) P) z s₁ s₂) n G)
 
-        label-low : (k : ℕ) → k < components → labelAt s₂ (kindsAt (w * h) P) k ≤ f .rows
+        label-low : (k : ℕ) → k < components → labelAt s₂ (kindsAt (w * h) P) k ≤ f .smears
         label-low k l =
-            subst (λ z. z ≤ f .rows) (sym (label-of (sorted p w h m .rest .components) (sorted p w h m .kinds) (glyphLabel p w h m) (sizesAt (w * h) P) (kindsAt (w * h) P) s₂ glyphs-labelled k (omega arith)))
+            subst (λ z. z ≤ f .smears) (sym (label-of (sorted p w h m .rest .components) (sorted p w h m .kinds) (glyphLabel p w h m) (sizesAt (w * h) P) (kindsAt (w * h) P) s₂ glyphs-labelled k (omega arith)))
             (go (eqb (getD (sorted p w h m .kinds) k 0) glyphKind) (λ e. found k (omega arith) (eqb-true (getD (sorted p w h m .kinds) k 0) glyphKind e) .few))
           where
-            go : (t : Bool) → (t ≡ true → glyphLabel p w h m k ≤ f .rows) → cond t (glyphLabel p w h m k) 0 ≤ f .rows
+            go : (t : Bool) → (t ≡ true → glyphLabel p w h m k ≤ f .smears) → cond t (glyphLabel p w h m k) 0 ≤ f .smears
             go true a = a (λ i. true)
             go false a = omega arith
 
-        pub count-ask : CountRoom (kindsAt (w * h) P) components (glyphsAt (w * h) P) (f .rows) s₂
+        pub count-ask : CountRoom (kindsAt (w * h) P) components (glyphsAt (w * h) P) (f .smears) s₂
         count-ask =
             let x = page-few .2 in
             let e₀ = ends .0 in
             let e₁ = ends .1 in
             let y = S .room .few in
-            let z = G .len in
+            let z = G .within .len in
             record { behind = omega arith; room = omega arith; few = omega arith; labels = label-low }
 
-        rows-stand : HoldsSizes (rowsOf p w h m .components) s₂ (smoothedAt (w * h) P)
-        rows-stand =
-            let r = rows-count in
+        smears-stand : HoldsSizes (smearsOf p w h m .components) s₂ (smearsAt (w * h) P)
+        smears-stand =
+            let r = smears-count in
             let e₀ = ends .0 in
             let e₁ = ends .1 in
-            held-kept (rowsOf p w h m .components) s₁ s₂ (smoothedAt (w * h) P) (omega arith) (G .len) (λ i a b. G .behind i (omega arith)) (L .sizes u)
+            held-kept (smearsOf p w h m .components) s₁ s₂ (smearsAt (w * h) P) (omega arith) (G .within .len) (λ i a b. G .within .past i (omega arith)) (L .sizes u)
 
-        module _ {s₃ : List ℕ} (C : Filled (λ t. occurs (suc t) (labelsAt s₂ (kindsAt (w * h) P) components)) (glyphsAt (w * h) P) (f .rows) s₂ s₃) where
-          counted : Filled (λ t. occurs (suc t) (labelsAt s₂ (kindsAt (w * h) P) (length (sorted p w h m .rest .components)))) (glyphsAt (w * h) P) (length (rowsOf p w h m .components)) s₂ s₃
+        module _ {s₃ : List ℕ} (C : Stored (λ t. occurs (suc t) (labelsAt s₂ (kindsAt (w * h) P) components)) (glyphsAt (w * h) P) (f .smears) s₂ s₃) where
+          counted : Stored (λ t. occurs (suc t) (labelsAt s₂ (kindsAt (w * h) P) (length (sorted p w h m .rest .components)))) (glyphsAt (w * h) P) (length (smearsOf p w h m .components)) s₂ s₃
           counted =
-              subst (λ z. Filled (λ t. occurs (suc t) (labelsAt s₂ (kindsAt (w * h) P) z)) (glyphsAt (w * h) P) (length (rowsOf p w h m .components)) s₂ s₃) n
-              (subst (λ z. Filled (λ t. occurs (suc t) (labelsAt s₂ (kindsAt (w * h) P) components)) (glyphsAt (w * h) P) z s₂ s₃) rows-count C)
+              subst (λ z. Stored (λ t. occurs (suc t) (labelsAt s₂ (kindsAt (w * h) P) z)) (glyphsAt (w * h) P) (length (smearsOf p w h m .components)) s₂ s₃) n
+              (subst (λ z. Stored (λ t. occurs (suc t) (labelsAt s₂ (kindsAt (w * h) P) components)) (glyphsAt (w * h) P) z s₂ s₃) smears-count C)
 
-          rows-counted : HoldsRows (glyphsIn p w h m) (rowsOf p w h m .components) (smoothedAt (w * h) P) (glyphsAt (w * h) P) s₃
+          smears-counted : HoldsSmears (glyphsIn p w h m) (smearsOf p w h m .components) (smearsAt (w * h) P) (glyphsAt (w * h) P) s₃
           unfolding glyphsIn
-          rows-counted =
-              let r = rows-count in
+          smears-counted =
+              let r = smears-count in
               let e₁ = ends .1 in
-              let z = G .len in
-              subst (λ (g : List LabelledGlyph). HoldsRows g (rowsOf p w h m .components) (smoothedAt (w * h) P) (glyphsAt (w * h) P) s₃) (sym (labelled-glyphs (sorted p w h m .rest) (sorted p w h m .kinds) (rowsOf p w h m)))
-              (rows-held (sorted p w h m .rest .components) (sorted p w h m .kinds) (glyphLabel p w h m) (sizesAt (w * h) P) (kindsAt (w * h) P) (rowsOf p w h m .components) (smoothedAt (w * h) P) (glyphsAt (w * h) P) s₂ s₃ glyphs-labelled rows-stand (omega arith) (omega arith) counted)
+              let z = G .within .len in
+              subst (λ (g : List LabelledGlyph). HoldsSmears g (smearsOf p w h m .components) (smearsAt (w * h) P) (glyphsAt (w * h) P) s₃) (sym (labelled-glyphs (sorted p w h m .rest) (sorted p w h m .kinds) (smearsOf p w h m)))
+              (smears-held (sorted p w h m .rest .components) (sorted p w h m .kinds) (glyphLabel p w h m) (sizesAt (w * h) P) (kindsAt (w * h) P) (smearsOf p w h m .components) (smearsAt (w * h) P) (glyphsAt (w * h) P) s₂ s₃ glyphs-labelled smears-stand (omega arith) (omega arith) counted)
 
-          row-inside : (t : ℕ) → t < f .rows → (boxAt s₃ (smoothedAt (w * h) P) t .y0 ≤ boxAt s₃ (smoothedAt (w * h) P) t .y1) × (boxAt s₃ (smoothedAt (w * h) P) t .y1 + 1 ≤ 4294967295)
-          unfolding rowsOf
-          row-inside t l =
-              let r = rows-count in
-              let b = held-box (rowsOf p w h m .components) s₃ (smoothedAt (w * h) P) (rows-counted .held) t (omega arith) in
+          smear-inside : (t : ℕ) → t < f .smears → (boxAt s₃ (smearsAt (w * h) P) t .y0 ≤ boxAt s₃ (smearsAt (w * h) P) t .y1) × (boxAt s₃ (smearsAt (w * h) P) t .y1 + 1 ≤ 4294967295)
+          unfolding smearsOf
+          smear-inside t l =
+              let r = smears-count in
+              let b = held-box (smearsOf p w h m .components) s₃ (smearsAt (w * h) P) (smears-counted .held) t (omega arith) in
               let y₀ = ap (λ (z : Rect). z .y0) b in
               let y₁ = ap (λ (z : Rect). z .y1) b in
-              let B = component-boxed w h (rowMask p w h m) (S .room .wide) (let d = page-dots in omega arith) t (omega arith) in
+              let B = component-boxed w h (smearMask p w h m) (S .room .wide) (let d = page-dots in omega arith) t (omega arith) in
               let x₀ = B .high in
               let x₁ = B .bottom in
               let z = S .room .low in
               (omega arith, omega arith)
 
-          pub lines-ask : RowRoom (smoothedAt (w * h) P) (glyphsAt (w * h) P) (f .rows) s₃
+          pub lines-ask : SmearRoom (smearsAt (w * h) P) (glyphsAt (w * h) P) (f .smears) s₃
           lines-ask =
               let e₁ = ends .1 in
               let y = S .room .few in
-              let z = G .len in
-              let x = C .len in
-              record { behind = omega arith; room = omega arith; few = omega arith; tops = λ t l. row-inside t l .0; bottoms = λ t l. row-inside t l .1 }
+              let z = G .within .len in
+              let x = C .within .len in
+              record { behind = omega arith; room = omega arith; few = omega arith; tops = λ t l. smear-inside t l .0; bottoms = λ t l. smear-inside t l .1 }
 
           pub page-long : length s₃ ≡ length s
-          page-long = C .len ∙ (G .len ∙ L .len)
+          page-long = C .within .len ∙ (G .within .len ∙ L .len)
 
-          lines-told : (r : ℕ) → r ≡ countIf (rowIsLine p unit s₃ (smoothedAt (w * h) P) (glyphsAt (w * h) P)) (f .rows) → r ≡ length (linesIn p w h m)
+          lines-told : (r : ℕ) → r ≡ countIf (smearIsLine p unit s₃ (smearsAt (w * h) P) (glyphsAt (w * h) P)) (f .smears) → r ≡ length (linesIn p w h m)
           unfolding linesIn
           lines-told r e =
               e
-              ∙ (ap (countIf (rowIsLine p unit s₃ (smoothedAt (w * h) P) (glyphsAt (w * h) P))) rows-count
-              ∙ (lines-count p unit (glyphsIn p w h m) (rowsOf p w h m .components) (smoothedAt (w * h) P) (glyphsAt (w * h) P) s₃ rows-counted
-              ∙ ap (λ (v : Float). length (keptLines p v (glyphsIn p w h m) (rowsOf p w h m .components))) (S .unit-is)))
+              ∙ (ap (countIf (smearIsLine p unit s₃ (smearsAt (w * h) P) (glyphsAt (w * h) P))) smears-count
+              ∙ (lines-count p unit (glyphsIn p w h m) (smearsOf p w h m .components) (smearsAt (w * h) P) (glyphsAt (w * h) P) s₃ smears-counted
+              ∙ ap (λ (v : Float). length (keptLines p v (glyphsIn p w h m) (smearsOf p w h m .components))) (S .unit-is)))
 
           -- words of the sorted plane that are as they were
           kept-low : (i : ℕ) → i < kindsAt (w * h) P → getD s₃ i 0 ≡ getD s₁ i 0
-          kept-low i l = C .before i (omega arith) ∙ G .before i l
+          kept-low i l = C .within .before i (omega arith) ∙ G .within .before i l
 
           kept-front : (i : ℕ) → i < 3 * runs → getD s₃ i 0 ≡ getD s i 0
           kept-front i l = kept-low i (let e₂ = ends .2 in omega arith) ∙ L .front i l
@@ -361,7 +363,7 @@ module _ {p : LayoutParams} {w h : ℕ} {m : List ℕ} {P : ℕ} {s : List ℕ} 
               let x₀ = page-few .0 in
               let x₁ = page-few .1 in
               let e₁ = ends .1 in
-              let z = G .len in
+              let z = G .within .len in
               record {
                 numbered =
                     record {
@@ -370,21 +372,50 @@ module _ {p : LayoutParams} {w h : ℕ} {m : List ℕ} {P : ℕ} {s : List ℕ} 
                     };
                 glyphs =
                     record {
-                      held = held-kept (sorted p w h m .rest .components) s₂ s₃ (sizesAt (w * h) P) (omega arith) (C .len) (λ i a b. C .before i (omega arith)) (glyphs-labelled .held);
-                      words = λ k l. C .before (kindsAt (w * h) P + k) (omega arith) ∙ glyphs-labelled .words k l;
+                      held = held-kept (sorted p w h m .rest .components) s₂ s₃ (sizesAt (w * h) P) (omega arith) (C .within .len) (λ i a b. C .within .before i (omega arith)) (glyphs-labelled .held);
+                      words = λ k l. C .within .before (kindsAt (w * h) P + k) (omega arith) ∙ glyphs-labelled .words k l;
                       known = glyphs-labelled .known;
                       labelled = glyphs-labelled .labelled;
                     };
-                rows = rows-counted;
+                smears = smears-counted;
                 horizontal = part-kept (horizontalAt (w * h)) (2 * length (sorted p w h m .horizontal .components)) s s₃ page-long (λ i a b. kept-boxes i a (omega arith)) ∙ S .held .horizontal;
                 vertical = part-kept (verticalAt (w * h) P) (2 * length (sorted p w h m .vertical .components)) s s₃ page-long (λ i a b. kept-boxes i (omega arith) (omega arith)) ∙ S .held .vertical;
               }
 
-          pub rows-done : (r : ℕ) → r ≡ countIf (rowIsLine p unit s₃ (smoothedAt (w * h) P) (glyphsAt (w * h) P)) (f .rows) → r ≤ maxLines → RowsHeld p w h m P s₃ runs (record { rows = f .rows; lines = r })
-          rows-done r e l =
-              let k = rows-count in
+          pub smears-done : (r : ℕ) → r ≡ countIf (smearIsLine p unit s₃ (smearsAt (w * h) P) (glyphsAt (w * h) P)) (f .smears) → r ≤ maxLines → SmearsHeld p w h m P s₃ runs (record { smears = f .smears; lines = r })
+          smears-done r e l =
+              let k = smears-count in
               let z = lines-told r e in
-              record { few = omega arith; few-lines = omega arith; held = page-held; rows-is = rows-count; lines-is = z }
+              record { few = omega arith; few-lines = omega arith; held = page-held; smears-is = smears-count; lines-is = z }
 
-          pub lines-many : (r : ℕ) → r ≡ countIf (rowIsLine p unit s₃ (smoothedAt (w * h) P) (glyphsAt (w * h) P)) (f .rows) → maxLines < r → (length (rowsOf p w h m .components) ≤ P) × (maxLines < length (linesIn p w h m))
-          lines-many r e l = let k = rows-count in let z = lines-told r e in (omega arith, omega arith)
+          pub lines-many : (r : ℕ) → r ≡ countIf (smearIsLine p unit s₃ (smearsAt (w * h) P) (glyphsAt (w * h) P)) (f .smears) → maxLines < r → (length (smearsOf p w h m .components) ≤ P) × (maxLines < length (linesIn p w h m))
+          lines-many r e l = let k = smears-count in let z = lines-told r e in (omega arith, omega arith)
+
+-- The same by the plan
+
+module _ {f : Plan} (Q : Planned f) {p : LayoutParams} {m s : List ℕ} {unit : Float} {runs : ℕ} (S : SortedPage p (f .width) (f .height) m (f .capacity) s unit runs) where
+  abbrev rest : List ℕ
+  rest = inkAfterCut p (f .width) (f .height) m
+
+  abbrev all : Sorted
+  all = sorted p (f .width) (f .height) m
+
+  pub smooth-asked : SmoothRoom (f .width) (f .height) rest (all .kinds) (all .plane) s runs (f .kinds) (f .glyphs)
+  smooth-asked = rw (Q .kinds-is, Q .glyphs-is) (smooth-ask S)
+
+  pub smooth-found : {s₁ : List ℕ} {gap c : ℕ} → gap ≡ dots (p .«smear_xh» · unit) → SmoothLeft (f .width) (f .height) rest (all .kinds) (all .plane) s s₁ runs (f .kinds) (f .glyphs) gap c
+      → SmoothLeft (f .width) (f .height) rest (all .kinds) (all .plane) s s₁ runs (kindsAt (f .width * f .height) (f .capacity)) (glyphsAt (f .width * f .height) (f .capacity)) (smoothingGap p (unitValue (all .unit))) c
+  smooth-found e L = smooth-left S e (rw (Q .kinds-is, Q .glyphs-is) at L)
+
+  module _ {s₁ : List ℕ} {c : ℕ}
+      (L : SmoothLeft (f .width) (f .height) rest (all .kinds) (all .plane) s s₁ runs (kindsAt (f .width * f .height) (f .capacity)) (glyphsAt (f .width * f .height) (f .capacity)) (smoothingGap p (unitValue (all .unit))) c) where
+    pub smears-fit-in : (3 * runs ≤ length s₁) × (3 * runs ≤ f .smears) × (f .smears ≤ 2000000000)
+    smears-fit-in = rw (Q .smears-is) (smears-room S L)
+
+    pub sizes-asked : SizesRoom (f .width) (f .height) (smearMask p (f .width) (f .height) m) (take (length s₁ - 3 * runs) (drop (3 * runs) s₁)) c (f .capacity) (f .smears - 3 * runs)
+    sizes-asked = rw (Q .smears-is) (sizes-ask S L)
+
+    pub smears-found : {part : List ℕ} {smears : ℕ}
+        → SizesLeft (f .width) (f .height) (smearMask p (f .width) (f .height) m) (take (length s₁ - 3 * runs) (drop (3 * runs) s₁)) part c (f .capacity) (f .smears - 3 * runs) smears
+        → SmearsLabelled p (f .width) (f .height) m (f .capacity) s (putMid (3 * runs) (length s₁ - 3 * runs) s₁ part) runs (record { runs = c; smears = smears })
+    smears-found Z = smears-labelled S L (rw (Q .smears-is) at Z)

@@ -12,12 +12,12 @@ use lib.ListN.{getD}
 use lib.Dec.{eqb}
 use Rattle.memory.proofs.PlaneLaws.{dot-row}
 use Rattle.memory.specs.rules.Masks.{isInk}
-use Rattle.labelling.specs.stages.InkRuns.{inkBefore, turns, runCount, runOf, endOf, Runs}
-use Rattle.labelling.proofs.CountLaws.{count-low}
+use Rattle.labelling.specs.stages.InkRuns.{inkBefore, turns, runCount, runOf, Runs}
+use Rattle.memory.proofs.PlaceLaws.{count-low}
 use Rattle.labelling.proofs.TouchLaws.{starts-rise}
 use Rattle.labelling.proofs.RunLabelLaws.{inkBefore-row}
 use Rattle.sorting.specs.rules.Kinds.{glyphKind}
-use Rattle.smoothing.specs.stages.RowRuns.{glyphDot, endedTurns, SmoothingInput, smoothedPage, startAt, glyphOf, Passed}
+use Rattle.smoothing.specs.stages.RowRuns.{glyphDot, endedTurns, SmoothingInput, smoothedPage, startAt, endAt, glyphOf, Passed}
 use Rattle.smoothing.proofs.StretchLaws.{begunTurns, turns-blank, ink-one, ended-ink, ended-run, count-run}
 use Rattle.smoothing.proofs.RunNumberLaws.{runs-are, label-shared}
 use Rattle.smoothing.proofs.SmoothedDots.{glyph-ink, smoothed-on, gap-fresh, gap-row, tail-blank}
@@ -27,19 +27,16 @@ off-of false h = refl
 off-of true h = absurd (h refl)
 
 module _ (g : SmoothingInput) where
-  abbrev pub endAt : ℕ → ℕ
-  endAt = endOf (turns (g .w) (g .m) (g .w * g .h)) 0
-
   abbrev mask : List ℕ
   mask = smoothedPage g
 
-  abbrev R : Runs (g .w) (g .m) (g .w * g .h) (runCount (g .w) (g .m) (g .w * g .h)) (startAt g) endAt (runOf (g .w) (g .m))
+  abbrev R : Runs (g .w) (g .m) (g .w * g .h) (runCount (g .w) (g .m) (g .w * g .h)) (startAt g) (endAt g) (runOf (g .w) (g .m))
   R = runs-are (g .w) (g .h) (g .m) (g .asks .wide)
 
   run-in : {k : ℕ} → k < g .c → k < runCount (g .w) (g .m) (g .w * g .h)
   run-in {k} l = let e = g .asks .numbered .held .count in omega arith
 
-  pub run-some : (j : ℕ) → j < g .c → startAt g j < endAt j
+  pub run-some : (j : ℕ) → j < g .c → startAt g j < endAt g j
   run-some j l = R .some j (run-in l)
 
   -- the dots of a page are few
@@ -50,7 +47,7 @@ module _ (g : SmoothingInput) where
   unfolding runCount
   runs-few = let e = g .asks .numbered .held .count in let l : runCount (g .w) (g .m) (g .w * g .h) ≤ g .w * g .h = count-low _ (g .w * g .h) in omega arith
 
-  glyph-shared : (j i : ℕ) → j < g .c → startAt g j ≤ i → i < endAt j → glyphOf g i ≡ glyphOf g (startAt g j)
+  glyph-shared : (j i : ℕ) → j < g .c → startAt g j ≤ i → i < endAt g j → glyphOf g i ≡ glyphOf g (startAt g j)
   unfolding glyphDot
   glyph-shared j i l a b = ap (λ k. eqb (getD (0 ∷ g .ks) k 0) glyphKind) (label-shared (g .w) (g .h) (g .m) (g .asks .wide) j i (run-in l) a b)
 
@@ -65,10 +62,10 @@ module _ (g : SmoothingInput) where
       omega arith
 
   -- a run that starts in row y ends there
-  run-row : (y j : ℕ) → j < g .c → y * g .w ≤ startAt g j → startAt g j < y * g .w + g .w → endAt j ≤ y * g .w + g .w
-  run-row y j l a b = go (decLe (endAt j) (y * g .w + g .w))
+  run-row : (y j : ℕ) → j < g .c → y * g .w ≤ startAt g j → startAt g j < y * g .w + g .w → endAt g j ≤ y * g .w + g .w
+  run-row y j l a b = go (decLe (endAt g j) (y * g .w + g .w))
     where
-      go : Dec (endAt j ≤ y * g .w + g .w) → endAt j ≤ y * g .w + g .w
+      go : Dec (endAt g j ≤ y * g .w + g .w) → endAt g j ≤ y * g .w + g .w
       go (yes d) = d
       go (no d) =
           let r = R .row j (y * g .w + g .w) (run-in l) (omega arith) (omega arith) in
@@ -87,16 +84,16 @@ module _ (g : SmoothingInput) where
         let li : i < g .w * g .h = omega arith in
         let ink = glyph-ink (g .w) (g .h) (g .m) (g .ks) (g .plane) (g .gap) (g .asks .wide) (g .asks .plane-is) i li e in
         let k = P .clear i a li e in
-        let r = starts-rise (g .w) (g .m) (g .asks .wide) (g .w * g .h) _ (startAt g) endAt (runOf (g .w) (g .m)) R j (runOf (g .w) (g .m) i) k (R .has i li ink) in
+        let r = starts-rise (g .w) (g .m) (g .asks .wide) (g .w * g .h) _ (startAt g) (endAt g) (runOf (g .w) (g .m)) R j (runOf (g .w) (g .m) i) k (R .has i li ink) in
         let f = R .from i li ink in
         omega arith)
 
   -- The next run is one of a glyph, in row y
   module _ {y j n : ℕ} (P : Passed g y j n) (l : j < g .c) (ly : y < g .h) (here : startAt g j < y * g .w + g .w) (glyph : glyphOf g (startAt g j) ≡ true) where
-    some : startAt g j < endAt j
+    some : startAt g j < endAt g j
     some = R .some j (run-in l)
 
-    within : endAt j ≤ g .w * g .h
+    within : endAt g j ≤ g .w * g .h
     within = R .within j (run-in l)
 
     low : y * g .w ≤ startAt g j
@@ -105,21 +102,21 @@ module _ (g : SmoothingInput) where
     behind : n ≤ startAt g j
     behind = P .next j (le-refl j) l .1
 
-    upto : endAt j ≤ y * g .w + g .w
+    upto : endAt g j ≤ y * g .w + g .w
     upto = run-row y j l low here
 
-    own : (i : ℕ) → startAt g j ≤ i → i < endAt j → isInk mask i ≡ true
+    own : (i : ℕ) → startAt g j ≤ i → i < endAt g j → isInk mask i ≡ true
     own i a b = smoothed-on (g .w) (g .h) (g .m) (g .ks) (g .plane) (g .gap) (g .asks .wide) (g .asks .plane-is) i (let z = within in omega arith) (glyph-shared j i l a b ∙ glyph)
 
     -- its first dot is in the smoothed run that has its last
-    pub run-count : runCount (g .w) mask (suc (startAt g j)) ≡ runCount (g .w) mask (endAt j)
-    run-count = count-run (g .w) mask (g .asks .wide) (startAt g j) (endAt j) some own (λ k a b. inner y k (let z = low in omega arith) (let z = upto in omega arith))
+    pub run-count : runCount (g .w) mask (suc (startAt g j)) ≡ runCount (g .w) mask (endAt g j)
+    run-count = count-run (g .w) mask (g .asks .wide) (startAt g j) (endAt g j) some own (λ k a b. inner y k (let z = low in omega arith) (let z = upto in omega arith))
 
     -- the last glyph run is in the same row and not far
-    pub turns-joined : y * g .w < n → startAt g j - n ≤ g .gap → (endedTurns (g .w) mask n ≡ begunTurns (g .w) mask (n - 1) ++ (n ∷ [])) × (endedTurns (g .w) mask (endAt j) ≡ begunTurns (g .w) mask (n - 1) ++ (endAt j ∷ []))
+    pub turns-joined : y * g .w < n → startAt g j - n ≤ g .gap → (endedTurns (g .w) mask n ≡ begunTurns (g .w) mask (n - 1) ++ (n ∷ [])) × (endedTurns (g .w) mask (endAt g j) ≡ begunTurns (g .w) mask (n - 1) ++ (endAt g j ∷ []))
     turns-joined ln near = (
       ap (endedTurns (g .w) mask) (sym one) ∙ (ink-one (g .w) mask (n - 1) (all (n - 1) (le-refl (n - 1)) (let a = some in let b = behind in omega arith)) ∙ ap (λ i. begunTurns (g .w) mask (n - 1) ++ (i ∷ [])) one),
-      ended-ink (g .w) mask (n - 1) (endAt j) (let a = some in let b = behind in omega arith) all (λ k a b. inner y k (omega arith) (let z = upto in omega arith)),
+      ended-ink (g .w) mask (n - 1) (endAt g j) (let a = some in let b = behind in omega arith) all (λ k a b. inner y k (omega arith) (let z = upto in omega arith)),
     )
       where
         one : suc (n - 1) ≡ n
@@ -128,7 +125,7 @@ module _ (g : SmoothingInput) where
         last : glyphOf g (n - 1) ≡ true
         last = P .on (omega arith)
 
-        all : (k : ℕ) → n - 1 ≤ k → k < endAt j → isInk mask k ≡ true
+        all : (k : ℕ) → n - 1 ≤ k → k < endAt g j → isInk mask k ≡ true
         all k a b = go (decLt k n) (decLt k (startAt g j))
           where
             go : Dec (k < n) → Dec (k < startAt g j) → isInk mask k ≡ true
@@ -139,19 +136,19 @@ module _ (g : SmoothingInput) where
             go (no c) (no d) = own k (omega arith) b
 
     -- there is none in the row, or it is too far
-    anew : ((i : ℕ) → n ≤ i → i < startAt g j → isInk mask i ≡ false) → (n ≡ startAt g j → inkBefore (g .w) mask n ≡ false) → endedTurns (g .w) mask (endAt j) ≡ (endedTurns (g .w) mask n ++ (startAt g j ∷ [])) ++ (endAt j ∷ [])
+    anew : ((i : ℕ) → n ≤ i → i < startAt g j → isInk mask i ≡ false) → (n ≡ startAt g j → inkBefore (g .w) mask n ≡ false) → endedTurns (g .w) mask (endAt g j) ≡ (endedTurns (g .w) mask n ++ (startAt g j ∷ [])) ++ (endAt g j ∷ [])
     anew blank edge =
         let t = turns-blank (g .w) mask n (startAt g j) behind blank edge in
-        ended-run (g .w) mask (startAt g j) (endAt j) (t .1) some own (λ k a b. inner y k (let z = low in omega arith) (let z = upto in omega arith))
-        ∙ ap (λ (z : List ℕ). (z ++ (startAt g j ∷ [])) ++ (endAt j ∷ [])) (t .0)
+        ended-run (g .w) mask (startAt g j) (endAt g j) (t .1) some own (λ k a b. inner y k (let z = low in omega arith) (let z = upto in omega arith))
+        ∙ ap (λ (z : List ℕ). (z ++ (startAt g j ∷ [])) ++ (endAt g j ∷ [])) (t .0)
 
-    pub turns-first : n ≤ y * g .w → endedTurns (g .w) mask (endAt j) ≡ (endedTurns (g .w) mask n ++ (startAt g j ∷ [])) ++ (endAt j ∷ [])
+    pub turns-first : n ≤ y * g .w → endedTurns (g .w) mask (endAt g j) ≡ (endedTurns (g .w) mask n ++ (startAt g j ∷ [])) ++ (endAt g j ∷ [])
     turns-first ln =
         anew
         (gap-fresh (g .w) (g .h) (g .m) (g .ks) (g .plane) (g .gap) (g .asks .wide) (g .asks .plane-is) n (startAt g j) y (quiet P l) ly ln low here)
         (λ e. inkBefore-row (g .w) mask n (ap (λ z. z % g .w) (let a = low in let q : n ≡ y * g .w = omega arith in q) ∙ mul-mod-left y (g .w)))
 
-    pub turns-far : y * g .w < n → g .gap < startAt g j - n → endedTurns (g .w) mask (endAt j) ≡ (endedTurns (g .w) mask n ++ (startAt g j ∷ [])) ++ (endAt j ∷ [])
+    pub turns-far : y * g .w < n → g .gap < startAt g j - n → endedTurns (g .w) mask (endAt g j) ≡ (endedTurns (g .w) mask n ++ (startAt g j ∷ [])) ++ (endAt g j ∷ [])
     turns-far ln far =
         anew
         (λ i a b.
@@ -160,7 +157,7 @@ module _ (g : SmoothingInput) where
         (λ e. absurd (omega arith))
 
     -- what is passed then
-    pub pass-glyph : Passed g y (suc j) (endAt j)
+    pub pass-glyph : Passed g y (suc j) (endAt g j)
     pass-glyph =
         record {
           row = P .row;
@@ -170,11 +167,11 @@ module _ (g : SmoothingInput) where
           clear = λ i a b e.
               let ink = glyph-ink (g .w) (g .h) (g .m) (g .ks) (g .plane) (g .gap) (g .asks .wide) (g .asks .plane-is) i b e in
               later i b ink a (P .clear i (let z = some in let q = behind in omega arith) b e) (ℕ-discrete (runOf (g .w) (g .m) i) j);
-          on = λ z. let q = some in glyph-shared j (endAt j - 1) l (omega arith) (omega arith) ∙ glyph;
+          on = λ z. let q = some in glyph-shared j (endAt g j - 1) l (omega arith) (omega arith) ∙ glyph;
         }
       where
-        later : (i : ℕ) → i < g .w * g .h → isInk (g .m) i ≡ true → endAt j ≤ i → j ≤ runOf (g .w) (g .m) i → Dec (runOf (g .w) (g .m) i ≡ j) → suc j ≤ runOf (g .w) (g .m) i
-        later i b ink a k (yes e) = absurd (let u = R .upto i b ink in let v : endAt (runOf (g .w) (g .m) i) ≡ endAt j = ap endAt e in omega arith)
+        later : (i : ℕ) → i < g .w * g .h → isInk (g .m) i ≡ true → endAt g j ≤ i → j ≤ runOf (g .w) (g .m) i → Dec (runOf (g .w) (g .m) i ≡ j) → suc j ≤ runOf (g .w) (g .m) i
+        later i b ink a k (yes e) = absurd (let u = R .upto i b ink in let v : endAt g (runOf (g .w) (g .m) i) ≡ endAt g j = ap (endAt g) e in omega arith)
         later i b ink a k (no ne) = omega arith
 
   -- the next run is one of no glyph
@@ -196,7 +193,7 @@ module _ (g : SmoothingInput) where
           let f = R .from i b ink in
           let u = R .upto i b ink in
           let f' : startAt g j ≤ i = subst (λ z. startAt g z ≤ i) q f in
-          let u' : i < endAt j = subst (λ z. i < endAt z) q u in
+          let u' : i < endAt g j = subst (λ z. i < endAt g z) q u in
           absurd (true≢false (sym e ∙ (glyph-shared j i l f' u' ∙ off)))
       later i b e ink k (no ne) = omega arith
 
@@ -209,7 +206,7 @@ module _ (g : SmoothingInput) where
         row = omega arith;
         upto = P .upto;
         next = λ k a b. (
-          (let p = past (omega arith) in let r = starts-rise (g .w) (g .m) (g .asks .wide) (g .w * g .h) _ (startAt g) endAt (runOf (g .w) (g .m)) R j k a (run-in b) in omega arith),
+          (let p = past (omega arith) in let r = starts-rise (g .w) (g .m) (g .asks .wide) (g .w * g .h) _ (startAt g) (endAt g) (runOf (g .w) (g .m)) R j k a (run-in b) in omega arith),
           P .next k a b .1,
         );
         inside = (omega arith, P .inside .1);

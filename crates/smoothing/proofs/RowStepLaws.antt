@@ -15,17 +15,17 @@ use Rattle.memory.specs.rules.Lists.{countIf}
 use Rattle.labelling.specs.rules.Labels.{labelling}
 use Rattle.labelling.specs.stages.InkRuns.{inkBefore, appendIf, turns, runCount, runOf, isRoot}
 use Rattle.labelling.specs.stages.Linking.{firstRun}
-use Rattle.labelling.proofs.CountLaws.{count-low, count-up, count-one, count-step}
+use Rattle.memory.proofs.PlaceLaws.{count-low, count-mono, count-yes, count-step}
 use Rattle.labelling.proofs.TurnLaws.{snoc-len}
 use Rattle.labelling.proofs.TouchLaws.{and-both}
 use Rattle.labelling.proofs.RunLabelLaws.{turns-even}
 use Rattle.sorting.specs.rules.Kinds.{glyphKind}
 use Rattle.smoothing.specs.rules.Lines.{firstDot}
-use Rattle.smoothing.specs.stages.RowRuns.{glyphRun, glyphRuns, SmoothLeft, endedTurns, metBefore, SmoothingInput, smoothedPage, startAt, glyphOf, PageKept, Passed, RowWalk}
+use Rattle.smoothing.specs.stages.RowRuns.{glyphRun, glyphRuns, SmoothLeft, endedTurns, metBefore, SmoothingInput, smoothedPage, startAt, endAt, numberAt, glyphOf, PageKept, Passed, RowWalk}
 use Rattle.smoothing.proofs.StretchLaws.{begunTurns, ended-length}
 use Rattle.smoothing.proofs.RunNumberLaws.{met-all, met-next, first-met}
-use Rattle.smoothing.proofs.RowWordLaws.{words-joined, words-anew, kept-set, kept-first, number, number-range, glyph-kind}
-use Rattle.smoothing.proofs.RowRunLaws.{endAt, run-some, dots-few, runs-few, run-count, turns-joined, turns-first, turns-far, pass-glyph, pass-other, pass-row, pass-none, pass-all, pass-turns}
+use Rattle.smoothing.proofs.RowWordLaws.{words-joined, words-anew, kept-set, kept-first, number-range, glyph-kind}
+use Rattle.smoothing.proofs.RowRunLaws.{run-some, dots-few, runs-few, run-count, turns-joined, turns-first, turns-far, pass-glyph, pass-other, pass-row, pass-none, pass-all, pass-turns}
 
 -- a word behind those read
 words-front : (s : List ℕ) (a k q v : ℕ) → a + k ≤ q → take k (drop a (set s q v)) ≡ take k (drop a s)
@@ -48,7 +48,7 @@ module _ (g : SmoothingInput) where
   -- the smoothed runs so far fit
   few : (j r : ℕ) → j < g .c → r ≤ countIf (glyphRun (g .w) (g .h) (g .m) (g .ks)) (suc j) → (3 * g .c + 3 * r ≤ g .kinds) × (r ≤ 402595842)
   few j r l f =
-      let u = count-up (glyphRun (g .w) (g .h) (g .m) (g .ks)) (suc j) (runCount (g .w) (g .m) (g .w * g .h)) (in-all l) in
+      let u = count-mono (glyphRun (g .w) (g .h) (g .m) (g .ks)) (suc j) (runCount (g .w) (g .m) (g .w * g .h)) (in-all l) in
       let b = g .asks .before in
       let d = count-low (glyphRun (g .w) (g .h) (g .m) (g .ks)) (suc j) in
       let e = runs-few g in
@@ -63,7 +63,7 @@ module _ (g : SmoothingInput) where
       let b = ended-length (g .w) (smoothedPage g) (g .asks .wide) n in
       omega arith
 
-  module _ {s : List ℕ} {y j r components last : ℕ} (W : RowWalk g s y j r components last) (l : j < g .c) where
+  module _ {s : List ℕ} {y j r newest last : ℕ} (W : RowWalk g s y j r newest last) (l : j < g .c) where
     long : g .kinds + length (g .ks) ≤ length s
     long = let a = W .kept .len in let b = g .asks .room in let d = g .asks .between in omega arith
 
@@ -76,7 +76,12 @@ module _ (g : SmoothingInput) where
 
     -- Runs of no glyph
 
-    pub step-other : glyphOf g (startAt g j) ≡ false → RowWalk g s y (suc j) r (max components (number g j)) last
+    -- the components met up to run j: a number that is not met before it is its own
+    met-with : (metBefore (g .w) (g .h) (g .m) (suc j) ≡ max (metBefore (g .w) (g .h) (g .m) j) (numberAt g j)) × (metBefore (g .w) (g .h) (g .m) (suc j) ≤ suc (metBefore (g .w) (g .h) (g .m) j))
+    met-with =
+        (met-next (g .w) (g .h) (g .m) (g .asks .wide) j (in-all l), let u = count-step (isRoot (firstRun (g .w) (runCount (g .w) (g .m) (g .w * g .h)) (turns (g .w) (g .m) (g .w * g .h)))) j in omega arith)
+
+    pub step-other : glyphOf g (startAt g j) ≡ false → RowWalk g s y (suc j) r newest last
     step-other off =
         record {
           kept = W .kept;
@@ -85,28 +90,28 @@ module _ (g : SmoothingInput) where
           none = W .none;
           some = W .some;
           runs = W .runs;
-          fits = let u = count-up (glyphRun (g .w) (g .h) (g .m) (g .ks)) j (suc j) (let q : j ≤ suc j = omega arith in q) in let f = W .fits in omega arith;
-          met = ap (λ z. max z (number g j)) (W .met) ∙ sym (met-next (g .w) (g .h) (g .m) (g .asks .wide) j (in-all l));
-          first = λ k a e. first k a e (decLt k components);
+          fits = let u = count-mono (glyphRun (g .w) (g .h) (g .m) (g .ks)) j (suc j) (let q : j ≤ suc j = omega arith in q) in let f = W .fits in omega arith;
+          met = let m = met-with .0 in let n = W .met in omega arith;
+          glyphs-met = λ k a e. met k a e (decLt k (metBefore (g .w) (g .h) (g .m) j));
+          first = W .first;
         }
       where
-        first : (k : ℕ) → k < max components (number g j) → getD (g .ks) k 0 ≡ glyphKind → Dec (k < components) → getD s (g .firsts + k) 0 ≡ runOf (g .w) (smoothedPage g) (firstDot (labelling (g .w) (g .h) (g .m) .labels) (suc k))
-        first k a e (yes h) = W .first k h e
-        first k a e (no h) =
-            let u = count-step (isRoot (firstRun (g .w) (runCount (g .w) (g .m) (g .w * g .h)) (turns (g .w) (g .m) (g .w * g .h)))) j in
-            let m₁ = W .met in
-            let m₂ = met-next (g .w) (g .h) (g .m) (g .asks .wide) j (in-all l) in
-            let q : number g j - 1 ≡ k = omega arith in
+        met : (k : ℕ) → k < metBefore (g .w) (g .h) (g .m) (suc j) → getD (g .ks) k 0 ≡ glyphKind → Dec (k < metBefore (g .w) (g .h) (g .m) j) → k < newest
+        met k a e (yes h) = W .glyphs-met k h e
+        met k a e (no h) =
+            let m₁ = met-with .0 in
+            let m₂ = met-with .1 in
+            let q : numberAt g j - 1 ≡ k = omega arith in
             absurd (true≢false (sym (glyph-kind g j l ∙ (ap (λ z. eqb (getD (g .ks) z 0) glyphKind) q ∙ eq-eqb (getD (g .ks) k 0) glyphKind e)) ∙ off))
 
     -- Runs of a glyph
 
     module _ (ly : y < g .h) (here : startAt g j < y * g .w + g .w) (glyph : glyphOf g (startAt g j) ≡ true) where
       fits-more : r + 1 ≤ countIf (glyphRun (g .w) (g .h) (g .m) (g .ks)) (suc j)
-      fits-more = let f = W .fits in let o = count-one (glyphRun (g .w) (g .h) (g .m) (g .ks)) j glyph in omega arith
+      fits-more = let f = W .fits in let o = count-yes (glyphRun (g .w) (g .h) (g .m) (g .ks)) j glyph in omega arith
 
       fits-all : r + 1 ≤ glyphRuns (g .w) (g .h) (g .m) (g .ks)
-      fits-all = let f = fits-more in let u = count-up (glyphRun (g .w) (g .h) (g .m) (g .ks)) (suc j) (runCount (g .w) (g .m) (g .w * g .h)) (in-all l) in omega arith
+      fits-all = let f = fits-more in let u = count-mono (glyphRun (g .w) (g .h) (g .m) (g .ks)) (suc j) (runCount (g .w) (g .m) (g .w * g .h)) (in-all l) in omega arith
 
       pub add-room : 3 * g .c + 2 * r + 2 ≤ g .kinds
       add-room = let f = few j (r + 1) l fits-more .0 in omega arith
@@ -179,7 +184,7 @@ module _ (g : SmoothingInput) where
       step-run false e = added-anew (sym e)
 
       module _ {s' : List ℕ} {r' : ℕ} (A : Added g s s' j r') where
-        pub mark-room : (g .firsts + number g j ≤ length s') × (0 < r') × (r' < 4294967296)
+        pub mark-room : (g .firsts + numberAt g j ≤ length s') × (0 < r') × (r' < 4294967296)
         mark-room =
             let a = A .kept .len in
             let b = g .asks .room in
@@ -200,13 +205,13 @@ module _ (g : SmoothingInput) where
             let e = count-is s' r' (endAt g j) (omega arith) (A .runs) in
             ap (λ z. z - 1) (e ∙ sym (run-count g (W .passed) l ly here glyph))
 
-        first-old : (k : ℕ) → k < components → getD (g .ks) k 0 ≡ glyphKind → getD s' (g .firsts + k) 0 ≡ runOf (g .w) (smoothedPage g) (firstDot (labelling (g .w) (g .h) (g .m) .labels) (suc k))
+        first-old : (k : ℕ) → k < newest → getD (g .ks) k 0 ≡ glyphKind → getD s' (g .firsts + k) 0 ≡ runOf (g .w) (smoothedPage g) (firstDot (labelling (g .w) (g .h) (g .m) .labels) (suc k))
         first-old k h e = A .high (g .firsts + k) (let d = g .asks .between in omega arith) ∙ W .first k h e
 
         -- the walk, whatever was marked
         marked : (s'' : List ℕ) → PageKept g s'' → take (2 * r') (drop (3 * g .c) s'') ≡ endedTurns (g .w) (smoothedPage g) (endAt g j)
-            → ((k : ℕ) → k < max components (number g j) → getD (g .ks) k 0 ≡ glyphKind → getD s'' (g .firsts + k) 0 ≡ runOf (g .w) (smoothedPage g) (firstDot (labelling (g .w) (g .h) (g .m) .labels) (suc k)))
-            → RowWalk g s'' y (suc j) r' (max components (number g j)) (endAt g j)
+            → ((k : ℕ) → k < max newest (numberAt g j) → getD (g .ks) k 0 ≡ glyphKind → getD s'' (g .firsts + k) 0 ≡ runOf (g .w) (smoothedPage g) (firstDot (labelling (g .w) (g .h) (g .m) .labels) (suc k)))
+            → RowWalk g s'' y (suc j) r' (max newest (numberAt g j)) (endAt g j)
         marked s'' K runs first =
             let P = pass-glyph g (W .passed) l ly here glyph in
             let low = W .passed .next j (le-refl j) l .0 in
@@ -219,41 +224,54 @@ module _ (g : SmoothingInput) where
               some = λ z. (refl, omega arith);
               runs = runs;
               fits = A .fits;
-              met = ap (λ z. max z (number g j)) (W .met) ∙ sym (met-next (g .w) (g .h) (g .m) (g .asks .wide) j (in-all l));
+              met = let m = met-with .0 in let n = W .met in omega arith;
+              glyphs-met = λ k a e. glyphs-met k a e (decLt k (metBefore (g .w) (g .h) (g .m) j));
               first = first;
             }
           where
+            glyphs-met : (k : ℕ) → k < metBefore (g .w) (g .h) (g .m) (suc j) → getD (g .ks) k 0 ≡ glyphKind → Dec (k < metBefore (g .w) (g .h) (g .m) j) → k < max newest (numberAt g j)
+            glyphs-met k a e (yes h) = let b = W .glyphs-met k h e in omega arith
+            glyphs-met k a e (no h) = let m = met-with .0 in omega arith
+
             some-dot : startAt g j < endAt g j
             some-dot = run-some g j l
 
-        pub step-mark : (t : Bool) → t ≡ ltb components (number g j) → RowWalk g (cond t (set s' (g .firsts + number g j - 1) (r' - 1)) s') y (suc j) r' (max components (number g j)) (endAt g j)
+        -- a glyph with a number above the newest is not met before
+        unmet : (k : ℕ) → getD (g .ks) k 0 ≡ glyphKind → (k < newest → ⊥) → metBefore (g .w) (g .h) (g .m) j ≤ k
+        unmet k q h = go (decLt k (metBefore (g .w) (g .h) (g .m) j))
+          where
+            go : Dec (k < metBefore (g .w) (g .h) (g .m) j) → metBefore (g .w) (g .h) (g .m) j ≤ k
+            go (yes d) = absurd (h (W .glyphs-met k d q))
+            go (no d) = omega arith
+
+        pub step-mark : (t : Bool) → t ≡ ltb newest (numberAt g j) → RowWalk g (cond t (set s' (g .firsts + numberAt g j - 1) (r' - 1)) s') y (suc j) r' (max newest (numberAt g j)) (endAt g j)
         step-mark false e =
-            let h = ltb-false components (number g j) (sym e) in
+            let h = ltb-false newest (numberAt g j) (sym e) in
             marked s' (A .kept) (A .runs) (λ k a q. first-old k (omega arith) q)
         step-mark true e =
-            let h = ltb-true components (number g j) (sym e) in
+            let h = ltb-true newest (numberAt g j) (sym e) in
             let z = number-range g j l .0 in
             let z₁ = number-range g j l .1 in
-            let at : g .firsts + number g j - 1 ≡ g .firsts + (number g j - 1) = omega arith in
+            let at : g .firsts + numberAt g j - 1 ≡ g .firsts + (numberAt g j - 1) = omega arith in
             let d = g .asks .between in
             let b = held in
-            subst (λ i. RowWalk g (set s' i (r' - 1)) y (suc j) r' (max components (number g j)) (endAt g j)) (sym at)
-            (marked (set s' (g .firsts + (number g j - 1)) (r' - 1))
-            (kept-first g s' (A .kept) (number g j - 1) (r' - 1) (omega arith))
-            (words-front s' (3 * g .c) (2 * r') (g .firsts + (number g j - 1)) (r' - 1) (omega arith) ∙ A .runs)
-            (λ k a q. first k a q (decLt k components)))
+            subst (λ i. RowWalk g (set s' i (r' - 1)) y (suc j) r' (max newest (numberAt g j)) (endAt g j)) (sym at)
+            (marked (set s' (g .firsts + (numberAt g j - 1)) (r' - 1))
+            (kept-first g s' (A .kept) (numberAt g j - 1) (r' - 1) (omega arith))
+            (words-front s' (3 * g .c) (2 * r') (g .firsts + (numberAt g j - 1)) (r' - 1) (omega arith) ∙ A .runs)
+            (λ k a q. first k a q (decLt k newest)))
           where
-            first : (k : ℕ) → k < max components (number g j) → getD (g .ks) k 0 ≡ glyphKind → Dec (k < components) → getD (set s' (g .firsts + (number g j - 1)) (r' - 1)) (g .firsts + k) 0 ≡ runOf (g .w) (smoothedPage g) (firstDot (labelling (g .w) (g .h) (g .m) .labels) (suc k))
+            first : (k : ℕ) → k < max newest (numberAt g j) → getD (g .ks) k 0 ≡ glyphKind → Dec (k < newest) → getD (set s' (g .firsts + (numberAt g j - 1)) (r' - 1)) (g .firsts + k) 0 ≡ runOf (g .w) (smoothedPage g) (firstDot (labelling (g .w) (g .h) (g .m) .labels) (suc k))
             first k a q (yes h) =
-                let n = ltb-true components (number g j) (sym e) in
-                getD-set-other s' (g .firsts + (number g j - 1)) (g .firsts + k) (r' - 1) 0 (λ z. absurd (omega arith)) ∙ first-old k h q
+                let n = ltb-true newest (numberAt g j) (sym e) in
+                getD-set-other s' (g .firsts + (numberAt g j - 1)) (g .firsts + k) (r' - 1) 0 (λ z. absurd (omega arith)) ∙ first-old k h q
             first k a q (no h) =
-                let n = ltb-true components (number g j) (sym e) in
-                let u = count-step (isRoot (firstRun (g .w) (runCount (g .w) (g .m) (g .w * g .h)) (turns (g .w) (g .m) (g .w * g .h)))) j in
-                let m₁ = W .met in
-                let m₂ = met-next (g .w) (g .h) (g .m) (g .asks .wide) j (in-all l) in
-                let same : number g j - 1 ≡ k = omega arith in
-                let next : number g j ≡ suc k = omega arith in
+                let n = ltb-true newest (numberAt g j) (sym e) in
+                let b : metBefore (g .w) (g .h) (g .m) j ≤ k = unmet k q h in
+                let m₁ = met-with .0 in
+                let m₂ = met-with .1 in
+                let same : numberAt g j - 1 ≡ k = omega arith in
+                let next : numberAt g j ≡ suc k = omega arith in
                 let room = mark-room .0 in
                 ap (λ i. getD (set s' (g .firsts + i) (r' - 1)) (g .firsts + k) 0) same
                 ∙ (getD-set-same s' (g .firsts + k) (r' - 1) 0 (omega arith)
@@ -272,13 +290,14 @@ module _ (g : SmoothingInput) where
         some = λ l. absurd (not-suc-le-zero l);
         runs = refl;
         fits = le-refl 0;
-        met = refl;
+        met = le-refl 0;
+        glyphs-met = λ k l. absurd (not-suc-le-zero l);
         first = λ k l. absurd (not-suc-le-zero l);
       }
 
   -- the next row
-  pub walk-row : {s : List ℕ} {y j r components last : ℕ} → RowWalk g s y j r components last → y < g .h → (j < g .c → y * g .w + g .w ≤ startAt g j) → RowWalk g s (y + 1) j r components 0
-  walk-row {s} {y} {j} {r} {components} {last} W ly past =
+  pub walk-row : {s : List ℕ} {y j r newest last : ℕ} → RowWalk g s y j r newest last → y < g .h → (j < g .c → y * g .w + g .w ≤ startAt g j) → RowWalk g s (y + 1) j r newest 0
+  walk-row {s} {y} {j} {r} {newest} {last} W ly past =
       let e : (y + 1) * g .w ≡ y * g .w + g .w = ap (λ z. z * g .w) (add-one y) ∙ suc-mul y (g .w) in
       let i = W .passed .inside .0 in
       record {
@@ -290,12 +309,13 @@ module _ (g : SmoothingInput) where
         runs = W .runs;
         fits = W .fits;
         met = W .met;
+        glyphs-met = W .glyphs-met;
         first = W .first;
       }
 
   -- all rows are walked
-  pub walk-done : {s : List ℕ} {y j r components last : ℕ} → RowWalk g s y j r components last → g .h ≤ y → SmoothLeft (g .w) (g .h) (g .m) (g .ks) (g .plane) (g .words) s (g .c) (g .kinds) (g .firsts) (g .gap) r
-  walk-done {s} {y} {j} {r} {components} {last} W ly =
+  pub walk-done : {s : List ℕ} {y j r newest last : ℕ} → RowWalk g s y j r newest last → g .h ≤ y → SmoothLeft (g .w) (g .h) (g .m) (g .ks) (g .plane) (g .words) s (g .c) (g .kinds) (g .firsts) (g .gap) r
+  walk-done {s} {y} {j} {r} {newest} {last} W ly =
       let q : j ≡ g .c = pass-all g (W .passed) ly in
       let n = g .asks .numbered .held .count in
       let P : Passed g y (g .c) (W .end) = subst (λ z. Passed g y z (W .end)) q (W .passed) in
@@ -309,7 +329,7 @@ module _ (g : SmoothingInput) where
       let u = turns-even (g .w) (g .h) (smoothedPage g) (g .asks .wide) in
       let v = ap length t in
       let x = ended-length (g .w) (smoothedPage g) (g .asks .wide) (W .end) in
-      let all : components ≡ length (g .ks) = W .met ∙ (ap (metBefore (g .w) (g .h) (g .m)) (q ∙ n) ∙ (met-all (g .w) (g .h) (g .m) (g .asks .wide) ∙ sym (g .asks .size))) in
+      let all : metBefore (g .w) (g .h) (g .m) j ≡ length (g .ks) = ap (metBefore (g .w) (g .h) (g .m)) (q ∙ n) ∙ (met-all (g .w) (g .h) (g .m) (g .asks .wide) ∙ sym (g .asks .size)) in
       record {
         len = k;
         front =
@@ -317,7 +337,7 @@ module _ (g : SmoothingInput) where
             (λ i a. let z = length-take-le (3 * g .c) s (omega arith) in let l : i < 3 * g .c = omega arith in getD-take (3 * g .c) s i 0 l ∙ (W .kept .low i l ∙ sym (getD-take (3 * g .c) (g .words) i 0 l)));
         held = record { count = omega arith; runs = W .runs ∙ sym t };
         fits = f;
-        first = λ k l e. W .first k (omega arith) e;
+        first = λ k l e. W .first k (W .glyphs-met k (omega arith) e) e;
         between = W .kept .between;
         beyond = W .kept .beyond;
       }

@@ -6,11 +6,10 @@ use native.Mathlib.Omega.{arith}
 use lib.ListN.{getD, length, take, drop, set, length-set, length-drop}
 use lib.Seq.{getD-take, getD-drop, getD-set-other, length-take-le, take-suc-set, drop-set-add, take-take, take-at}
 use lib.Dec.{eqb}
-use Rattle.labelling.specs.rules.Labels.{labelling}
-use Rattle.labelling.specs.stages.InkRuns.{turns, runCount, endOf}
+use Rattle.labelling.specs.stages.InkRuns.{turns, runCount}
 use Rattle.labelling.proofs.TurnLaws.{snoc-len}
 use Rattle.sorting.specs.rules.Kinds.{glyphKind}
-use Rattle.smoothing.specs.stages.RowRuns.{glyphDot, glyphRuns, SmoothingInput, startAt, glyphOf, PageKept}
+use Rattle.smoothing.specs.stages.RowRuns.{glyphDot, glyphRuns, SmoothingInput, startAt, endAt, numberAt, glyphOf, PageKept}
 use Rattle.smoothing.proofs.RunNumberLaws.{number-some, number-high}
 
 -- the last of the words from a on is written anew
@@ -64,10 +63,10 @@ module _ (g : SmoothingInput) (s : List ℕ) (K : PageKept g s) where
   pub read-start : (k : ℕ) → k < g .c → getD s (2 * k) 0 ≡ startAt g k
   read-start k l = read-turn (2 * k) (omega arith)
 
-  pub read-end : (k : ℕ) → k < g .c → getD s (2 * k + 1) 0 ≡ endOf (turns (g .w) (g .m) (g .w * g .h)) 0 k
+  pub read-end : (k : ℕ) → k < g .c → getD s (2 * k + 1) 0 ≡ endAt g k
   read-end k l = read-turn (2 * k + 1) (omega arith)
 
-  pub read-number : (k : ℕ) → k < g .c → getD s (2 * g .c + k) 0 ≡ getD (labelling (g .w) (g .h) (g .m) .labels) (startAt g k) 0
+  pub read-number : (k : ℕ) → k < g .c → getD s (2 * g .c + k) 0 ≡ numberAt g k
   read-number k l = K .low (2 * g .c + k) (omega arith) ∙ g .asks .numbered .numbers k l
 
   -- the kind of the component with this number, counted from 1
@@ -78,12 +77,8 @@ module _ (g : SmoothingInput) (s : List ℕ) (K : PageKept g s) where
       K .between (g .kinds + k) (omega arith) (omega arith)
       ∙ (sym (getD-drop (g .kinds) (g .words) k 0) ∙ (sym (getD-take (length (g .ks)) (drop (g .kinds) (g .words)) k 0 l) ∙ ap (λ (z : List ℕ). getD z k 0) (g .asks .kinds-held)))
 
--- the number of run j's component
-abbrev pub number : SmoothingInput → ℕ → ℕ
-number g j = getD (labelling (g .w) (g .h) (g .m) .labels) (startAt g j) 0
-
 module _ (g : SmoothingInput) (j : ℕ) (l : j < g .c) where
-  pub number-range : (0 < number g j) × (number g j ≤ length (g .ks))
+  pub number-range : (0 < numberAt g j) × (numberAt g j ≤ length (g .ks))
   number-range =
       let e = g .asks .numbered .held .count in
       let k : j < runCount (g .w) (g .m) (g .w * g .h) = omega arith in
@@ -91,6 +86,6 @@ module _ (g : SmoothingInput) (j : ℕ) (l : j < g .c) where
       (number-some (g .w) (g .h) (g .m) (g .asks .wide) j k, let q = number-high (g .w) (g .h) (g .m) (g .asks .wide) j k in omega arith)
 
   -- a run is one of a glyph by the kind of its number
-  pub glyph-kind : glyphOf g (startAt g j) ≡ eqb (getD (g .ks) (number g j - 1) 0) glyphKind
+  pub glyph-kind : glyphOf g (startAt g j) ≡ eqb (getD (g .ks) (numberAt g j - 1) 0) glyphKind
   unfolding glyphDot
-  glyph-kind = ap (λ k. eqb (getD (0 ∷ g .ks) k 0) glyphKind) (let r = number-range .0 in let e : number g j ≡ suc (number g j - 1) = omega arith in e)
+  glyph-kind = ap (λ k. eqb (getD (0 ∷ g .ks) k 0) glyphKind) (let r = number-range .0 in let e : numberAt g j ≡ suc (numberAt g j - 1) = omega arith in e)

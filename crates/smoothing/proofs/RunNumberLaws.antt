@@ -14,7 +14,7 @@ use Rattle.memory.specs.rules.Masks.{isInk}
 use Rattle.labelling.specs.rules.Labels.{labelling}
 use Rattle.labelling.specs.stages.InkRuns.{turns, runCount, runOf, startOf, endOf, Runs, isRoot, componentNumber, runLabel}
 use Rattle.labelling.specs.stages.Linking.{touching, firstRun}
-use Rattle.labelling.proofs.CountLaws.{count-up, count-one}
+use Rattle.memory.proofs.PlaceLaws.{count-mono, count-yes}
 use Rattle.union_find.proofs.FirstLaws.{firsts-right, along}
 use Rattle.labelling.proofs.TransferLaws.{firsts-named}
 use Rattle.labelling.proofs.TouchLaws.{starts-rise}
@@ -78,15 +78,15 @@ module _ (w h : ℕ) (m : List ℕ) (hw : 0 < w) where
 
   pub number-some : (j : ℕ) → j < runCount w m (w * h) → 0 < getD (labelling w h m .labels) (startAt j) 0
   unfolding componentNumber isRoot
-  number-some j l = let e = label-start j l in let q = count-one (isRoot rep) (rep j) (eq-eqb (rep (rep j)) (rep j) (rep-again j)) in omega arith
+  number-some j l = let e = label-start j l in let q = count-yes (isRoot rep) (rep j) (eq-eqb (rep (rep j)) (rep j) (rep-again j)) in omega arith
 
   number-low : (i j : ℕ) → i < j → componentNumber rep i ≤ metBefore w h m j
   unfolding componentNumber
-  number-low i j l = let e = rep-low i in count-up (isRoot rep) (suc (rep i)) j (omega arith)
+  number-low i j l = let e = rep-low i in count-mono (isRoot rep) (suc (rep i)) j (omega arith)
 
   number-old : (j : ℕ) → (rep j ≡ j → ⊥) → componentNumber rep j ≤ metBefore w h m j
   unfolding componentNumber
-  number-old j ne = let e = rep-low j in count-up (isRoot rep) (suc (rep j)) j (omega arith)
+  number-old j ne = let e = rep-low j in count-mono (isRoot rep) (suc (rep j)) j (omega arith)
 
   pub number-high : (j : ℕ) → j < runCount w m (w * h) → getD (labelling w h m .labels) (startAt j) 0 ≤ length (labelling w h m .components)
   number-high j l = let e = label-start j l in let q = number-low j (runCount w m (w * h)) l in let r = met-all in omega arith

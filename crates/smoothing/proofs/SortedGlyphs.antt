@@ -24,7 +24,7 @@ use Rattle.labelling.specs.rules.Labels.{labelling}
 use Rattle.labelling.specs.stages.InkRuns.{turns, runCount, runOf, startOf}
 use Rattle.labelling.specs.stages.Sizes.{HoldsRuns, HoldsNumbers}
 use Rattle.labelling.specs.declared.component.Component.{Component}
-use Rattle.labelling.proofs.CountLaws.{count-low}
+use Rattle.memory.proofs.PlaceLaws.{count-low}
 use Rattle.labelling.proofs.Theorems.{label-blank, label-occurs}
 use Rattle.labelling.proofs.SizeLaws.{held-runs, held-few, held-dots, held-start, held-end, run-label, component-boxed}
 use Rattle.params.specs.rules.Valid as sheet
@@ -44,14 +44,14 @@ use Rattle.smoothing.proofs.RunNumberLaws.{number-some, number-high}
 
 -- A frame one dot wide
 
-positive-of : (v : Float) → T (lt sheet.zero v) → T (finite v) → T (positive v)
+positive-of : (v : Float) → T (lt sheet.floatZero v) → T (finite v) → T (positive v)
 unfolding lt ofBits
 positive-of nan t f = absurd f
 positive-of (inf s) t f = absurd f
 positive-of (fin true m e) t f = absurd t
 positive-of (fin false m e) t f = lt→ltb 0 m (first-pos m (up e) (let a : 0 * down e < m * up e * 1 = ltb→lt (0 * down e) (m * up e * 1) t in omega arith))
 
-one-positive : T (positive sheet.one)
+one-positive : T (positive sheet.floatOne)
 unfolding ofBits
 one-positive = tt
 
@@ -63,7 +63,7 @@ float-same : T (le (float 1) (float 1))
 unfolding le ofInt
 float-same = tt
 
-one-times : mul binary64 sheet.one (float 1) ≡ float 1
+one-times : mul binary64 sheet.floatOne (float 1) ≡ float 1
 unfolding mul ofBits ofInt
 one-times = refl
 
@@ -72,7 +72,7 @@ one-wide : (p : LayoutParams) → ValidSheet p → le (sideExtent p 1) (float 1)
 one-wide p valid =
     is-true (le (sideExtent p 1) (float 1))
     (subst (λ (z : Float). T (le (sideExtent p 1) z)) one-times
-    (mul-mono binary64 (p .«glyph_max_extent_frac») sheet.one (float 1) (float 1) (positive-of (p .«glyph_max_extent_frac») (valid .extent-above-zero) (valid .glyph-max-extent .is-finite)) one-positive float-positive float-positive
+    (mul-mono binary64 (p .«glyph_max_extent_frac») sheet.floatOne (float 1) (float 1) (positive-of (p .«glyph_max_extent_frac») (valid .extent-above-zero) (valid .glyph-max-extent .is-finite)) one-positive float-positive float-positive
     (valid .extent-at-most-one) float-same))
 
 -- a component one dot wide is no glyph there

@@ -24,14 +24,14 @@ use Rattle.sorting.specs.rules.Kinds.{glyphKind}
 use Rattle.sorting.specs.rules.Sorted.{sorted}
 use Rattle.sorting.specs.stages.Scratch.{inkAfterCut}
 use Rattle.smoothing.specs.rules.Smoothing.{glyphAt, joined, smoothed}
-use Rattle.smoothing.specs.rules.Lines.{firstDot, LabelledGlyph, SmoothedLine, smoothedLine, isLine, keysAtMost, lineKeys, keptLines}
+use Rattle.smoothing.specs.rules.Lines.{firstDot, LabelledGlyph, SmoothedLine, smoothedLine, lineBySize, isLine, keysAtMost, lineKeys, keptLines}
 use Rattle.smoothing.specs.stages.RowRuns.{glyphDot}
 use Rattle.memory.proofs.ListLaws.{each-at, each-keep, each-sort}
 use Rattle.extents.proofs.MaskLaws.{mask-at}
 use Rattle.smoothing.proofs.JoinLaws.{joined-on, joined-between, joined-before, joined-after}
 use Rattle.smoothing.proofs.SortedGlyphs.{index-found, labels-long, rest-is, glyph-plane}
 use Rattle.smoothing.proofs.GlyphChains.{same-smoothed}
-use Rattle.smoothing.proofs.KeptLines.{labels-once, line-of-row, keys-at-most, keys-apart}
+use Rattle.smoothing.proofs.KeptLines.{labels-once, line-of-smear, keys-at-most, keys-apart}
 use Rattle.smoothing.proofs.OrderLaws.{lines-by-top}
 
 -- Smoothing
@@ -115,7 +115,7 @@ pub record Line (p : LayoutParams) (unit : Float) (l : SmoothedLine) : Type 0 wh
   pub high : le (float (height (l .bbox))) (p .«line_max_height_xh» · unit) ≡ true
 
 line : (p : LayoutParams) (unit : Float) (l : SmoothedLine) → isLine p unit l ≡ true → Line p unit l
-unfolding isLine
+unfolding lineBySize
 line p unit l e =
     let few : Bool = leb (p .«line_min_glyphs») (l .glyphs) in
     let low : Bool = le (p .«line_min_height_xh» · unit) (float (height (l .bbox))) in
@@ -128,38 +128,38 @@ line p unit l e =
     }
 
 -- each line holds at least `line_min_glyphs` glyphs, and its height lies within the bounds
-pub each-line : (p : LayoutParams) (unit : Float) (gs : List LabelledGlyph) (rows : List Component) (i : ℕ) (d : SmoothedLine)
-    → i < length (keptLines p unit gs rows) → Line p unit (getD (keptLines p unit gs rows) i d)
+pub each-line : (p : LayoutParams) (unit : Float) (gs : List LabelledGlyph) (smears : List Component) (i : ℕ) (d : SmoothedLine)
+    → i < length (keptLines p unit gs smears) → Line p unit (getD (keptLines p unit gs smears) i d)
 unfolding keptLines
-each-line p unit gs rows i d h =
-    each-at (Line p unit) (keptLines p unit gs rows)
+each-line p unit gs smears i d h =
+    each-at (Line p unit) (keptLines p unit gs smears)
     (each-sort (Line p unit) (λ (a b : SmoothedLine). keysAtMost (lineKeys a) (lineKeys b))
-    (keep (isLine p unit) (table (λ t. smoothedLine gs (getD rows t noDots) (suc t)) (length rows)))
-    (each-keep (Line p unit) (isLine p unit) (line p unit) (table (λ t. smoothedLine gs (getD rows t noDots) (suc t)) (length rows))))
+    (keep (isLine p unit) (table (λ t. smoothedLine gs (getD smears t noDots) (suc t)) (length smears)))
+    (each-keep (Line p unit) (isLine p unit) (line p unit) (table (λ t. smoothedLine gs (getD smears t noDots) (suc t)) (length smears))))
     i d h
 
 -- lines go by y0: none starts above the one before it
-pub lines-go-by-top : (p : LayoutParams) (unit : Float) (gs : List LabelledGlyph) (rows : List Component) (i j : ℕ) (d : SmoothedLine)
-    → i < j → j < length (keptLines p unit gs rows) → getD (keptLines p unit gs rows) i d .bbox .y0 ≤ getD (keptLines p unit gs rows) j d .bbox .y0
+pub lines-go-by-top : (p : LayoutParams) (unit : Float) (gs : List LabelledGlyph) (smears : List Component) (i j : ℕ) (d : SmoothedLine)
+    → i < j → j < length (keptLines p unit gs smears) → getD (keptLines p unit gs smears) i d .bbox .y0 ≤ getD (keptLines p unit gs smears) j d .bbox .y0
 unfolding keptLines
-lines-go-by-top p unit gs rows = lines-by-top (keep (isLine p unit) (table (λ t. smoothedLine gs (getD rows t noDots) (suc t)) (length rows)))
+lines-go-by-top p unit gs smears = lines-by-top (keep (isLine p unit) (table (λ t. smoothedLine gs (getD smears t noDots) (suc t)) (length smears)))
 
-module _ (p : LayoutParams) (unit : Float) (gs : List LabelledGlyph) (rows : List Component) where
+module _ (p : LayoutParams) (unit : Float) (gs : List LabelledGlyph) (smears : List Component) where
   -- the lines are the smoothed components that pass the test, each once
-  pub each-line-once : (t : ℕ) → t < length rows
-      → occurs (suc t) (map (λ (l : SmoothedLine). l .label) (keptLines p unit gs rows)) ≡ cond (isLine p unit (smoothedLine gs (getD rows t noDots) (suc t))) 1 0
-  each-line-once = labels-once p unit gs rows
+  pub each-line-once : (t : ℕ) → t < length smears
+      → occurs (suc t) (map (λ (l : SmoothedLine). l .label) (keptLines p unit gs smears)) ≡ cond (isLine p unit (smoothedLine gs (getD smears t noDots) (suc t))) 1 0
+  each-line-once = labels-once p unit gs smears
 
   -- and nothing else is a line
-  pub each-line-smoothed : (i : ℕ) (d : SmoothedLine) → i < length (keptLines p unit gs rows)
-      → (t : ℕ) × (t < length rows) × (getD (keptLines p unit gs rows) i d ≡ smoothedLine gs (getD rows t noDots) (suc t))
-  each-line-smoothed = line-of-row p unit gs rows
+  pub each-line-smoothed : (i : ℕ) (d : SmoothedLine) → i < length (keptLines p unit gs smears)
+      → (t : ℕ) × (t < length smears) × (getD (keptLines p unit gs smears) i d ≡ smoothedLine gs (getD smears t noDots) (suc t))
+  each-line-smoothed = line-of-smear p unit gs smears
 
   -- lines go by y0, x0, y1, x1, then label: no two have the same keys
-  pub lines-go-by-keys : (i j : ℕ) (d : SmoothedLine) → i < j → j < length (keptLines p unit gs rows)
-      → (keysAtMost (lineKeys (getD (keptLines p unit gs rows) i d)) (lineKeys (getD (keptLines p unit gs rows) j d)) ≡ true)
-      × (lineKeys (getD (keptLines p unit gs rows) i d) ≡ lineKeys (getD (keptLines p unit gs rows) j d) → ⊥)
-  lines-go-by-keys i j d h k = (keys-at-most p unit gs rows i j d h k, keys-apart p unit gs rows i j d h k)
+  pub lines-go-by-keys : (i j : ℕ) (d : SmoothedLine) → i < j → j < length (keptLines p unit gs smears)
+      → (keysAtMost (lineKeys (getD (keptLines p unit gs smears) i d)) (lineKeys (getD (keptLines p unit gs smears) j d)) ≡ true)
+      × (lineKeys (getD (keptLines p unit gs smears) i d) ≡ lineKeys (getD (keptLines p unit gs smears) j d) → ⊥)
+  lines-go-by-keys i j d h k = (keys-at-most p unit gs smears i j d h k, keys-apart p unit gs smears i j d h k)
 
 -- Glyphs in smoothed components
 

@@ -5,36 +5,22 @@ ghost use lib.ListN.{length, getD, set};
 ghost use lib.Seq.{sets};
 ghost use Rattle.memory.specs.rules.Lists.{occurs};
 ghost use Rattle.memory.specs.rules.Limits.{maxCapacity};
+ghost use Rattle.memory.specs.stages.Stored.{Stored};
 ghost use Rattle.sorting.specs.rules.Kinds.{glyphKind};
-ghost use Rattle.smoothing.specs.stages.LineWords.{Filled, kindWord, firstNumber, LabelRoom, labelAt, labelsAt, CountRoom, boxAt, glyphFields, glyphRecordAt, GlyphRoom, WrittenGlyph, WrittenGlyphs};
+ghost use Rattle.smoothing.specs.stages.LineWords.{kindWord, firstNumber, LabelRoom, labelAt, labelsAt, CountRoom, boxAt, glyphFields, glyphRecordAt, GlyphRoom, WrittenGlyph, WrittenGlyphs};
 use memory::Rect;
+use memory::fill_words;
 use memory::wide;
-
-// The kind of a glyph.
-const GLYPH: u32 = 4;
-
-// The words of a component's size.
-pub const SIZE_WORDS: usize = 5;
+use sorting::GLYPH;
+use sorting::SIZE_WORDS;
 
 // The words of a glyph's record.
-const GLYPH_WORDS: usize = 6;
-
-// n words from `at` on become `value`.
-pub fn fill(words: &mut [u32], at: usize, n: usize, value: u32)
-    requires { ⌜ at + n ≤ length (now words) ⌝ }
-    ensures { λ _. ⌜ Filled (λ (k : ℕ). value) at n (now (words .entry)) (now (words .exit)) ⌝ }
-{
-    let mut k = 0;
-    while k < n {
-        words[at + k] = value;
-        k += 1;
-    }
-}
+pub const GLYPH_WORDS: usize = 6;
 
 // The kind of each glyph becomes 4 + 8 × the number of its first smoothed run.
 pub fn label_glyphs(words: &mut [u32], kinds: usize, count: usize, firsts: usize, numbers: usize)
     requires { ⌜ LabelRoom kinds count firsts numbers (now words) ⌝ }
-    ensures { λ _. ⌜ Filled (λ (k : ℕ). kindWord (getD (now (words .entry)) (kinds + k) 0) (firstNumber (now (words .entry)) firsts numbers k)) kinds count (now (words .entry)) (now (words .exit)) ⌝ }
+    ensures { λ _. ⌜ Stored (λ (k : ℕ). kindWord (getD (now (words .entry)) (kinds + k) 0) (firstNumber (now (words .entry)) firsts numbers k)) kinds count (now (words .entry)) (now (words .exit)) ⌝ }
 {
     let mut k = 0;
     while k < count {
@@ -56,12 +42,12 @@ fn labelled_kind(words: &[u32], kind: usize, first: usize, numbers: usize) -> u3
     GLYPH + 8 * words[numbers + run]
 }
 
-// Word t of the `rows` words from `glyphs` on becomes the count of the glyphs with the label t + 1.
-pub fn count_glyphs(words: &mut [u32], kinds: usize, count: usize, glyphs: usize, rows: usize)
-    requires { ⌜ CountRoom kinds count glyphs rows (now words) ⌝ }
-    ensures { λ _. ⌜ Filled (λ (t : ℕ). occurs (suc t) (labelsAt (now (words .entry)) kinds count)) glyphs rows (now (words .entry)) (now (words .exit)) ⌝ }
+// Word t of the `smears` words from `glyphs` on becomes the count of the glyphs with the label t + 1.
+pub fn count_glyphs(words: &mut [u32], kinds: usize, count: usize, glyphs: usize, smears: usize)
+    requires { ⌜ CountRoom kinds count glyphs smears (now words) ⌝ }
+    ensures { λ _. ⌜ Stored (λ (t : ℕ). occurs (suc t) (labelsAt (now (words .entry)) kinds count)) glyphs smears (now (words .entry)) (now (words .exit)) ⌝ }
 {
-    fill(words, glyphs, rows, 0);
+    fill_words(&mut words[glyphs..glyphs + smears], 0);
     let mut k = 0;
     while k < count {
         let label = wide(words[kinds + k] / 8);

@@ -2,17 +2,16 @@
 // stages lie in one slice of scratch, laid out in sorting's specs/Scratch.
 mod glyphs;
 mod lines;
-mod rows;
+mod smears;
 mod smooth;
 
+pub use glyphs::GLYPH_WORDS;
 pub use glyphs::write_glyphs;
 pub use lines::LINE_WORDS;
 pub use lines::LinePlaces;
-pub use lines::NO_LINE;
 pub use lines::number_labels;
 pub use lines::order_lines;
 pub use lines::write_lines;
-pub use rows::MAX_LINES;
-pub use rows::Rows;
-pub use rows::RowsAnswer;
-pub use rows::group_rows;
+pub use smears::Smears;
+pub use smears::SmearsAnswer;
+pub use smears::find_smears;

@@ -13,7 +13,7 @@ use lib.Dec.{eqb}
 use Rattle.memory.specs.rules.Lists.{table, countIf, occurs, total}
 use Rattle.memory.proofs.CountLaws.{count-none}
 use Rattle.memory.proofs.TableLaws.{length-table, getD-table}
-use Rattle.labelling.specs.rules.Components.{noDots}
+use Rattle.labelling.specs.rules.Components.{boxOf, noDots}
 use Rattle.memory.specs.rules.Masks.{isInk}
 use Rattle.labelling.specs.rules.Labels.{labelling, touches, isFirst, labelAt, componentTo}
 use Rattle.union_find.specs.rules.Classes.{firsts}
@@ -21,16 +21,16 @@ use Rattle.labelling.specs.declared.component.Component.{Component}
 use Rattle.labelling.proofs.Theorems.{label, count, label-within, label-blank, records-right}
 use Rattle.labelling.proofs.SizeLaws.{component-boxed}
 use Rattle.rulings.specs.stages.Marks.{Blank}
-use Rattle.sorting.specs.stages.Measures.{BoxInside}
+use Rattle.memory.specs.stages.Boxes.{Inside}
 use Rattle.extents.proofs.MaskLaws.{ink-count}
 use Rattle.sorting.proofs.AreaLaws.{total-more}
 
 -- each has a dot, so that its box is one of dots of the mask
 pub box-inside : (w h : ℕ) (m : List ℕ) → 0 < w → w * h ≤ 1073741824 → (k : ℕ) → k < length (labelling w h m .components)
-    → BoxInside w h (getD (labelling w h m .components) k noDots)
+    → Inside w h (boxOf (getD (labelling w h m .components) k noDots))
 box-inside w h m wide few k l =
     let B = component-boxed w h m wide few k l in
-    record { columns = B .wide; wide = B .right; rows = B .high; high = B .bottom }
+    record { columns = B .wide; right = B .right; rows = B .high; bottom = B .bottom }
 
 -- a mask without ink has none
 pub blank-none : (w h : ℕ) (m : List ℕ) → Blank m (w * h) → labelling w h m .components ≡ []

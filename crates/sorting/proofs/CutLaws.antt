@@ -18,20 +18,20 @@ use Rattle.rulings.specs.stages.Marks.{cutMark}
 use Rattle.sorting.specs.stages.Scratch.{marksAt, horizontalAt}
 use Rattle.extents.proofs.MaskLaws.{isInk-maskOf}
 use Rattle.rulings.proofs.RulingMasks.{horizontal-blank, vertical-blank, afterCut-ink}
-use Rattle.sorting.specs.stages.Sortings.{passed}
+use Rattle.sorting.specs.stages.SortSteps.{passed}
 
 -- the same marks pass the same dots
 pub passed-same : (t : Test) (w h : ℕ) (m s u : List ℕ) → ((i : ℕ) → marksAt (w * h) ≤ i → i < horizontalAt (w * h) → getD u i 0 ≡ getD s i 0) → passed t w h m u ≡ passed t w h m s
 unfolding passing
 passed-same t w h m s u e =
-    table-ext (λ i. cond (passes t (getD m i 0) (getD (drop (marksAt (w * h)) u) i 0)) 1 0) (λ i. cond (passes t (getD m i 0) (getD (drop (marksAt (w * h)) s) i 0)) 1 0) (w * h)
-    (λ i l. ap (λ (k : ℕ). cond (passes t (getD m i 0) k) 1 0) (getD-drop (marksAt (w * h)) u i 0 ∙ (e (marksAt (w * h) + i) (omega arith) (omega arith) ∙ sym (getD-drop (marksAt (w * h)) s i 0))))
+    table-ext (λ i. cond (passes t (isInk m i) (getD (drop (marksAt (w * h)) u) i 0)) 1 0) (λ i. cond (passes t (isInk m i) (getD (drop (marksAt (w * h)) s) i 0)) 1 0) (w * h)
+    (λ i l. ap (λ (k : ℕ). cond (passes t (isInk m i) k) 1 0) (getD-drop (marksAt (w * h)) u i 0 ∙ (e (marksAt (w * h) + i) (omega arith) (omega arith) ∙ sym (getD-drop (marksAt (w * h)) s i 0))))
 
 -- a mask by the test that passes where it has ink
-passing-mask : (t : Test) (w h : ℕ) (m marks : List ℕ) (p : Plane) → ((i : ℕ) → i < w * h → passes t (getD m i 0) (getD marks i 0) ≡ isInk (maskOf w h p) i) → passing t m marks (w * h) ≡ maskOf w h p
+passing-mask : (t : Test) (w h : ℕ) (m marks : List ℕ) (p : Plane) → ((i : ℕ) → i < w * h → passes t (isInk m i) (getD marks i 0) ≡ isInk (maskOf w h p) i) → passing t m marks (w * h) ≡ maskOf w h p
 unfolding passing maskOf
 passing-mask t w h m marks p e =
-    table-ext (λ i. cond (passes t (getD m i 0) (getD marks i 0)) 1 0) (λ i. cond (p (i % w) (i / w)) 1 0) (w * h) (λ i l. ap (λ (b : Bool). cond b 1 0) (e i l ∙ isInk-maskOf w h p i l))
+    table-ext (λ i. cond (passes t (isInk m i) (getD marks i 0)) 1 0) (λ i. cond (p (i % w) (i / w)) 1 0) (w * h) (λ i l. ap (λ (b : Bool). cond b 1 0) (e i l ∙ isInk-maskOf w h p i l))
 
 first-bit : (a b : Bool) → eqb ((cond a 1 0 + cond b 2 0) % 2) 1 ≡ a
 first-bit true true = refl
@@ -67,17 +67,17 @@ module _ (run-min thick-max w h : ℕ) (m marks : List ℕ) (told : (i : ℕ) �
   unfolding cutMark a b
   mark i l = told i l
 
-  first-ink : 0 < w → (i : ℕ) → i < w * h → passes First (getD m i 0) (getD marks i 0) ≡ isInk a i
-  unfolding a isInk
+  first-ink : 0 < w → (i : ℕ) → i < w * h → passes First (isInk m i) (getD marks i 0) ≡ isInk a i
+  unfolding a
   first-ink wide i l =
-      ap (λ (k : ℕ). ltb 0 (getD m i 0) && eqb (k % 2) 1) (mark i l)
-      ∙ (ap (λ (t : Bool). ltb 0 (getD m i 0) && t) (first-bit (isInk a i) (isInk b i)) ∙ on-ink (isInk m i) (isInk a i) (horizontal-blank run-min thick-max w h m wide i l))
+      ap (λ (k : ℕ). isInk m i && eqb (k % 2) 1) (mark i l)
+      ∙ (ap (λ (t : Bool). isInk m i && t) (first-bit (isInk a i) (isInk b i)) ∙ on-ink (isInk m i) (isInk a i) (horizontal-blank run-min thick-max w h m wide i l))
 
-  second-ink : 0 < w → (i : ℕ) → i < w * h → passes Second (getD m i 0) (getD marks i 0) ≡ isInk b i
-  unfolding b isInk
+  second-ink : 0 < w → (i : ℕ) → i < w * h → passes Second (isInk m i) (getD marks i 0) ≡ isInk b i
+  unfolding b
   second-ink wide i l =
-      ap (λ (k : ℕ). ltb 0 (getD m i 0) && ltb 1 k) (mark i l)
-      ∙ (ap (λ (t : Bool). ltb 0 (getD m i 0) && t) (second-bit (isInk a i) (isInk b i)) ∙ on-ink (isInk m i) (isInk b i) (vertical-blank run-min thick-max w h m wide i l))
+      ap (λ (k : ℕ). isInk m i && ltb 1 k) (mark i l)
+      ∙ (ap (λ (t : Bool). isInk m i && t) (second-bit (isInk a i) (isInk b i)) ∙ on-ink (isInk m i) (isInk b i) (vertical-blank run-min thick-max w h m wide i l))
 
   pub passing-first : 0 < w → passing First m marks (w * h) ≡ cutHorizontal run-min thick-max w h m
   unfolding a cutHorizontal
@@ -88,7 +88,7 @@ module _ (run-min thick-max w h : ℕ) (m marks : List ℕ) (told : (i : ℕ) �
   passing-second wide = passing-mask Second w h m marks _ (second-ink wide)
 
   pub passing-neither : 0 < w → passing Neither m marks (w * h) ≡ afterCut w h (cutHorizontal run-min thick-max w h m) (cutVertical run-min thick-max w h m) m
-  unfolding a b isInk afterCut
+  unfolding a b afterCut
   passing-neither wide =
       passing-mask Neither w h m marks _
-      (λ i l. ap (λ (k : ℕ). ltb 0 (getD m i 0) && eqb k 0) (mark i l) ∙ (ap (λ (t : Bool). ltb 0 (getD m i 0) && t) (neither-bit (isInk a i) (isInk b i)) ∙ sym (afterCut-ink w h a b m i wide l)))
+      (λ i l. ap (λ (k : ℕ). isInk m i && eqb k 0) (mark i l) ∙ (ap (λ (t : Bool). isInk m i && t) (neither-bit (isInk a i) (isInk b i)) ∙ sym (afterCut-ink w h a b m i wide l)))

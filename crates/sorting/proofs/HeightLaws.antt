@@ -20,14 +20,16 @@ use Rattle.labelling.specs.declared.component.Component.{Component}
 use Rattle.params.specs.declared.LayoutParams.{LayoutParams}
 use Rattle.rounding.specs.rules.Lengths.{float}
 use Rattle.sorting.specs.rules.Units.{measurable, median, unitFrom, unitOf}
-use Rattle.sorting.specs.stages.Counts.{CountsOf, BoxFits}
+use Rattle.sorting.specs.stages.Counts.{CountsOf}
 use Rattle.sorting.specs.declared.Unit.the-variants.{Measured, Assumed}
-use Rattle.sorting.specs.stages.Measures.{Within, Stored, sizedAt, sizedFrom, BoxInside, SizesInside, measuredHeights, HeightsCounted}
-use Rattle.sorting.proofs.StoredLaws.{within-none, within-set, within-trans, within-wider}
+use Rattle.memory.specs.stages.Boxes.{Inside}
+use Rattle.memory.specs.stages.Stored.{Within, Stored}
+use Rattle.sorting.specs.stages.Measures.{sizedAt, sizedFrom, SizesInside, measuredHeights, HeightsCounted}
+use Rattle.memory.proofs.StoredLaws.{within-none, within-set, within-trans, within-wider}
 use Rattle.sorting.proofs.SizedLaws.{sized-same, sized-past}
 
-pub box-fits : (w h : ℕ) (c : Component) → BoxInside w h c → w ≤ 4294967295 → h ≤ 4294967295 → BoxFits c
-box-fits w h c b l k = record { columns = b .columns; wide = (let z = b .wide in omega arith); rows = b .rows; high = (let z = b .high in omega arith) }
+pub box-fits : (w h : ℕ) (c : Component) → Inside w h (boxOf c) → w ≤ 4294967295 → h ≤ 4294967295 → Inside 4294967295 4294967295 (boxOf c)
+box-fits w h c b l k = record { columns = b .columns; right = (let z = b .right in omega arith); rows = b .rows; bottom = (let z = b .bottom in omega arith) }
 
 -- Those that pass, with one more at the end
 module _ {A : Type 0} (p : A → Bool) (f : A → ℕ) where
@@ -97,12 +99,12 @@ module _ (p : LayoutParams) (w h : ℕ) (s : List ℕ) (sizes : ℕ) where
       )
 
   -- no height is more than the frame's
-  none-higher : (k v : ℕ) → h < v → ((j : ℕ) → j < k → BoxInside w h (sizedAt s sizes j)) → occurs v (listed k) ≡ 0
+  none-higher : (k v : ℕ) → h < v → ((j : ℕ) → j < k → Inside w h (boxOf (sizedAt s sizes j))) → occurs v (listed k) ≡ 0
   unfolding table keep occurs
   none-higher zero v l b = refl
   none-higher (suc k) v l b =
       let i = none-higher k v l (λ j c. b j (omega arith)) in
-      let e : eqb (highAt k) v ≡ false = ne-eqb (highAt k) v (λ z. let x = b k (le-refl (suc k)) .high in omega arith) in
+      let e : eqb (highAt k) v ≡ false = ne-eqb (highAt k) v (λ z. let x = b k (le-refl (suc k)) .bottom in omega arith) in
       occurs-more v k ∙ rw (i, e) (zero-either (measurable p w h (sizedAt s sizes k)))
     where
       zero-either : (t : Bool) → 0 + cond t 0 0 ≡ 0
@@ -121,10 +123,10 @@ module _ (p : LayoutParams) (w h : ℕ) (s : List ℕ) (sizes : ℕ) where
     pub counted-few : (n ≤ k) × ((v : ℕ) → v ≤ h → getD t (at + v) 0 ≤ k)
     counted-few = ((let a = few k .0 in let b = H .number in omega arith), λ v l. (let a = few k .1 v in let b = H .each v l in omega arith))
 
-    core : (r : ℕ) → BoxInside w h (sizedAt s sizes k) → at + h + 1 ≤ length s → r ≡ cond (measurable p w h (sizedAt s sizes k)) 1 0
+    core : (r : ℕ) → Inside w h (boxOf (sizedAt s sizes k)) → at + h + 1 ≤ length s → r ≡ cond (measurable p w h (sizedAt s sizes k)) 1 0
         → HeightsCounted p w h sizes at (suc k) (n + r) s (set t (at + highAt k) (getD t (at + highAt k) 0 + r))
     core r box room one =
-        let low : highAt k ≤ h = (let x = box .high in omega arith) in
+        let low : highAt k ≤ h = (let x = box .bottom in omega arith) in
         record {
           number = (let a = length-more k in let b = H .number in omega arith);
           each = λ v l. at-each v l low (ℕ-discrete v (highAt k));
@@ -159,7 +161,7 @@ module _ (p : LayoutParams) (w h : ℕ) (s : List ℕ) (sizes : ℕ) where
             ∙ sym (occurs-more v k)))))
 
     -- one component more
-    pub counted-more : (c : Component) (r : ℕ) (u : List ℕ) → c ≡ sizedAt t sizes k → BoxInside w h (sizedAt s sizes k) → at + h + 1 ≤ length s
+    pub counted-more : (c : Component) (r : ℕ) (u : List ℕ) → c ≡ sizedAt t sizes k → Inside w h (boxOf (sizedAt s sizes k)) → at + h + 1 ≤ length s
         → r ≡ cond (measurable p w h c) 1 0 → u ≡ set t (at + height (boxOf c)) (getD t (at + height (boxOf c)) 0 + r)
         → HeightsCounted p w h sizes at (k + 1) (n + r) s u
     counted-more c r u e box room one q =
@@ -198,7 +200,7 @@ height-set s at q r n e = ap (λ (z : ℕ). set s (at + z) (getD s (at + z) 0 + 
 -- what stood before the counts were cleared stands past them still
 pub inside-past : {w h sizes n a e : ℕ} {s t : List ℕ} → SizesInside w h s sizes n → Within a e s t → e ≤ sizes → SizesInside w h t sizes n
 inside-past {w} {h} {sizes} S W l =
-    record { room = (let r = S .room in let z = W .len in omega arith); inside = λ k b. subst (BoxInside w h) (sym (sized-past W sizes k l)) (S .inside k b) }
+    record { room = (let r = S .room in let z = W .len in omega arith); inside = λ k b. subst (λ (c : Component). Inside w h (boxOf c)) (sym (sized-past W sizes k l)) (S .inside k b) }
 
 pub unit-past : (p : LayoutParams) (w h sizes n : ℕ) {a e : ℕ} {s t : List ℕ} → Within a e s t → e ≤ sizes
     → unitFrom p (measuredHeights p w h (sizedFrom t sizes n)) ≡ unitOf p w h (sizedFrom s sizes n)

@@ -12,7 +12,7 @@ use Rattle.memory.specs.rules.Masks.{isInk}
 use Rattle.labelling.specs.rules.Labels.{touches, isFirst, labelAt}
 use Rattle.union_find.specs.rules.Chains.{Chain, here, rise, fall, Firsts}
 use Rattle.union_find.proofs.FirstLaws.{firsts-right, along}
-use Rattle.labelling.proofs.CountLaws.{count-up}
+use Rattle.memory.proofs.PlaceLaws.{count-mono}
 
 touch-ink : (w : ℕ) (m : List ℕ) (a b : ℕ) → touches w m a b ≡ true → (isInk m a ≡ true) × (isInk m b ≡ true)
 unfolding touches
@@ -28,7 +28,7 @@ chain-ink w m (fall {a = a} {b = b} l h t c) k = chain-ink w m c (touch-ink w m 
 -- an ink dot has a label from 1 to the number of components
 pub label-in : (w n : ℕ) (m : List ℕ) (j : ℕ) → j < n → isInk m j ≡ true
     → (0 < labelAt m (firsts (touches w m) n) j) × (labelAt m (firsts (touches w m) n) j ≤ countIf (isFirst m (firsts (touches w m) n)) n)
-label-in w n m j l k = (rw e (unfold countIf in rw lead (omega arith)), rw e (count-up _ _ _ (let h = F .low j in omega arith)))
+label-in w n m j l k = (rw e (unfold countIf in rw lead (omega arith)), rw e (count-mono _ _ _ (let h = F .low j in omega arith)))
   where
     F : Firsts (touches w m) n (firstOf (firsts (touches w m) n))
     F = firsts-right (touches w m) n

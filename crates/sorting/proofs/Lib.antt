@@ -2,8 +2,6 @@
 pub mod LabelFacts
 -- the median by counts
 pub mod Medians
--- words stored one after the other from a place on
-pub mod StoredLaws
 -- components by the five words of their sizes
 pub mod SizedLaws
 -- heights counted, and the unit by them

@@ -21,8 +21,10 @@ use Rattle.params.specs.declared.LayoutParams.{LayoutParams}
 use Rattle.sorting.specs.stages.Scratch.{packed}
 use Rattle.sorting.specs.rules.Units.{measurable, underExtents, unitFrom, unitOf}
 use Rattle.sorting.specs.rules.Kinds.{kindOf}
-use Rattle.sorting.specs.stages.Measures.{Within, Stored, sized, sizedAt, sizedFrom, BoxInside, SizesInside, measuredHeights, boxWord, unpacked}
-use Rattle.sorting.proofs.StoredLaws.{stored-part}
+use Rattle.memory.specs.stages.Stored.{Within, Stored}
+use Rattle.memory.specs.stages.Boxes.{Inside}
+use Rattle.sorting.specs.stages.Measures.{sized, sizedAt, sizedFrom, SizesInside, measuredHeights, boxWord, unpacked}
+use Rattle.memory.proofs.StoredLaws.{stored-part}
 
 -- the same five words give the same component
 pub sized-same : (s t : List ℕ) (at k : ℕ) → ((i : ℕ) → at + 5 * k ≤ i → i < at + 5 * k + 5 → getD t i 0 ≡ getD s i 0) → sizedAt t at k ≡ sizedAt s at k
@@ -53,16 +55,16 @@ module _ (cs : List Component) (s : List ℕ) (at : ℕ) (held : HoldsSizes cs s
       (λ k l. let b : k < length cs = (let e = length-table (λ k. f (sizedAt s at k)) (length cs) in omega arith) in
       getD-table (λ k. f (sizedAt s at k)) (length cs) k (f noDots) b ∙ (ap f (sized-held k b) ∙ (h (getD cs k noDots) ∙ sym (List·getD-map f cs k noDots))))
 
-  pub held-inside : (w h : ℕ) → at + 5 * length cs ≤ length s → ((k : ℕ) → k < length cs → BoxInside w h (getD cs k noDots)) → SizesInside w h s at (length cs)
+  pub held-inside : (w h : ℕ) → at + 5 * length cs ≤ length s → ((k : ℕ) → k < length cs → Inside w h (boxOf (getD cs k noDots))) → SizesInside w h s at (length cs)
   held-inside w h room inside =
       record {
         room = room;
         inside = λ k l. let b = inside k l in let e = sized-held k l in
             record {
               columns = (let x = ap (λ (c : Component). c .x0) e in let y = ap (λ (c : Component). c .x1) e in let z = b .columns in omega arith);
-              wide = (let y = ap (λ (c : Component). c .x1) e in let z = b .wide in omega arith);
+              right = (let y = ap (λ (c : Component). c .x1) e in let z = b .right in omega arith);
               rows = (let x = ap (λ (c : Component). c .y0) e in let y = ap (λ (c : Component). c .y1) e in let z = b .rows in omega arith);
-              high = (let y = ap (λ (c : Component). c .y1) e in let z = b .high in omega arith);
+              bottom = (let y = ap (λ (c : Component). c .y1) e in let z = b .bottom in omega arith);
             };
       }
 

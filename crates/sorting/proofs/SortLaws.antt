@@ -23,7 +23,7 @@ use Rattle.labelling.specs.stages.Sizes.{HoldsRuns, HoldsNumbers, HoldsSizes, S
 use Rattle.labelling.specs.declared.component.Component.{Component}
 use Rattle.labelling.specs.declared.marked.Test.{Test}
 use Rattle.labelling.specs.declared.marked.Test.the-variants.{First, Second, Neither}
-use Rattle.labelling.proofs.CountLaws.{count-low}
+use Rattle.memory.proofs.PlaceLaws.{count-low}
 use Rattle.params.specs.declared.LayoutParams.{LayoutParams}
 use Rattle.rulings.specs.rules.Rulings.{runMin, thickMax, cutHorizontal, cutVertical, afterCut}
 use Rattle.rulings.specs.stages.Marks.{cutMark, Blank, RulingsMarked}
@@ -33,16 +33,18 @@ use Rattle.sorting.specs.rules.Sorted.{sorted}
 use Rattle.sorting.specs.stages.Scratch.{SortRoom, marksAt, horizontalAt, verticalAt, sizesAt, kindsAt, packed, inkAfterCut}
 use Rattle.sorting.specs.rules.Capacity.{mostComponents, componentsOf, mostCuts}
 use Rattle.sorting.specs.declared.Unit.{Unit}
-use Rattle.extents.proofs.OverLaws.{over-at, over-past, getD-part, length-part, length-put, getD-put}
-use Rattle.rulings.specs.declared.lines.Found.{Found}
+use Rattle.extents.proofs.OverLaws.{over-at, over-past}
+use Rattle.memory.proofs.PartLaws.{getD-part, length-part, length-put, getD-put}
+use Rattle.rulings.specs.declared.scanlines.Found.{Found}
 use Rattle.rulings.proofs.RulingMasks.{afterCut-nothing}
 use Rattle.sorting.specs.declared.sort.Cuts.{Cuts}
-use Rattle.sorting.specs.declared.sort.Sorting.{Sorting}
+use Rattle.sorting.specs.declared.sort.SortCounts.{SortCounts}
 use Rattle.sorting.specs.declared.sort.SortAnswer.{SortAnswer}
 use Rattle.sorting.specs.declared.sort.SortAnswer.the-variants.{Sorted, TooMany}
-use Rattle.sorting.specs.stages.Measures.{Within, Stored, sizedAt, sizedFrom, SizesInside, boxWord}
-use Rattle.sorting.specs.stages.Sortings.{sortLeft, FrameRoom, passed, CutLabelled, CutMarked, InkCut, FirstHeld, CutsHeld, RestHeld, restLeft}
-use Rattle.sorting.proofs.StoredLaws.{within-drop, stored-count}
+use Rattle.memory.specs.stages.Stored.{Within, Stored}
+use Rattle.sorting.specs.stages.Measures.{sizedAt, sizedFrom, SizesInside, boxWord}
+use Rattle.sorting.specs.stages.SortSteps.{sortLeft, FrameRoom, passed, CutLabelled, CutMarked, InkCut, FirstHeld, CutsHeld, RestHeld, restLeft}
+use Rattle.memory.proofs.StoredLaws.{within-drop, stored-count}
 use Rattle.sorting.proofs.SizedLaws.{held-table, held-inside, held-unit, held-kinds, held-boxes}
 use Rattle.sorting.proofs.HeightLaws.{inside-past}
 use Rattle.sorting.proofs.ComponentLaws.{box-inside, blank-none, areas-ink}
@@ -77,20 +79,20 @@ numbers-kept {c = c} {s = s} {t = t} N W l =
 
 -- One labelling
 
-module _ {w h P : ℕ} {m₀ s₀ : List ℕ} (F : FrameRoom w h m₀ P s₀) {m s t : List ℕ} {c r : ℕ} (L : SizesLeft w h m s t c P (sizesAt (w * h) P) r) (len : length t ≡ length s₀) where
+module _ {w h P : ℕ} {m₀ s₀ : List ℕ} (F : FrameRoom w h m₀ P s₀) {at : ℕ} (sizes-is : at ≡ sizesAt (w * h) P) {m s t : List ℕ} {c r : ℕ} (L : SizesLeft w h m s t c P (at) r) (len : length t ≡ length s₀) where
   pub left-count : r ≤ P → r ≡ length (componentsOf w h m)
   left-count l = let e = L .count in omega arith
 
   pub left-many : P < r → P < length (componentsOf w h m)
   left-many l = let e = L .count in omega arith
 
-  pub left-inside : r ≤ P → SizesInside w h t (sizesAt (w * h) P) r
+  pub left-inside : r ≤ P → SizesInside w h t (at) r
   left-inside l =
-      subst (SizesInside w h t (sizesAt (w * h) P)) (sym (left-count l))
-      (held-inside (componentsOf w h m) t (sizesAt (w * h) P) (L .sizes l) w h (let e = left-count l in let q = F .room in omega arith)
+      subst (SizesInside w h t (at)) (sym (left-count l))
+      (held-inside (componentsOf w h m) t (at) (L .sizes l) w h (let e = left-count l in let q = F .room in omega arith)
       (box-inside w h m (F .wide) (let d = plan-dots F in omega arith)))
 
-  pub left-boxes : r ≤ P → SizesInside 32768 32768 t (sizesAt (w * h) P) r
+  pub left-boxes : r ≤ P → SizesInside 32768 32768 t (at) r
   left-boxes l =
       let S = left-inside l in
       record {
@@ -98,20 +100,20 @@ module _ {w h P : ℕ} {m₀ s₀ : List ℕ} (F : FrameRoom w h m₀ P s₀) {m
         inside = λ k b. let B = S .inside k b in
             record {
               columns = B .columns;
-              wide = (let x = B .wide in let y = F .narrow in omega arith);
+              right = (let x = B .right in let y = F .narrow in omega arith);
               rows = B .rows;
-              high = (let x = B .high in let y = F .low in omega arith);
+              bottom = (let x = B .bottom in let y = F .low in omega arith);
             };
       }
 
-  pub left-unit : (p : LayoutParams) → r ≤ P → unitOf p w h (sizedFrom t (sizesAt (w * h) P) r) ≡ unitOf p w h (componentsOf w h m)
+  pub left-unit : (p : LayoutParams) → r ≤ P → unitOf p w h (sizedFrom t (at) r) ≡ unitOf p w h (componentsOf w h m)
   left-unit p l =
-      ap (λ (k : ℕ). unitOf p w h (sizedFrom t (sizesAt (w * h) P) k)) (left-count l) ∙ held-unit p w h (componentsOf w h m) t (sizesAt (w * h) P) (L .sizes l)
+      ap (λ (k : ℕ). unitOf p w h (sizedFrom t (at) k)) (left-count l) ∙ held-unit p w h (componentsOf w h m) t (at) (L .sizes l)
 
-  pub left-areas : r ≤ P → length m ≡ w * h → ((i : ℕ) → getD m i 0 ≤ 1) → total (table (λ k. sizedAt t (sizesAt (w * h) P) k .area) r) ≡ occurs 1 m
+  pub left-areas : r ≤ P → length m ≡ w * h → ((i : ℕ) → getD m i 0 ≤ 1) → total (table (λ k. sizedAt t (at) k .area) r) ≡ occurs 1 m
   left-areas l whole ones =
-      ap (λ (k : ℕ). total (table (λ k. sizedAt t (sizesAt (w * h) P) k .area) k)) (left-count l)
-      ∙ (ap total (held-table (componentsOf w h m) t (sizesAt (w * h) P) (L .sizes l) (λ (z : Component). z .area) (λ z. refl))
+      ap (λ (k : ℕ). total (table (λ k. sizedAt t (at) k .area) k)) (left-count l)
+      ∙ (ap total (held-table (componentsOf w h m) t (at) (L .sizes l) (λ (z : Component). z .area) (λ z. refl))
       ∙ areas-ink w h m (let d = plan-dots F in omega arith) whole ones)
 
 pub ink-few : (m : List ℕ) → occurs 1 m ≤ length m
@@ -131,34 +133,38 @@ cut-none t {w} {h} {P} {m} {s} to none =
       before = λ i a b. refl;
     }
 
-module _ (t : Test) {w h P : ℕ} {m s s₁ s₂ : List ℕ} {c r : ℕ} (F : FrameRoom w h m P s) (to : ℕ) (high : horizontalAt (w * h) ≤ to) (low : to + 2 * P ≤ sizesAt (w * h) P)
-    (M : MarkedLeft t w h m s s₁ (marksAt (w * h)) c) (L : SizesLeft w h (passed t w h m s) s₁ s₂ c P (sizesAt (w * h) P) r) where
+module _ (t : Test) {w h P : ℕ} {m s s₁ s₂ : List ℕ} {c r : ℕ} (F : FrameRoom w h m P s) {at : ℕ} (sizes-is : at ≡ sizesAt (w * h) P) (to : ℕ) (high : horizontalAt (w * h) ≤ to) (low : to + 2 * P ≤ at)
+    (M : MarkedLeft t w h m s s₁ (marksAt (w * h)) c) (L : SizesLeft w h (passed t w h m s) s₁ s₂ c P at r) where
   kept : (i : ℕ) → marksAt (w * h) ≤ i → i < to → getD s₂ i 0 ≡ getD s i 0
   kept i a b = let q = plan-runs F (M .held) in L .between i (omega arith) (omega arith) ∙ kept-from (marksAt (w * h)) s s₁ (M .kept) i a
 
   pub cut-many : P < r → CutLabelled t w h m P to s s₂ r
   cut-many l = record { len = L .len ∙ M .len; count = L .count; boxes = λ z. absurd (omega arith); before = kept }
 
-  pub cut-done : {s₃ : List ℕ} → r ≤ P → Stored (boxWord s₂ (sizesAt (w * h) P)) to (2 * r) s₂ s₃ → CutLabelled t w h m P to s s₃ r
+  pub cut-done : {s₃ : List ℕ} → r ≤ P → Stored (boxWord s₂ at) to (2 * r) s₂ s₃ → CutLabelled t w h m P to s s₃ r
   cut-done {s₃} l S =
       let len : length s₂ ≡ length s = L .len ∙ M .len in
-      let e : r ≡ length (componentsOf w h (passed t w h m s)) = left-count F L len l in
+      let e : r ≡ length (componentsOf w h (passed t w h m s)) = left-count F sizes-is L len l in
       record {
         len = S .within .len ∙ len;
         count = L .count;
-        boxes = λ z. held-boxes (componentsOf w h (passed t w h m s)) s₂ s₃ (sizesAt (w * h) P) to (L .sizes l) (let q = F .room in omega arith)
+        boxes = λ z. held-boxes (componentsOf w h (passed t w h m s)) s₂ s₃ at to (L .sizes l) (let q = F .room in omega arith)
             (stored-count S (let x : 2 * r ≡ 2 * length (componentsOf w h (passed t w h m s)) = omega arith in x));
         before = λ i a b. S .within .before i b ∙ kept i a b;
       }
 
+-- cuts labelled by the plan, with their boxes where they belong
+pub cut-at : {t : Test} {w h P to at r : ℕ} {m s s' : List ℕ} → to ≡ at → CutLabelled t w h m P to s s' r → CutLabelled t w h m P at s s' r
+cut-at {t} {w} {h} {P} {to} {at} {r} {m} {s} {s'} e = subst (λ (z : ℕ). CutLabelled t w h m P z s s' r) e
+
 -- The ink after the cut
 
 -- `rest` labelled and measured in s, and its kinds written; the boxes of cuts are those of s₀
-module _ (p : LayoutParams) {w h P : ℕ} {rest s₀ s : List ℕ} (f : Sorting) (room : scratchWords (w * h) P ≤ length s) (N : HoldsNumbers w h rest s (f .runs)) (few : 3 * f .runs ≤ 3 * (w * h))
-    (Z : HoldsSizes (componentsOf w h rest) s (sizesAt (w * h) P)) (count : f .components ≡ length (componentsOf w h rest)) (most : f .components ≤ P) where
+module _ (p : LayoutParams) {w h P : ℕ} {rest s₀ s : List ℕ} (f : SortCounts) (room : scratchWords (w * h) P ≤ length s) (N : HoldsNumbers w h rest s (f .runs)) (few : 3 * f .runs ≤ 3 * (w * h))
+    (Z : HoldsSizes (componentsOf w h rest) s (sizesAt (w * h) P)) (count : f .«component_count» ≡ length (componentsOf w h rest)) (most : f .«component_count» ≤ P) where
   pub rest-held : {t : List ℕ} (ink : ℕ) (cuts : Cuts) → f .unit ≡ unitOf p w h (componentsOf w h rest) → f .ink ≡ ink → f .horizontal ≡ cuts .horizontal → f .vertical ≡ cuts .vertical
       → ((i : ℕ) → horizontalAt (w * h) ≤ i → i < sizesAt (w * h) P → getD s i 0 ≡ getD s₀ i 0)
-      → Stored (λ k. kindOf p (unitValue (f .unit)) w h (sizedAt s (sizesAt (w * h) P) k)) (kindsAt (w * h) P) (f .components) s t → RestHeld p w h rest P ink cuts s₀ t f
+      → Stored (λ k. kindOf p (unitValue (f .unit)) w h (sizedAt s (sizesAt (w * h) P) k)) (kindsAt (w * h) P) (f .«component_count») s t → RestHeld p w h rest P ink cuts s₀ t f
   rest-held {t} ink cuts u ei eh ev kept S =
       let cs = componentsOf w h rest in
       record {
@@ -176,29 +182,37 @@ module _ (p : LayoutParams) {w h P : ℕ} {rest s₀ s : List ℕ} (f : Sorting)
         components-is = count;
       }
 
-module _ (p : LayoutParams) {w h P : ℕ} {m s s₁ s₂ s₃ : List ℕ} {c r : ℕ} (F : FrameRoom w h m P s) (M : MarkedLeft Neither w h m s s₁ (marksAt (w * h)) c)
-    (L : SizesLeft w h (passed Neither w h m s) s₁ s₂ c P (sizesAt (w * h) P) r) (l : r ≤ P) (W : Within (3 * (w * h)) (3 * (w * h) + h + 1) s₂ s₃) where
-  pub rest-inside : 3 * (w * h) + h + 1 ≤ sizesAt (w * h) P → SizesInside w h s₃ (sizesAt (w * h) P) r
-  rest-inside k = inside-past (left-inside F L (L .len ∙ M .len) l) W k
+-- kinds stored by the plan are stored where they belong
+kinds-at : (p : LayoutParams) (w h P : ℕ) (unit : Unit) (s t : List ℕ) (n : ℕ) {at kinds : ℕ} → at ≡ sizesAt (w * h) P → kinds ≡ kindsAt (w * h) P
+    → Stored (λ k. kindOf p (unitValue unit) w h (sizedAt s at k)) kinds n s t → Stored (λ k. kindOf p (unitValue unit) w h (sizedAt s (sizesAt (w * h) P) k)) (kindsAt (w * h) P) n s t
+kinds-at p w h P unit s t n {at} e d S =
+    subst (λ (z : ℕ). Stored (λ k. kindOf p (unitValue unit) w h (sizedAt s z k)) (kindsAt (w * h) P) n s t) e
+    (subst (λ (z : ℕ). Stored (λ k. kindOf p (unitValue unit) w h (sizedAt s at k)) z n s t) d S)
 
-  pub rest-done : {s₄ : List ℕ} (unit : Unit) (ink : ℕ) (cuts : Cuts) → 3 * (w * h) + h + 1 ≤ horizontalAt (w * h) → unit ≡ unitOf p w h (sizedFrom s₂ (sizesAt (w * h) P) r)
-      → Stored (λ k. kindOf p (unitValue unit) w h (sizedAt s₃ (sizesAt (w * h) P) k)) (kindsAt (w * h) P) r s₃ s₄
-      → RestHeld p w h (passed Neither w h m s) P ink cuts s s₄ (record { unit = unit; ink = ink; horizontal = cuts .horizontal; vertical = cuts .vertical; runs = c; components = r })
-  rest-done {s₄} unit ink cuts k ue S =
+module _ (p : LayoutParams) {w h P : ℕ} {m s s₁ s₂ s₃ : List ℕ} {c r : ℕ} (F : FrameRoom w h m P s) {at d : ℕ} (sizes-is : at ≡ sizesAt (w * h) P) (dots-is : d ≡ w * h) (M : MarkedLeft Neither w h m s s₁ (marksAt (w * h)) c)
+    (L : SizesLeft w h (passed Neither w h m s) s₁ s₂ c P at r) (l : r ≤ P) (W : Within (3 * d) (3 * d + h + 1) s₂ s₃) where
+  pub rest-inside : 3 * d + h + 1 ≤ at → SizesInside w h s₃ at r
+  rest-inside k = inside-past (left-inside F sizes-is L (L .len ∙ M .len) l) W k
+
+  pub rest-done : {s₄ : List ℕ} {kinds : ℕ} → kinds ≡ kindsAt (w * h) P → (unit : Unit) (ink : ℕ) (cuts : Cuts) → 3 * d + h + 1 ≤ horizontalAt (w * h) → unit ≡ unitOf p w h (sizedFrom s₂ at r)
+      → Stored (λ k. kindOf p (unitValue unit) w h (sizedAt s₃ at k)) kinds r s₃ s₄
+      → RestHeld p w h (passed Neither w h m s) P ink cuts s s₄ (record { unit = unit; ink = ink; horizontal = cuts .horizontal; vertical = cuts .vertical; runs = c; «component_count» = r })
+  rest-done {s₄} kinds-is unit ink cuts k ue S =
       let len : length s₂ ≡ length s = L .len ∙ M .len in
       let cs = componentsOf w h (passed Neither w h m s) in
-      let held₃ : HoldsSizes cs s₃ (sizesAt (w * h) P) = ap (take (5 * length cs)) (within-drop W (sizesAt (w * h) P) (omega arith)) ∙ L .sizes l in
+      let held₃ : HoldsSizes cs s₃ (sizesAt (w * h) P) = ap (take (5 * length cs)) (within-drop W (sizesAt (w * h) P) (omega arith)) ∙ subst (HoldsSizes cs s₂) sizes-is (L .sizes l) in
       let q = F .room in
       let x = plan-runs F (M .held) in
       let y = W .len in
-      rest-held p (record { unit = unit; ink = ink; horizontal = cuts .horizontal; vertical = cuts .vertical; runs = c; components = r }) (omega arith) (numbers-kept (L .numbered l) W (omega arith)) x held₃
-      (left-count F L len l) l ink cuts (ue ∙ left-unit F L len p l) refl refl refl
-      (λ i a b. W .past i (omega arith) ∙ (L .between i (omega arith) b ∙ kept-from (marksAt (w * h)) s s₁ (M .kept) i (omega arith))) S
+      rest-held p (record { unit = unit; ink = ink; horizontal = cuts .horizontal; vertical = cuts .vertical; runs = c; «component_count» = r }) (omega arith) (numbers-kept (L .numbered l) W (omega arith)) x held₃
+      (left-count F sizes-is L len l) l ink cuts (ue ∙ left-unit F sizes-is L len p l) refl refl refl
+      (λ i a b. W .past i (omega arith) ∙ (L .between i (omega arith) (omega arith) ∙ kept-from (marksAt (w * h)) s s₁ (M .kept) i (omega arith))) (kinds-at p w h P unit s₃ s₄ r sizes-is kinds-is S)
 
 -- Both kinds of cuts, by the marks that thin rulings leave
 
-pub cut-marked : {run-min thick-max w h : ℕ} {m s₀ s : List ℕ} {found : Found} → RulingsMarked run-min thick-max w h m (marksAt (w * h)) s₀ s found → CutMarked run-min thick-max w h m s found
-cut-marked {run-min} {thick-max} {w} {h} {m} {s₀} R =
+pub cut-marked : {run-min thick-max w h : ℕ} {m s₀ s : List ℕ} {found : Found} {marks : ℕ} → marks ≡ marksAt (w * h) → RulingsMarked run-min thick-max w h m marks s₀ s found → CutMarked run-min thick-max w h m s found
+cut-marked {run-min} {thick-max} {w} {h} {m} {s₀} {s} {found} e R₀ =
+    let R = subst (λ (k : ℕ). RulingsMarked run-min thick-max w h m k s₀ s found) e R₀ in
     record {
       each = λ i b. ap (λ (d : List ℕ). getD d i 0) (R .marked) ∙ over-at (cutMark run-min thick-max w h m) (w * h) (drop (marksAt (w * h)) s₀) i b;
       no-horizontal = R .no-horizontal;
@@ -206,14 +220,20 @@ cut-marked {run-min} {thick-max} {w} {h} {m} {s₀} R =
     }
 
 -- the marks of a part that starts at word `at`, when it is back
-pub ink-cut : {run-min thick-max w h : ℕ} {m : List ℕ} {found : Found} (at : ℕ) (s t : List ℕ) → at ≤ marksAt (w * h) → horizontalAt (w * h) ≤ length s
-    → RulingsMarked run-min thick-max w h m (marksAt (w * h) - at) (take (length s - at) (drop at s)) t found → InkCut run-min thick-max w h m at s (putMid at (length s - at) s t) found
-ink-cut {run-min} {thick-max} {w} {h} {m} at s t low high R =
+pub ink-cut : {run-min thick-max w h : ℕ} {m : List ℕ} {found : Found} (at : ℕ) (s t : List ℕ) {marks : ℕ} → marks ≡ marksAt (w * h) → at ≤ marks → horizontalAt (w * h) ≤ length s
+    → RulingsMarked run-min thick-max w h m (marks - at) (take (length s - at) (drop at s)) t found → InkCut run-min thick-max w h m at s (putMid at (length s - at) s t) found
+ink-cut {run-min} {thick-max} {w} {h} {m} {found} at s t marks-is low₀ high R₀ =
     record {
       marked = record { each = each; no-horizontal = R .no-horizontal; no-vertical = R .no-vertical };
       within = record { len = length-put at (length s) s t (omega arith) (le-refl _) size; before = λ i a. put i .0 a; past = λ i a. past i a (decLt i (length s)) };
     }
   where
+    low : at ≤ marksAt (w * h)
+    low = omega arith
+
+    R : RulingsMarked run-min thick-max w h m (marksAt (w * h) - at) (take (length s - at) (drop at s)) t found
+    R = subst (λ (k : ℕ). RulingsMarked run-min thick-max w h m (k - at) (take (length s - at) (drop at s)) t found) marks-is R₀
+
     f : ℕ → ℕ
     f = cutMark run-min thick-max w h m
 
@@ -365,26 +385,26 @@ module _ (p : LayoutParams) (w h : ℕ) (m : List ℕ) (P : ℕ) where
 
 -- The ink before the cut
 
-module _ (p : LayoutParams) {w h P : ℕ} {m s₀ s t u : List ℕ} {c r : ℕ} (R : SortRoom p w h m P s₀) (H : HoldsRuns w h m s c) (L : SizesLeft w h m s t c P (sizesAt (w * h) P) r) (len : length t ≡ length s₀) (l : r ≤ P)
-    (W : Within (3 * (w * h)) (3 * (w * h) + h + 1) t u) where
-  pub first-held : (unit : Unit) (ink : ℕ) → unit ≡ unitOf p w h (sizedFrom t (sizesAt (w * h) P) r) → ink ≡ total (table (λ k. sizedAt t (sizesAt (w * h) P) k .area) r)
-      → FirstHeld p w h m P u (record { unit = unit; ink = ink; horizontal = 0; vertical = 0; runs = c; components = r })
+module _ (p : LayoutParams) {w h P : ℕ} {m s₀ s t u : List ℕ} {c r : ℕ} (R : SortRoom p w h m P s₀) {at d : ℕ} (sizes-is : at ≡ sizesAt (w * h) P) (dots-is : d ≡ w * h) (H : HoldsRuns w h m s c) (L : SizesLeft w h m s t c P at r) (len : length t ≡ length s₀) (l : r ≤ P)
+    (W : Within (3 * d) (3 * d + h + 1) t u) where
+  pub first-held : (unit : Unit) (ink : ℕ) → unit ≡ unitOf p w h (sizedFrom t at r) → ink ≡ total (table (λ k. sizedAt t at k .area) r)
+      → FirstHeld p w h m P u (record { unit = unit; ink = ink; horizontal = 0; vertical = 0; runs = c; «component_count» = r })
   first-held unit ink eu ei =
       let F = frame-of R in
       let x = plan-runs F H in
       let y = plan-down F in
       record {
         few = l;
-        numbered = numbers-kept (L .numbered l) W x;
-        sizes = ap (take (5 * length (componentsOf w h m))) (within-drop W (sizesAt (w * h) P) (omega arith)) ∙ L .sizes l;
-        unit-is = eu ∙ left-unit F L len p l;
-        ink-is = ei ∙ left-areas F L len l (R .whole) (R .ones);
+        numbered = numbers-kept (L .numbered l) W (omega arith);
+        sizes = ap (take (5 * length (componentsOf w h m))) (within-drop W (sizesAt (w * h) P) (omega arith)) ∙ subst (HoldsSizes (componentsOf w h m) t) sizes-is (L .sizes l);
+        unit-is = eu ∙ left-unit F sizes-is L len p l;
+        ink-is = ei ∙ left-areas F sizes-is L len l (R .whole) (R .ones);
         horizontal-is = refl;
         vertical-is = refl;
-        components-is = left-count F L len l;
+        components-is = left-count F sizes-is L len l;
       }
 
-module _ (p : LayoutParams) {w h P : ℕ} {m s : List ℕ} {f : Sorting} (R : SortRoom p w h m P s) (H : FirstHeld p w h m P s f) where
+module _ (p : LayoutParams) {w h P : ℕ} {m s : List ℕ} {f : SortCounts} (R : SortRoom p w h m P s) (H : FirstHeld p w h m P s f) where
   pub first-runs : 3 * f .runs ≤ 3 * (w * h)
   first-runs = plan-runs (frame-of R) (H .numbered .held)
 
@@ -392,12 +412,13 @@ module _ (p : LayoutParams) {w h P : ℕ} {m s : List ℕ} {f : Sorting} (R : So
     first-sizes : HoldsSizes (componentsOf w h m) s₁ (sizesAt (w * h) P)
     first-sizes = ap (take (5 * length (componentsOf w h m))) (within-drop (C .within) (sizesAt (w * h) P) (omega arith)) ∙ H .sizes
 
-    pub first-inside : SizesInside w h s₁ (sizesAt (w * h) P) (f .components)
-    first-inside =
+    pub first-inside : {at : ℕ} → at ≡ sizesAt (w * h) P → SizesInside w h s₁ at (f .«component_count»)
+    first-inside e₀ =
         let F = frame-of R in
-        subst (SizesInside w h s₁ (sizesAt (w * h) P)) (sym (H .components-is))
+        subst (λ (z : ℕ). SizesInside w h s₁ z (f .«component_count»)) (sym e₀)
+        (subst (SizesInside w h s₁ (sizesAt (w * h) P)) (sym (H .components-is))
         (held-inside (componentsOf w h m) s₁ (sizesAt (w * h) P) first-sizes w h (let e = H .components-is in let k = H .few in let q = R .room in let z = C .within .len in omega arith)
-        (box-inside w h m (R .wide) (let d = plan-dots F in omega arith)))
+        (box-inside w h m (R .wide) (let d = plan-dots F in omega arith))))
 
     value : u ≡ unitValue (unitOf p w h (componentsOf w h m))
     value = eu ∙ ap unitValue (H .unit-is)
@@ -412,10 +433,10 @@ module _ (p : LayoutParams) {w h P : ℕ} {m s : List ℕ} {f : Sorting} (R : So
         sort-done p w h m P (runMin p u) (thickMax p u) (ap (runMin p) value) (ap (thickMax p) value) cuts s₂ K (f .ink) s₃ len (let a = H .few in let b = H .components-is in omega arith) (H .ink-is) r X
 
     -- nothing is cut, and the first labelling stands
-    pub first-still : {s₂ : List ℕ} → 3 * f .runs ≤ at → found .horizontal ≡ false → found .vertical ≡ false
-        → Stored (λ k. kindOf p (unitValue (f .unit)) w h (sizedAt s₁ (sizesAt (w * h) P) k)) (kindsAt (w * h) P) (f .components) s₁ s₂ → sortLeft (Sorted f) p w h m P s₂
+    pub first-still : {s₂ : List ℕ} {at₀ kinds : ℕ} → at₀ ≡ sizesAt (w * h) P → kinds ≡ kindsAt (w * h) P → 3 * f .runs ≤ at → found .horizontal ≡ false → found .vertical ≡ false
+        → Stored (λ k. kindOf p (unitValue (f .unit)) w h (sizedAt s₁ at₀ k)) kinds (f .«component_count») s₁ s₂ → sortLeft (Sorted f) p w h m P s₂
     unfolding inkAfterCut
-    first-still {s₂} behind none-h none-v S =
+    first-still {s₂} sizes-is kinds-is behind none-h none-v S =
         let F = frame-kept (frame-of R) (C .within .len) in
         let T = C .marked in
         let K = cuts-done (runMin p u) (thickMax p u) F T (cut-none First (horizontalAt (w * h)) (told-first (R .wide) T none-h)) (cut-none Second (verticalAt (w * h) P) (told-second (R .wide) T none-v)) (omega arith) (omega arith) in
@@ -425,4 +446,4 @@ module _ (p : LayoutParams) {w h P : ℕ} {m s : List ℕ} {f : Sorting} (R : So
         let q = R .room in
         let x = C .within .len in
         sort-still p w h m P (runMin p u) (thickMax p u) (ap (runMin p) value) (ap (thickMax p) value) _ s₁ K (f .ink) s₂ (S .within .len) (let a = H .few in let b = H .components-is in omega arith) (H .ink-is) (Sorted f) z
-        (rest-held p f (omega arith) (numbers-kept (H .numbered) (C .within) behind) first-runs first-sizes (H .components-is) (H .few) (f .ink) _ (H .unit-is) refl (H .horizontal-is) (H .vertical-is) (λ i a b. refl) S)
+        (rest-held p f (omega arith) (numbers-kept (H .numbered) (C .within) behind) first-runs first-sizes (H .components-is) (H .few) (f .ink) _ (H .unit-is) refl (H .horizontal-is) (H .vertical-is) (λ i a b. refl) (kinds-at p w h P (f .unit) s₁ s₂ (f .«component_count») sizes-is kinds-is S))

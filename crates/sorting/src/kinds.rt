@@ -3,22 +3,26 @@ ghost use mathlib.Core.Path.{_≡_};
 ghost use mathlib.Core.Bool.{cond};
 ghost use Rattle.sorting.specs.rules.Units.{unitValue, measurable};
 ghost use Rattle.sorting.specs.rules.Kinds.{isRule, isGraphic, kindBySize, kindOf};
-ghost use Rattle.sorting.specs.stages.Counts.{BoxFits};
+ghost use Rattle.memory.specs.stages.Boxes.{Inside};
+ghost use Rattle.labelling.specs.rules.Components.{boxOf};
 use crate::Unit;
 use labelling::Component;
 use params::LayoutParams;
 
-const RULE: u32 = 2;
+// The kinds, each under the name that specs/rules/Kinds gives it; 0 is blank.
+pub const CUT: u32 = 1;
 
-const GRAPHIC: u32 = 3;
+pub const RULE: u32 = 2;
 
-const GLYPH: u32 = 4;
+pub const GRAPHIC: u32 = 3;
 
-const SPECK: u32 = 5;
+pub const GLYPH: u32 = 4;
+
+pub const SPECK: u32 = 5;
 
 // The kind of a component, in a frame w wide and h high.
 pub fn kind_of(p: LayoutParams, unit: Unit, w: u32, h: u32, c: Component) -> u32
-    requires { ⌜ BoxFits c ⌝ }
+    requires { ⌜ Inside 4294967295 4294967295 (boxOf c) ⌝ }
     ensures { λ r. ⌜ r ≡ kindOf p (unitValue unit) w h c ⌝ }
 {
     let r = c.rect();
@@ -72,7 +76,7 @@ fn is_graphic(p: LayoutParams, u: f64, w: u32, h: u32, width: u32, height: u32) 
 
 // A component whose height counts for the x-height.
 pub fn is_measurable(p: LayoutParams, w: u32, h: u32, c: Component) -> bool
-    requires { ⌜ BoxFits c ⌝ }
+    requires { ⌜ Inside 4294967295 4294967295 (boxOf c) ⌝ }
     ensures { λ r. ⌜ r ≡ measurable p w h c ⌝ }
 {
     let r = c.rect();

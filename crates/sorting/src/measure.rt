@@ -11,14 +11,21 @@ ghost use Rattle.labelling.specs.declared.component.Component.{Component};
 ghost use Rattle.sorting.specs.rules.Units.{unitOf, unitFrom, unitValue, measurable};
 ghost use Rattle.sorting.specs.rules.Kinds.{kindOf};
 ghost use Rattle.sorting.specs.stages.Counts.{CountsOf};
-ghost use Rattle.sorting.specs.stages.Measures.{Within, Stored, sizedAt, sizedFrom, BoxInside, SizesInside, HeightsCounted, boxWord, unpacked};
+ghost use Rattle.memory.specs.stages.Boxes.{Inside};
+ghost use Rattle.memory.specs.stages.Stored.{Within, Stored};
+ghost use Rattle.sorting.specs.stages.Measures.{sizedAt, sizedFrom, SizesInside, HeightsCounted, boxWord, unpacked};
 use crate::Unit;
 use crate::kinds::is_measurable;
 use crate::kinds::kind_of;
 use crate::median::median_of_counts;
+use crate::plan::Plan;
 use labelling::Component;
 use memory::Rect;
+use memory::fill_words;
 use params::LayoutParams;
+
+// The words of a component's size.
+pub const SIZE_WORDS: usize = 5;
 
 // The columns or rows of a box in one word: no side of a frame reaches this.
 const SIDE: u32 = 32768;
@@ -28,7 +35,7 @@ pub fn component_at(words: &[u32], at: usize, k: usize) -> Component
     requires { ⌜ at + 5 * k + 5 ≤ length (now words) ⌝ }
     ensures { λ r. ⌜ r ≡ sizedAt (now (words .entry)) at k ⌝ }
 {
-    let i = at + 5 * k;
+    let i = at + SIZE_WORDS * k;
     Component {
         area: words[i],
         x0: words[i + 1],
@@ -54,21 +61,9 @@ pub fn measure_unit(
     ensures { λ r. ⌜ (r ≡ unitOf sheet w h (sizedFrom (now (words .entry)) sizes count)) × (Within heights (heights + h + 1) (now (words .entry)) (now (words .exit))) ⌝ }
 {
     let rows = (h as usize) + 1;
-    clear_words(words, heights, rows);
+    fill_words(&mut words[heights..heights + rows], 0);
     let n = count_heights(words, sizes, count, heights, sheet, w, h);
     unit_from(&words[heights..heights + rows], n, sheet)
-}
-
-// The n words from `from` on become 0.
-fn clear_words(words: &mut [u32], from: usize, n: usize)
-    requires { ⌜ from + n ≤ length (now words) ⌝ }
-    ensures { λ _. ⌜ Stored (λ _. 0) from n (now (words .entry)) (now (words .exit)) ⌝ }
-{
-    let mut k: usize = 0;
-    while k < n {
-        words[from + k] = 0;
-        k += 1;
-    }
 }
 
 // Counts the heights that count for the unit, and answers how many there are.
@@ -103,7 +98,7 @@ fn count_height(
     h: u32,
     c: Component,
 ) -> u32
-    requires { ⌜ (BoxInside w h c) × (heights + h + 1 ≤ length (now words)) × (h < 4294967295) × (getD (now words) (heights + height (boxOf c)) 0 < 4294967295) ⌝ }
+    requires { ⌜ (Inside w h (boxOf c)) × (heights + h + 1 ≤ length (now words)) × (h < 4294967295) × (getD (now words) (heights + height (boxOf c)) 0 < 4294967295) ⌝ }
     ensures { λ r. ⌜ (r ≡ cond (measurable sheet w h c) 1 0) × (now (words .exit) ≡ set (now (words .entry)) (heights + height (boxOf c)) (getD (now (words .entry)) (heights + height (boxOf c)) 0 + r)) ⌝ }
 {
     let one = is_measurable(sheet, w, h, c) as u32;
@@ -123,24 +118,16 @@ fn unit_from(counts: &[u32], n: u32, sheet: LayoutParams) -> Unit
     Unit::Measured(median_of_counts(counts, n) as f64)
 }
 
-// The kind of each component, a word each from `kinds` on.
-pub fn write_kinds(
-    words: &mut [u32],
-    sizes: usize,
-    count: usize,
-    kinds: usize,
-    sheet: LayoutParams,
-    unit: Unit,
-    w: u32,
-    h: u32,
-)
-    requires { ⌜ (SizesInside w h (now words) sizes count) × (sizes + 5 * count ≤ kinds) × (kinds + count ≤ length (now words)) ⌝ }
-    ensures { λ _. ⌜ Stored (λ k. kindOf sheet (unitValue unit) w h (sizedAt (now (words .entry)) sizes k)) kinds count (now (words .entry)) (now (words .exit)) ⌝ }
+// The kind of each of so many components, a word each.
+pub fn write_kinds(words: &mut [u32], plan: Plan, count: usize, sheet: LayoutParams, unit: Unit)
+    requires { ⌜ (SizesInside (plan .width) (plan .height) (now words) (plan .sizes) count) × (plan .sizes + 5 * count ≤ plan .kinds) × (plan .kinds + count ≤ length (now words)) ⌝ }
+    ensures { λ _. ⌜ Stored (λ k. kindOf sheet (unitValue unit) (plan .width) (plan .height) (sizedAt (now (words .entry)) (plan .sizes) k)) (plan .kinds) count (now (words .entry)) (now (words .exit)) ⌝ }
 {
+    let kinds = plan.kinds;
     let mut k: usize = 0;
     while k < count {
-        let c = component_at(&words[..], sizes, k);
-        words[kinds + k] = kind_of(sheet, unit, w, h, c);
+        let c = component_at(&words[..], plan.sizes, k);
+        words[kinds + k] = kind_of(sheet, unit, plan.width, plan.height, c);
         k += 1;
     }
 }
@@ -183,7 +170,7 @@ pub fn total_area(words: &[u32], sizes: usize, count: usize) -> u32
     let mut sum: u32 = 0;
     let mut k: usize = 0;
     while k < count {
-        sum += words[sizes + 5 * k];
+        sum += words[sizes + SIZE_WORDS * k];
         k += 1;
     }
     sum

@@ -26,7 +26,7 @@ use Rattle.memory.specs.rules.Rects.{height, union}
 use Rattle.labelling.specs.declared.component.Component.{Component}
 use Rattle.memory.specs.declared.rect.Rect.{Rect}
 use Rattle.labelling.proofs.SizeLaws.{component-boxed}
-use Rattle.params.specs.rules.Valid.{valid, one, lengthOk, lengthsOk, extentOk, fallbackOk, fractionsOk, heightsOk, countsOk}
+use Rattle.params.specs.rules.Valid.{valid, floatOne, lengthOk, lengthsOk, extentOk, fallbackOk, fractionsOk, heightsOk, countsOk}
 use Rattle.params.specs.declared.LayoutParams.{LayoutParams}
 use Rattle.rounding.specs.rules.Lengths.{float}
 use Rattle.levelling.specs.rules.Frames.{Frame}
@@ -40,14 +40,14 @@ use Rattle.sorting.proofs.KindLaws.KindOfDot.{blank, ink}
 use Rattle.grouping.specs.rules.Blocks.{Block, noRect, blockFirsts, blockNumber, blocksOf, blockOf, unionAll, opensBlock}
 use Rattle.segmenting.specs.rules.Layouts.{Layout, layout, layoutRefusal, textLine}
 use Rattle.smoothing.specs.rules.Lines.{TextLine, GlyphBox, glyphBox, LabelledGlyph, labelledGlyphs, SmoothedLine, smoothedLine, isLine, keptLines, keysAtMost, lineKeys, lineNumber}
-use Rattle.grouping.specs.stages.LineBoxes.{Inside}
+use Rattle.memory.specs.stages.Boxes.{Inside}
 use Rattle.smoothing.specs.rules.LineRecords.{lineRecord, glyphRecord}
 use Rattle.grouping.specs.rules.BlockRecords.{blockRecord}
 use Rattle.memory.proofs.ListLaws.{Each, each-at, each-sort, each-table, each-append, keep-few}
 use Rattle.grouping.proofs.Theorems.{block-of-line-exists}
-use Rattle.segmenting.specs.rules.Results.{boxWords}
+use Rattle.memory.specs.rules.Rects.{boxWords}
 use Rattle.segmenting.specs.rules.Figures.{figuresOf, figureWords}
-use Rattle.smoothing.specs.stages.Segments.{rowsOf, glyphsIn, linesIn}
+use Rattle.smoothing.specs.stages.Segments.{smearsOf, glyphsIn, linesIn}
 use Rattle.judging.specs.rules.Header.{lowWord, highWord}
 use Rattle.judging.specs.rules.Views.{viewOfLayout}
 use Rattle.judging.specs.rules.Spoiled.{unitOk, kindOk, kindsOk, resultsOk}
@@ -63,9 +63,9 @@ is-true : (b : Bool) → T b → b ≡ true
 is-true true t = refl
 is-true false t = absurd t
 
-one-is : one ≡ float 1
+float-one-is : floatOne ≡ float 1
 unfolding ofBits ofInt
-one-is = refl
+float-one-is = refl
 
 low-positive : T (positive (float 1))
 unfolding ofInt
@@ -80,11 +80,11 @@ unfolding ofInt
 in-order a b h = round-mono binary64 a 1 b 1 (omega arith) (omega arith) (omega arith)
 
 -- a height of a frame is a unit that is not spoiled
-height-measured : (n : ℕ) → 1 ≤ n → n ≤ 16383 → (finite (float n) && le one (float n)) ≡ true
+height-measured : (n : ℕ) → 1 ≤ n → n ≤ 16383 → (finite (float n) && le floatOne (float n)) ≡ true
 height-measured n a b =
     let P = between (float 1) (float n) (float 16383) low-positive high-positive (in-order 1 n a) (in-order n 16383 b) in
     let f : finite (float n) ≡ true = is-true (finite (float n)) (positive-finite (float n) P) in
-    let l : le one (float n) ≡ true = is-true _ (subst (λ (z : Float). T (le z (float n))) (sym one-is) (in-order 1 n a)) in
+    let l : le floatOne (float n) ≡ true = is-true _ (subst (λ (z : Float). T (le z (float n))) (sym float-one-is) (in-order 1 n a)) in
     rw (f, l)
 
 second-of : (a b c d e f g h i j k l m n o : Bool) → (a && b && c && d && e && f && g && h && i && j && k && l && m && n && o) ≡ true → b ≡ true
@@ -112,7 +112,7 @@ second p e =
     (lengthOk (p .«shear_min_deg»))
     e
 
-fallback-passes : (p : LayoutParams) → valid p ≡ true → (lengthOk (p .«xheight_fallback_px») && not (lt (p .«xheight_fallback_px») one)) ≡ true
+fallback-passes : (p : LayoutParams) → valid p ≡ true → (lengthOk (p .«xheight_fallback_px») && not (lt (p .«xheight_fallback_px») floatOne)) ≡ true
 fallback-passes p v =
     let all = and-left (lengthsOk p && extentOk p && fallbackOk p && fractionsOk p && heightsOk p) (countsOk p) v in
     let b₁ = and-left (lengthsOk p && extentOk p && fallbackOk p && fractionsOk p) (heightsOk p) all in
@@ -161,9 +161,9 @@ module _ (p : LayoutParams) (w h : ℕ) (m : List ℕ) (wide : 0 < w) (few-dots 
   unfolding sorted
   vertical-inside = inside _
 
-  rows-inside : Each (λ (c : Component). Inside w h (boxOf c)) (rowsOf p w h m .components)
-  unfolding rowsOf
-  rows-inside = inside _
+  smears-inside : Each (λ (c : Component). Inside w h (boxOf c)) (smearsOf p w h m .components)
+  unfolding smearsOf
+  smears-inside = inside _
 
   kind-inside : (k : ℕ) → Each (Inside w h) (boxesOf p w h (sorted p w h m) k)
   unfolding boxesOf
@@ -202,15 +202,15 @@ module _ (p : LayoutParams) (w h : ℕ) (m : List ℕ) (wide : 0 < w) (few-dots 
   lines-boxed : Each (λ (l : SmoothedLine). Inside w h (l .bbox) × (l .glyph-height ≤ h)) (linesIn p w h m)
   unfolding linesIn keptLines smoothedLine
   lines-boxed =
-      let rows = rowsOf p w h m .components in
+      let smears = smearsOf p w h m .components in
       let gs = glyphsIn p w h m in
       let unit = unitValue (sorted p w h m .unit) in
       let Q : SmoothedLine → Type 0 = λ l. Inside w h (l .bbox) × (l .glyph-height ≤ h) in
-      let all = table (λ t. smoothedLine gs (getD rows t noDots) (suc t)) (length rows) in
+      let all = table (λ t. smoothedLine gs (getD smears t noDots) (suc t)) (length smears) in
       each-sort Q (λ (a b : SmoothedLine). keysAtMost (lineKeys a) (lineKeys b)) (keep (isLine p unit) all)
       (each-kept Q (isLine p unit) all
-      (each-table Q (λ t. smoothedLine gs (getD rows t noDots) (suc t)) (length rows)
-      (λ t l. (each-at (λ (c : Component). Inside w h (boxOf c)) rows rows-inside t noDots l, own-low (λ (g : LabelledGlyph). eqb (g .label) (suc t))))))
+      (each-table Q (λ t. smoothedLine gs (getD smears t noDots) (suc t)) (length smears)
+      (λ t l. (each-at (λ (c : Component). Inside w h (boxOf c)) smears smears-inside t noDots l, own-low (λ (g : LabelledGlyph). eqb (g .label) (suc t))))))
     where
       own-low : (q : LabelledGlyph → Bool) → median (map (λ (g : LabelledGlyph). height (boxOf (g .component))) (keep q (glyphsIn p w h m))) ≤ h
       own-low q =
@@ -321,8 +321,8 @@ module _ (p : LayoutParams) (w h : ℕ) (m : List ℕ) (wide : 0 < w) (few-dots 
 
 -- a unit that is not spoiled, and is an f64
 abbrev pub UnitFine : Unit → Type 0
-UnitFine (Measured x) = ((finite x && le one x) ≡ true) × T (fits binary64 x)
-UnitFine (Assumed x) = ((lengthOk x && not (lt x one)) ≡ true) × T (fits binary64 x)
+UnitFine (Measured x) = ((finite x && le floatOne x) ≡ true) × T (fits binary64 x)
+UnitFine (Assumed x) = ((lengthOk x && not (lt x floatOne)) ≡ true) × T (fits binary64 x)
 
 unit-from : (p : LayoutParams) → valid p ≡ true → T (fits binary64 (p .«xheight_fallback_px»)) → (hs : List ℕ) → Each (λ v. (1 ≤ v) × (v ≤ 16383)) hs → UnitFine (unitFrom p hs)
 unfolding unitFrom
@@ -348,10 +348,10 @@ kind-passes : (x : ℕ) (b : Bool) (k : ℕ) → ltb 0 x ≡ b → KindOfDot b k
 kind-passes x false k e blank = let z = ltb-false 0 x e in rw (eq-eqb x 0 (omega arith))
 kind-passes x true k e (ink a c) = let z = ltb-true 0 x e in rw (le-leb k 5 c, ne-eqb k 0 (λ q. omega arith), ne-eqb x 0 (λ q. omega arith))
 
-pub kinds-pass : (p : LayoutParams) (w h : ℕ) (m : List ℕ) → 0 < w → kindsOk m (layout p w h m .kinds) (w * h) ≡ true
+pub kinds-pass : (p : LayoutParams) (w h : ℕ) (m : List ℕ) → 0 < w → kindsOk m (layout p w h m .plane) (w * h) ≡ true
 unfolding kindsOk isInk
 kinds-pass p w h m wide =
-    every-pass _ (w * h) (λ i l. kind-passes (getD m i 0) (ltb 0 (getD m i 0)) (getD (layout p w h m .kinds) i 0) refl
+    every-pass _ (w * h) (λ i l. kind-passes (getD m i 0) (ltb 0 (getD m i 0)) (getD (layout p w h m .plane) i 0) refl
     (subst (λ (z : List ℕ). KindOfDot (isInk m i) (getD z i 0)) (sym (kinds-are p w h m)) (kind-of-dot p w h m wide i l)))
 
 both : {a b : Bool} → a ≡ true → b ≡ true → (a && b) ≡ true

@@ -140,7 +140,7 @@ module _ (a : Leaf) where
     pub held-is : (st : ℕ) (s : List ℕ) → wordAt s 0 ≡ st → part 1 9 s ≡ levelWords a → held s ≡ leafHeld st a
     unfolding held
     held-is st s e q =
-        let word : (j : ℕ) → j < 9 → getD s (1 + j) 0 ≡ getD (levelWords a) j 0 = λ j l. sym (part-word 1 9 s j 0 l) ∙ ap (λ (z : List ℕ). getD z j 0) q in
+        let word : (j : ℕ) → j < 9 → getD s (1 + j) 0 ≡ getD (levelWords a) j 0 = λ j l. sym (part-word 1 9 s j l) ∙ ap (λ (z : List ℕ). getD z j 0) q in
         λ i. record {
           state = e i;
           page-w = word 0 (omega arith) i;

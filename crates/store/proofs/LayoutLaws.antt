@@ -26,7 +26,7 @@ use Rattle.segmenting.specs.rules.Layouts.{layout, layoutRefusal, textLine}
 use Rattle.smoothing.specs.rules.Lines.{glyphBox, labelledGlyphs, SmoothedLine, smoothedLine, isLine, keptLines, keysAtMost, lineKeys}
 use Rattle.grouping.proofs.ColumnWords.{runs-few}
 use Rattle.memory.proofs.ListLaws.{keep-few}
-use Rattle.smoothing.specs.stages.Segments.{rowsOf, glyphsIn, linesIn}
+use Rattle.smoothing.specs.stages.Segments.{smearsOf, glyphsIn, linesIn}
 use Rattle.store.proofs.ListLaws.{Few}
 
 pub keep-shorter : {A : Type 0} (p : A → Bool) (l : List A) → length (keep p l) ≤ length l
@@ -57,19 +57,19 @@ module _ (p : LayoutParams) (w h : ℕ) (m : List ℕ) where
   boxesIn = map (λ (l : SmoothedLine). l .bbox) (linesIn p w h m)
 
   pub lines-are : layout p w h m .lines ≡ table (textLine (linesIn p w h m) (blockFirsts p boxesIn)) (length (linesIn p w h m))
-  unfolding layout linesIn glyphsIn rowsOf
+  unfolding layout linesIn glyphsIn smearsOf
   lines-are = refl
 
   pub blocks-are : layout p w h m .blocks ≡ blocksOf boxesIn (blockFirsts p boxesIn)
-  unfolding layout linesIn glyphsIn rowsOf
+  unfolding layout linesIn glyphsIn smearsOf
   blocks-are = refl
 
   pub columns-are : layout p w h m .columns ≡ columnsOf p (unitValue (sorted p w h m .unit)) w boxesIn
-  unfolding layout linesIn glyphsIn rowsOf
+  unfolding layout linesIn glyphsIn smearsOf
   columns-are = refl
 
   pub glyphs-are : layout p w h m .glyphs ≡ map (glyphBox (linesIn p w h m)) (glyphsIn p w h m)
-  unfolding layout linesIn glyphsIn rowsOf
+  unfolding layout linesIn glyphsIn smearsOf
   glyphs-are = refl
 
   pub rules-are : layout p w h m .rules ≡ rulesOf p w h (sorted p w h m)
@@ -80,11 +80,11 @@ module _ (p : LayoutParams) (w h : ℕ) (m : List ℕ) where
   unfolding layout
   graphics-are = refl
 
-  pub kinds-are : layout p w h m .kinds ≡ sorted p w h m .plane
+  pub kinds-are : layout p w h m .plane ≡ sorted p w h m .plane
   unfolding layout
   kinds-are = refl
 
-  pub kinds-long : length (layout p w h m .kinds) ≡ w * h
+  pub kinds-long : length (layout p w h m .plane) ≡ w * h
   kinds-long = ap length kinds-are ∙ length-plane p w h m
 
   -- how long each list is
@@ -92,14 +92,14 @@ module _ (p : LayoutParams) (w h : ℕ) (m : List ℕ) where
   pub lines-long : length (layout p w h m .lines) ≡ length (linesIn p w h m)
   lines-long = ap length lines-are ∙ length-table _ (length (linesIn p w h m))
 
-  lines-few : length (linesIn p w h m) ≤ length (rowsOf p w h m .components)
+  lines-few : length (linesIn p w h m) ≤ length (smearsOf p w h m .components)
   unfolding linesIn keptLines
   lines-few =
-      let rows = rowsOf p w h m .components in
-      let all = table (λ t. smoothedLine (glyphsIn p w h m) (getD rows t noDots) (suc t)) (length rows) in
+      let smears = smearsOf p w h m .components in
+      let all = table (λ t. smoothedLine (glyphsIn p w h m) (getD smears t noDots) (suc t)) (length smears) in
       let a = sort-long (λ (a b : SmoothedLine). keysAtMost (lineKeys a) (lineKeys b)) (keep (isLine p (unitValue (sorted p w h m .unit))) all) in
       let b = keep-shorter (isLine p (unitValue (sorted p w h m .unit))) all in
-      let e = length-table (λ t. smoothedLine (glyphsIn p w h m) (getD rows t noDots) (suc t)) (length rows) in
+      let e = length-table (λ t. smoothedLine (glyphsIn p w h m) (getD smears t noDots) (suc t)) (length smears) in
       omega arith
 
   pub blocks-few : length (layout p w h m .blocks) ≤ length (linesIn p w h m)
@@ -159,8 +159,8 @@ module _ (p : LayoutParams) (w h : ℕ) (m : List ℕ) where
   graphics-few = let e = ap length graphics-are in let f = boxes-few graphicKind in omega arith
 
   most : (P : ℕ) → greatest (layout p w h m .components) ≤ P
-      → (length (sorted p w h m .horizontal .components) ≤ P) × (length (sorted p w h m .vertical .components) ≤ P) × (length (sorted p w h m .rest .components) ≤ P) × (length (rowsOf p w h m .components) ≤ P)
-  unfolding layout greatest rowsOf
+      → (length (sorted p w h m .horizontal .components) ≤ P) × (length (sorted p w h m .vertical .components) ≤ P) × (length (sorted p w h m .rest .components) ≤ P) × (length (smearsOf p w h m .components) ≤ P)
+  unfolding layout greatest smearsOf
   most P l = (omega arith, omega arith, omega arith, omega arith)
 
   -- a layout that is not refused

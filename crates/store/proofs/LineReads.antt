@@ -11,6 +11,7 @@ use lib.Dec.{ltb, leb}
 use lib.Ieee.{Float}
 use lib.ListN.{length, getD, take, drop, set}
 use Rattle.memory.specs.rules.Floats.{floatAt}
+use Rattle.memory.specs.rules.Limits.{maxFrameWidth, maxFrameHeight, maxCapacity}
 use Rattle.memory.specs.rules.Refusals.{refuseIf}
 use Rattle.memory.proofs.BoolLaws.{and-left, and-right}
 use Rattle.sorting.specs.rules.Units.{median}
@@ -28,12 +29,12 @@ use Rattle.store.specs.rules.Readings.{ResultReading, Which, pitchesHeld
 use Rattle.store.specs.rules.Readings.Output.{none, floats}
 use Rattle.store.specs.rules.Outcomes.{told, resultTold}
 use Rattle.judging.specs.stages.Judged.{listsOk, wordsOk}
-use Rattle.store.specs.stages.Areas.{linesStart, linesWords, LinesHere, LinesAt, pitchRead, twentyRead, heightRead, summaryWords}
+use Rattle.store.specs.stages.Areas.{listStart, linesWords, LinesHere, LinesAt, pitchRead, twentyRead, heightRead, summaryWords}
 use Rattle.judging.proofs.PartLaws.{length-part}
 use Rattle.judging.proofs.ResultLaws.{figure-word, figure-float}
 use Rattle.judging.proofs.SpoiledLaws.{ReadableResults}
 use Rattle.store.proofs.ToldLaws.{told-done}
-use Rattle.store.proofs.TellLaws.{sides-are, sides-low, words-ok, counts-low, there}
+use Rattle.store.proofs.TellLaws.{sides-are, sides-low, words-ok, counts-low, there, lists-at}
 
 -- ---- the lines of a store that may be read
 
@@ -65,7 +66,7 @@ lists-true w h s at P r g y l b e = nine _ _ _ _ _ _ _ _ _ e
     nine false t₂ t₃ t₄ t₅ t₆ t₇ t₈ t₉ e = absurd (true≢false (sym e))
 
 -- what the tests say of n lines in p
-module _ (w h n m : ℕ) (p : List ℕ) (few : n ≤ 65535) (few-blocks : m ≤ 65535) (low : h ≤ 16383) (long : n * lineWords ≤ length p) (a : fieldsOk (λ v. leb v h) lineWords 6 p n ≡ true) (b : boxesOk w h lineWords p n ≡ true)
+module _ (w h n m : ℕ) (p : List ℕ) (few : n ≤ maxCapacity) (few-blocks : m ≤ maxCapacity) (low : h ≤ maxFrameHeight) (long : n * lineWords ≤ length p) (a : fieldsOk (λ v. leb v h) lineWords 6 p n ≡ true) (b : boxesOk w h lineWords p n ≡ true)
     (c : fieldsOk (λ v. ltb v m) lineWords 7 p n ≡ true) where
   box-true : (i : ℕ) → i < n → (getD p (i * 8 + 1) 0 ≤ getD p (i * 8 + 3) 0) × (getD p (i * 8 + 3) 0 < h)
   unfolding boxesOk
@@ -122,11 +123,9 @@ module _ (s ink kinds : List ℕ) (R : ReadableResults s ink kinds) where
       let a = sides-are s ink kinds R in
       let P = a .3 in
       let t = lists-true (getD s 3 0) (getD s 4 0) s (listsAt (getD s 1 0) (getD s 4 0)) (getD s 5 0) (getD s 13 0) (getD s 14 0) (getD s 15 0) (getD s 16 0) (getD s 17 0) lists-words in
-      let long = length-part (linesStart s) (getD s 16 0 * 8) s room in
+      let long = length-part (listStart Which.lines s) (getD s 16 0 * 8) s room in
       record {
-        words = R .words;
-        low = low;
-        room = room;
+        lists = lists-at s ink kinds R;
         lines = lines-true (getD s 3 0) (getD s 4 0) (getD s 16 0) (getD s 17 0) (linesWords s) (omega (arith, few, P, low .3)) (omega (arith, many, P, low .3)) (low .2) (omega (arith, long)) (t .0) (t .1) (t .2);
       }
 
@@ -159,30 +158,22 @@ module _ (s ink kinds : List ℕ) (R : ReadableResults s ink kinds) where
   unfolding refuseIf
   twenty-done n en gn r e = ap (λ z. told 0 z none) (e ∙ twenty-is) ∙ told-done ResultReading.twentyLines s ink kinds n en gn refl
 
--- the part as the code takes it
-pub lines-cut : (s : List ℕ) → LinesAt s → (a : ℕ) → a ≡ linesStart s → take (a + getD s 16 0 * 8 - a) (drop a s) ≡ linesWords s
-unfolding part
-lines-cut s L a e =
-    let q : a + getD s 16 0 * 8 - a ≡ getD s 16 0 * 8 = omega arith in
-    λ i. take (q i) (drop (e i) s)
+-- the lines that a reading lends
+module _ (s : List ℕ) (p : List ℕ) (e : p ≡ linesWords s) where
+  pub lines-asked : LinesAt s → LinesHere (getD s 4 0) (getD s 16 0) (getD s 17 0) p
+  lines-asked L = subst (λ (l : List ℕ). LinesHere (getD s 4 0) (getD s 16 0) (getD s 17 0) l) (sym e) (L .lines)
 
-pub lines-asked : (s : List ℕ) (L : LinesAt s) (a : ℕ) → a ≡ linesStart s → LinesHere (getD s 4 0) (getD s 16 0) (getD s 17 0) (take (a + getD s 16 0 * 8 - a) (drop a s))
-lines-asked s L a e = subst (λ (l : List ℕ). LinesHere (getD s 4 0) (getD s 16 0) (getD s 17 0) l) (sym (lines-cut s L a e)) (L .lines)
+  pub twenty-found : (r : ℕ) → r ≡ twentyOf (pitchesBelow (centreAt p) (blockAt p) (getD s 16 0) (getD s 17 0)) → r ≡ twentyRead s
+  unfolding twentyRead
+  twenty-found r f = f ∙ ap (λ (l : List ℕ). twentyOf (pitchesBelow (centreAt l) (blockAt l) (getD s 16 0) (getD s 17 0))) e
 
-pub twenty-found : (s : List ℕ) (L : LinesAt s) (a : ℕ) (e : a ≡ linesStart s) (r : ℕ)
-    → r ≡ twentyOf (pitchesBelow (centreAt (take (a + getD s 16 0 * 8 - a) (drop a s))) (blockAt (take (a + getD s 16 0 * 8 - a) (drop a s))) (getD s 16 0) (getD s 17 0)) → r ≡ twentyRead s
-unfolding twentyRead
-twenty-found s L a e r f = f ∙ ap (λ (l : List ℕ). twentyOf (pitchesBelow (centreAt l) (blockAt l) (getD s 16 0) (getD s 17 0))) (lines-cut s L a e)
+  pub pitch-found : (r : ℕ) → r ≡ median (pitchesBelow (centreAt p) (blockAt p) (getD s 16 0) (getD s 17 0)) → r ≡ pitchRead s
+  unfolding pitchRead
+  pitch-found r f = f ∙ ap (λ (l : List ℕ). median (pitchesBelow (centreAt l) (blockAt l) (getD s 16 0) (getD s 17 0))) e
 
-pub pitch-found : (s : List ℕ) (L : LinesAt s) (a : ℕ) (e : a ≡ linesStart s) (r : ℕ)
-    → r ≡ median (pitchesBelow (centreAt (take (a + getD s 16 0 * 8 - a) (drop a s))) (blockAt (take (a + getD s 16 0 * 8 - a) (drop a s))) (getD s 16 0) (getD s 17 0)) → r ≡ pitchRead s
-unfolding pitchRead
-pitch-found s L a e r f = f ∙ ap (λ (l : List ℕ). median (pitchesBelow (centreAt l) (blockAt l) (getD s 16 0) (getD s 17 0))) (lines-cut s L a e)
-
-pub height-found : (s : List ℕ) (L : LinesAt s) (a : ℕ) (e : a ≡ linesStart s) (r : ℕ)
-    → r ≡ median (fields lineWords glyphHeightAt (take (a + getD s 16 0 * 8 - a) (drop a s)) (getD s 16 0)) → r ≡ heightRead s
-unfolding heightRead
-height-found s L a e r f = f ∙ ap (λ (l : List ℕ). median (fields lineWords glyphHeightAt l (getD s 16 0))) (lines-cut s L a e)
+  pub height-found : (r : ℕ) → r ≡ median (fields lineWords glyphHeightAt p (getD s 16 0)) → r ≡ heightRead s
+  unfolding heightRead
+  height-found r f = f ∙ ap (λ (l : List ℕ). median (fields lineWords glyphHeightAt l (getD s 16 0))) e
 
 -- ---- the summary
 
@@ -190,7 +181,7 @@ module _ (s ink kinds : List ℕ) (R : ReadableResults s ink kinds) where
   pub dots-fit : getD s 3 0 * getD s 4 0 ≤ 4294967295
   dots-fit =
       let low = sides-low s ink kinds R in
-      let m : getD s 3 0 * getD s 4 0 ≤ 24574 * 16383 = mul-le-mul (low .1) (low .2) in
+      let m : getD s 3 0 * getD s 4 0 ≤ maxFrameWidth * maxFrameHeight = mul-le-mul (low .1) (low .2) in
       omega (arith, m)
 
   skew-is : floatAt s 6 ≡ held s .skew

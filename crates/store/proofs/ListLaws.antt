@@ -11,7 +11,8 @@ use Rattle.memory.proofs.RecordLaws.{length-encoded}
 use Rattle.segmenting.specs.rules.Layouts.{Layout}
 use Rattle.smoothing.specs.rules.LineRecords.{lineRecord, glyphRecord}
 use Rattle.grouping.specs.rules.BlockRecords.{blockRecord, columnRecord}
-use Rattle.segmenting.specs.rules.Results.{rulesAt, graphicsAt, glyphRecordsAt, linesAt, blocksAt, resultWords, boxWords, resultsLeft}
+use Rattle.memory.specs.rules.Rects.{boxWords}
+use Rattle.segmenting.specs.rules.Results.{rulesAt, graphicsAt, glyphRecordsAt, linesAt, blocksAt, resultWords, resultsLeft}
 use Rattle.judging.specs.rules.Header.{part}
 use Rattle.judging.proofs.PartLaws.{part-put, part-before, part-past, over-past, length-put, length-over, part-behind, part-seam}
 

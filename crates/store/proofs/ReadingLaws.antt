@@ -22,7 +22,7 @@ use Rattle.sorting.specs.declared.Unit.the-variants.{Measured, Assumed}
 use Rattle.grouping.specs.rules.Blocks.{noRect, blockFirsts, blockNumber, blocksOf}
 use Rattle.segmenting.specs.rules.Layouts.{Layout, layout, textLine}
 use Rattle.smoothing.specs.rules.Lines.{TextLine, SmoothedLine}
-use Rattle.grouping.specs.rules.HeldLines.{centreAt, blockAt, linesIn, pitchesBelow}
+use Rattle.grouping.specs.rules.HeldLines.{centreAt, blockAt, heldLines, pitchesBelow}
 use Rattle.grouping.specs.rules.Readings.{differences, pitches, twentyOf, summarized}
 use Rattle.segmenting.specs.rules.LayoutReadings.{pitchesOf, twentyLineMeasure, summary, totalsOf}
 use Rattle.smoothing.specs.rules.LineRecords.{lineRecord}
@@ -60,9 +60,9 @@ pitches-ext : (c c' k k' : ℕ → ℕ) (n b : ℕ) → ((i : ℕ) → i < n →
 unfolding pitchesBelow
 pitches-ext c c' k k' n zero hc hk = refl
 pitches-ext c c' k k' n (suc b) hc hk =
-    let own : linesIn k b n ≡ linesIn k' b n = keep-same (λ i. eqb (k i) b) (λ i. eqb (k' i) b) n (λ i l. ap (λ z. eqb z b) (hk i l)) in
-    let e : differences (map c (linesIn k b n)) ≡ differences (map c' (linesIn k' b n)) =
-    ap differences (map-each c c' n (linesIn k b n) hc (each-kept (λ i. i < n) (λ i. eqb (k i) b) (upto n) (each-upto n)) ∙ ap (map c') own) in
+    let own : heldLines k b n ≡ heldLines k' b n = keep-same (λ i. eqb (k i) b) (λ i. eqb (k' i) b) n (λ i l. ap (λ z. eqb z b) (hk i l)) in
+    let e : differences (map c (heldLines k b n)) ≡ differences (map c' (heldLines k' b n)) =
+    ap differences (map-each c c' n (heldLines k b n) hc (each-kept (λ i. i < n) (λ i. eqb (k i) b) (upto n) (each-upto n)) ∙ ap (map c') own) in
     λ t. pitches-ext c c' k k' n b hc hk t ++ e t
 
 module _ (p : LayoutParams) (w h : ℕ) (m : List ℕ) where

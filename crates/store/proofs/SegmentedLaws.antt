@@ -54,7 +54,7 @@ ink-bits dots m e = mask-ones (take dots m) (not-false _ e)
 
 -- the sides that an accepted store holds, by its words
 module _ (sheet : LayoutParams) (s ink : List ℕ) (kinds scratch : ℕ) (S : Segmentable sheet s ink kinds scratch) (pw w h P : ℕ)
-    (e₁ : pw ≡ wordAt s 1) (e₃ : w ≡ wordAt s 3) (e₄ : h ≡ wordAt s 4) (e₅ : P ≡ wordAt s 5) where
+    (e₁ : pw ≡ wordAt s 1) (e₃ : w ≡ wordAt s 3) (e₄ : h ≡ wordAt s 4) (e₅ : P ≡ wordAt s 5) (at : ℕ) (ea : at ≡ listsAt pw h) where
   pub page-by : pw ≡ held s .page-w
   unfolding held
   page-by = e₁
@@ -83,23 +83,17 @@ module _ (sheet : LayoutParams) (s ink : List ℕ) (kinds scratch : ℕ) (S : Se
   pub dots-by : w * h ≡ dotsHeld (held s)
   dots-by = λ i. wide-by i * high-by i
 
-  pub lists-by : 64 + pw + h ≡ listsAt (held s .page-w) (frameHeld (held s) .h)
-  lists-by = λ i. 64 + page-by i + high-by i
+  pub lists-by : at ≡ listsAt (held s .page-w) (frameHeld (held s) .h)
+  lists-by = ea ∙ (λ i. listsAt (page-by i) (high-by i))
 
   few : Limited (held s)
   few = limited (held s) (S .limits)
 
-  pub lists-room : 64 + pw + h + resultWords w P ≤ length s
+  pub lists-room : at + resultWords w P ≤ length s
   lists-room = let a = page-by in let b = wide-by in let c = high-by in let d = capacity-by in let r = S .room in omega arith
 
-  pub start-fits : (pw ≤ 8192) × (h ≤ 16383) × (64 + pw + h ≤ length s)
-  start-fits =
-      let a = page-by in
-      let c = high-by in
-      let l = few .sides .w-fits in
-      let f = frame-fits (held s .page-w) (held s .page-h) (held s .slope) (few .sides) (few .within) .1 in
-      let r = lists-room in
-      (omega arith, omega arith, omega arith)
+  pub start-fits : at ≤ length s
+  start-fits = let r = lists-room in omega arith
 
   pub plane-room : (w * h ≤ length ink) × (w * h ≤ kinds) × (scratchWords (w * h) P ≤ scratch)
   plane-room = (
@@ -108,7 +102,7 @@ module _ (sheet : LayoutParams) (s ink : List ℕ) (kinds scratch : ℕ) (S : Se
     subst (λ z. z ≤ scratch) (λ i. scratchWords (sym dots-by i) (sym capacity-by i)) (S .scratch-room),
   )
 
-  pub segment-room : (work : List ℕ) → length work ≡ scratch → SegmentRoom sheet w h (take (w * h) ink) P (take (scratchWords (w * h) P) work) (length s - (64 + pw + h)) kinds
+  pub segment-room : (work : List ℕ) → length work ≡ scratch → SegmentRoom sheet w h (take (w * h) ink) P (take (scratchWords (w * h) P) work) (length s - at) kinds
   segment-room work e =
       let b = wide-by in
       let c = high-by in
@@ -145,13 +139,13 @@ judged-no sheet s ink kinds scratch n e z =
 -- segmented, or refused by the page
 judged-yes : (sheet : LayoutParams) (s ink kinds : List ℕ) (scratch : ℕ) → segmentJudged sheet s ink (length kinds) scratch ≡ 0
     → settled (layoutRefusal (held s .capacity) (layoutHeld sheet (held s) ink)) s kinds
-    (storeSegmented (held s .page-w) (frameHeld (held s) .w) (frameHeld (held s) .h) (held s .capacity) (layoutHeld sheet (held s) ink) s) (over (layoutHeld sheet (held s) ink .kinds) kinds)
+    (storeSegmented (held s .page-w) (frameHeld (held s) .w) (frameHeld (held s) .h) (held s .capacity) (layoutHeld sheet (held s) ink) s) (over (layoutHeld sheet (held s) ink .plane) kinds)
     ≡ segmentLeft sheet s ink kinds scratch
 unfolding segmentLeft segmentJudged
 judged-yes sheet s ink kinds scratch e =
     let g = held s in
     let l = layoutHeld sheet g ink in
-    ap (λ n. settled n s kinds (storeSegmented (g .page-w) (frameHeld g .w) (frameHeld g .h) (g .capacity) l s) (over (l .kinds) kinds))
+    ap (λ n. settled n s kinds (storeSegmented (g .page-w) (frameHeld g .w) (frameHeld g .h) (g .capacity) l s) (over (l .plane) kinds))
     (sym (segment-passes sheet (length s) (length ink) (length kinds) scratch g (frameSpoiled s || inkSpoiled (dotsHeld g) ink) .pass e (layoutRefusal (g .capacity) l)))
 
 number-of : (k : ℕ) (f : Segmentation) → segmentNumber (pickSegment (eqb k 0) (Segmented f) (Refused k)) ≡ k
@@ -161,15 +155,15 @@ number-of (suc k) f = rw (ne-eqb (suc k) 0 (λ (e : suc k ≡ 0). omega arith))
 -- the lists written, then the header, or nothing
 page-left : (pw w h P : ℕ) (l : Layout) (s kinds : List ℕ) (r : SegmentAnswer) (k : ℕ) (s' kinds' : List ℕ) → listsAt pw h ≤ length s → take (listsAt pw h) s' ≡ take (listsAt pw h) s
     → Answers.segmentOutcome r (drop (listsAt pw h) s') kinds' ≡ segmentOutcomeBy k w P l (drop (listsAt pw h) s) kinds
-    → left (segmentNumber r) (headLeft r s') kinds' ≡ settled k s kinds (storeSegmented pw w h P l s) (over (l .kinds) kinds)
+    → left (segmentNumber r) (headLeft r s') kinds' ≡ settled k s kinds (storeSegmented pw w h P l s) (over (l .plane) kinds)
 unfolding segmentOutcomeBy settled
 page-left pw w h P l s kinds r k s' kinds' room t e =
     let at = listsAt pw h in
     let b = eqb k 0 in
     let s'-is : s' ≡ take at s ++ cond b (resultsLeft w P l (drop at s)) (drop at s) =
     sym (take-append-drop at s') ∙ (λ i. t i ++ e i .results) in
-    (λ i. left (e i .number) (headLeft (e i .answer) (s'-is i)) (e i .kinds))
-    ∙ (λ i. left (number-of k (figuresOf l) i) (go b i) (cond b (over (l .kinds) kinds) kinds))
+    (λ i. left (e i .number) (headLeft (e i .answer) (s'-is i)) (e i .plane))
+    ∙ (λ i. left (number-of k (figuresOf l) i) (go b i) (cond b (over (l .plane) kinds) kinds))
   where
     go : (b : Bool) → headLeft (pickSegment b (Segmented (figuresOf l)) (Refused k)) (take (listsAt pw h) s ++ cond b (resultsLeft w P l (drop (listsAt pw h) s)) (drop (listsAt pw h) s))
         ≡ cond b (storeSegmented pw w h P l s) s
@@ -177,21 +171,21 @@ page-left pw w h P l s kinds r k s' kinds' room t e =
     go false = take-append-drop (listsAt pw h) s
 
 module _ (sheet : LayoutParams) (s ink kinds : List ℕ) (scratch : ℕ) (J : segmentJudged sheet s ink (length kinds) scratch ≡ 0) (pw w h P : ℕ)
-    (e₁ : pw ≡ wordAt s 1) (e₃ : w ≡ wordAt s 3) (e₄ : h ≡ wordAt s 4) (e₅ : P ≡ wordAt s 5) where
+    (e₁ : pw ≡ wordAt s 1) (e₃ : w ≡ wordAt s 3) (e₄ : h ≡ wordAt s 4) (e₅ : P ≡ wordAt s 5) (at : ℕ) (ea : at ≡ listsAt pw h) where
   abbrev ok : Segmentable sheet s ink (length kinds) scratch
   ok = segmentable sheet s ink (length kinds) scratch J
 
-  pub page-done : (r : SegmentAnswer) (n : ℕ) (s' kinds' s'' : List ℕ) → take (64 + pw + h) s' ≡ take (64 + pw + h) s
-      → Answers.segmentOutcome r (drop (64 + pw + h) s') kinds' ≡ segmentPlane sheet w h (take (w * h) ink) P (drop (64 + pw + h) s) kinds
+  pub page-done : (r : SegmentAnswer) (n : ℕ) (s' kinds' s'' : List ℕ) → take at s' ≡ take at s
+      → Answers.segmentOutcome r (drop at s') kinds' ≡ segmentPlane sheet w h (take (w * h) ink) P (drop at s) kinds
       → n ≡ segmentNumber r → s'' ≡ headLeft r s' → left n s'' kinds' ≡ segmentLeft sheet s ink kinds scratch
   unfolding segmentPlane
   page-done r n s' kinds' s'' t e en es =
       let g = held s in
-      let A = lists-by sheet s ink (length kinds) scratch ok pw w h P e₁ e₃ e₄ e₅ in
-      let W = wide-by sheet s ink (length kinds) scratch ok pw w h P e₁ e₃ e₄ e₅ in
-      let H = high-by sheet s ink (length kinds) scratch ok pw w h P e₁ e₃ e₄ e₅ in
-      let C = capacity-by sheet s ink (length kinds) scratch ok pw w h P e₁ e₃ e₄ e₅ in
-      let F = start-fits sheet s ink (length kinds) scratch ok pw w h P e₁ e₃ e₄ e₅ .2 in
+      let A = lists-by sheet s ink (length kinds) scratch ok pw w h P e₁ e₃ e₄ e₅ at ea in
+      let W = wide-by sheet s ink (length kinds) scratch ok pw w h P e₁ e₃ e₄ e₅ at ea in
+      let H = high-by sheet s ink (length kinds) scratch ok pw w h P e₁ e₃ e₄ e₅ at ea in
+      let C = capacity-by sheet s ink (length kinds) scratch ok pw w h P e₁ e₃ e₄ e₅ at ea in
+      let F = start-fits sheet s ink (length kinds) scratch ok pw w h P e₁ e₃ e₄ e₅ at ea in
       let L = layoutHeld sheet g ink in
       (λ i. left (en i) (es i) kinds')
       ∙ (page-left (g .page-w) (frameHeld g .w) (frameHeld g .h) (g .capacity) L s kinds r (layoutRefusal (g .capacity) L) s' kinds' (subst (λ z. z ≤ length s) A F)
@@ -202,33 +196,34 @@ module _ (sheet : LayoutParams) (s ink kinds : List ℕ) (scratch : ℕ) (J : se
 
   pub past-kept : (work work' : List ℕ) → drop (scratchWords (w * h) P) work' ≡ drop (scratchWords (w * h) P) work → drop (scratchHeld (held s)) work' ≡ drop (scratchHeld (held s)) work
   past-kept work work' e =
-      let D = dots-by sheet s ink (length kinds) scratch ok pw w h P e₁ e₃ e₄ e₅ in
-      let C = capacity-by sheet s ink (length kinds) scratch ok pw w h P e₁ e₃ e₄ e₅ in
+      let D = dots-by sheet s ink (length kinds) scratch ok pw w h P e₁ e₃ e₄ e₅ at ea in
+      let C = capacity-by sheet s ink (length kinds) scratch ok pw w h P e₁ e₃ e₄ e₅ at ea in
       subst (λ z. drop z work' ≡ drop z work) (λ i. scratchWords (D i) (C i)) e
 
 -- ---- the parts that are lent
 
-pub parts-room : (sheet : LayoutParams) (w h d P start : ℕ) (s ink scratch : List ℕ) (k : ℕ) → d ≡ w * h
-    → SegmentRoom sheet w h (take (w * h) ink) P (take (scratchWords (w * h) P) scratch) (length s - start) k
-    → SegmentRoom sheet w h (take d ink) P (take (4 * d + 16 * P + 64) scratch) (length (take (length s - start) (drop start s))) k
-parts-room sheet w h d P start s ink scratch k e r =
-    subst (λ z. SegmentRoom sheet w h (take z ink) P (take (scratchWords z P) scratch) (length (take (length s - start) (drop start s))) k) (sym e)
-    (subst (λ z. SegmentRoom sheet w h (take (w * h) ink) P (take (scratchWords (w * h) P) scratch) z k) (sym (part-length start s)) r)
+module _ (sheet : LayoutParams) (w h d P n start : ℕ) (s ink scratch : List ℕ) (ed : d ≡ w * h) (en : n ≡ scratchWords d P) where
+  pub parts-room : (k : ℕ) → SegmentRoom sheet w h (take (w * h) ink) P (take (scratchWords (w * h) P) scratch) (length s - start) k
+      → SegmentRoom sheet w h (take d ink) P (take n scratch) (length (take (length s - start) (drop start s))) k
+  parts-room k r =
+      subst (λ z. SegmentRoom sheet w h (take d ink) P (take z scratch) (length (take (length s - start) (drop start s))) k) (sym en)
+      (subst (λ z. SegmentRoom sheet w h (take z ink) P (take (scratchWords z P) scratch) (length (take (length s - start) (drop start s))) k) (sym ed)
+      (subst (λ z. SegmentRoom sheet w h (take (w * h) ink) P (take (scratchWords (w * h) P) scratch) z k) (sym (part-length start s)) r))
 
-pub parts-done : (sheet : LayoutParams) (w h d P start : ℕ) (s ink kinds scratch : List ℕ) (r : SegmentAnswer) (part kinds' work : List ℕ) → d ≡ w * h → start ≤ length s
-    → scratchWords (w * h) P ≤ length scratch → length work ≡ length (take (4 * d + 16 * P + 64) scratch)
-    → Answers.segmentOutcome r part kinds' ≡ segmentPlane sheet w h (take d ink) P (take (length s - start) (drop start s)) kinds
-    → (take start (putMid start (length s - start) s part) ≡ take start s)
-    × (Answers.segmentOutcome r (drop start (putMid start (length s - start) s part)) kinds' ≡ segmentPlane sheet w h (take (w * h) ink) P (drop start s) kinds)
-    × (drop (scratchWords (w * h) P) (work ++ drop (4 * d + 16 * P + 64) scratch) ≡ drop (scratchWords (w * h) P) scratch)
-parts-done sheet w h d P start s ink kinds scratch r part kinds' work ed room l lw e =
-    let n : length (take start s) ≡ start = length-take-le start s room in
-    let q : putMid start (length s - start) s part ≡ take start s ++ part = tail-put start s part in
-    let m : scratchWords (w * h) P ≡ 4 * d + 16 * P + 64 = (λ i. scratchWords (sym ed i) P) in (
-      ap (take start) q ∙ take-at (take start s) part start n,
-      ap (λ (z : List ℕ). Answers.segmentOutcome r z kinds') (ap (drop start) q ∙ drop-at (take start s) part start n)
-          ∙ (e ∙ (λ i. segmentPlane sheet w h (take (ed i) ink) P (tail-part start s i) kinds)),
-      ap (λ z. drop z (work ++ drop (4 * d + 16 * P + 64) scratch)) m
-          ∙ (drop-at work (drop (4 * d + 16 * P + 64) scratch) (4 * d + 16 * P + 64) (lw ∙ length-take-le (4 * d + 16 * P + 64) scratch (subst (λ z. z ≤ length scratch) m l))
-          ∙ ap (λ z. drop z scratch) (sym m)),
-    )
+  pub parts-done : (kinds : List ℕ) (r : SegmentAnswer) (part kinds' work : List ℕ) → start ≤ length s
+      → scratchWords (w * h) P ≤ length scratch → length work ≡ length (take n scratch)
+      → Answers.segmentOutcome r part kinds' ≡ segmentPlane sheet w h (take d ink) P (take (length s - start) (drop start s)) kinds
+      → (take start (putMid start (length s - start) s part) ≡ take start s)
+      × (Answers.segmentOutcome r (drop start (putMid start (length s - start) s part)) kinds' ≡ segmentPlane sheet w h (take (w * h) ink) P (drop start s) kinds)
+      × (drop (scratchWords (w * h) P) (work ++ drop n scratch) ≡ drop (scratchWords (w * h) P) scratch)
+  parts-done kinds r part kinds' work room l lw e =
+      let k : length (take start s) ≡ start = length-take-le start s room in
+      let q : putMid start (length s - start) s part ≡ take start s ++ part = tail-put start s part in
+      let m : scratchWords (w * h) P ≡ n = (λ i. scratchWords (sym ed i) P) ∙ sym en in (
+        ap (take start) q ∙ take-at (take start s) part start k,
+        ap (λ (z : List ℕ). Answers.segmentOutcome r z kinds') (ap (drop start) q ∙ drop-at (take start s) part start k)
+            ∙ (e ∙ (λ i. segmentPlane sheet w h (take (ed i) ink) P (tail-part start s i) kinds)),
+        ap (λ z. drop z (work ++ drop n scratch)) m
+            ∙ (drop-at work (drop n scratch) n (lw ∙ length-take-le n scratch (subst (λ z. z ≤ length scratch) m l))
+            ∙ ap (λ z. drop z scratch) (sym m)),
+      )

@@ -81,7 +81,7 @@ results-back a y x s F r = results-same a y x (over x s) F (λ p n q. part-over 
 
 -- the first word
 first-word : (s : List ℕ) → wordAt s 0 ≡ getD (part 0 1 s) 0 0
-first-word s = sym (part-word 0 1 s 0 0 (omega arith))
+first-word s = sym (part-word 0 1 s 0 (omega arith))
 
 pub first-back : (x s : List ℕ) → 1 ≤ length x → wordAt (over x s) 0 ≡ wordAt x 0
 first-back x s l = first-word (over x s) ∙ (ap (λ (z : List ℕ). getD z 0 0) (part-over 0 1 x s (omega arith)) ∙ sym (first-word x))
@@ -244,7 +244,7 @@ module _ (a : Leaf) (l : Layout) (F : Few (levellingOf a .frame .w) (a .capacity
 
 -- what such a store says is the layout's
 pub view-is : (a : Leaf) (l : Layout) (s kinds : List ℕ) → held s ≡ leafHeld 2 a → ResultsHold a l s
-    → take (levellingOf a .frame .w * levellingOf a .frame .h) kinds ≡ l .kinds → viewOf s kinds ≡ viewOfLayout (levellingOf a .frame) (levellingOf a .skew) l
+    → take (levellingOf a .frame .w * levellingOf a .frame .h) kinds ≡ l .plane → viewOf s kinds ≡ viewOfLayout (levellingOf a .frame) (levellingOf a .skew) l
 unfolding viewOf viewWith viewOfLayout figureWords
 view-is a l s kinds e R k =
     let f = levellingOf a .frame in

@@ -23,7 +23,10 @@ use Rattle.store.specs.rules.Readings.Output.{words}
 use Rattle.store.specs.rules.Readings.Which.{columns, rules, graphics, glyphs, lines, blocks}
 use Rattle.store.specs.rules.Outcomes.{told, resultTold}
 use Rattle.judging.specs.stages.Judged.{wordsOk}
-use Rattle.store.specs.stages.Areas.{whichOf, areaAt, recordWords, countAt, listStart, listSize, listRead, ListsAt}
+use Rattle.segmenting.specs.stages.Places.{resultPlaces}
+use Rattle.segmenting.specs.declared.places.ResultPlaces.{ResultPlaces}
+use Rattle.store.specs.declared.lists.RecordList.{RecordList}
+use Rattle.store.specs.stages.Areas.{whichOf, placeIn, areaAt, recordWords, countAt, listStart, listSize, listRead, ListsAt}
 use Rattle.judging.proofs.PartLaws.{length-part}
 use Rattle.judging.proofs.LimitLaws.{limited}
 use Rattle.judging.proofs.ResultLaws.{figure-word, few}
@@ -64,9 +67,13 @@ module _ (s ink kinds out : List ℕ) (n : ℕ) (en : n ≡ resultRefusal (lengt
 
 -- ---- the place of a list by its number
 
-pub place-by : (which pw w h P : ℕ) (k : Which) → whichOf which ≡ k → (a : ℕ) → a ≡ listsAt pw h + areaAt k w P
-    → (a ≡ listsAt pw h + areaAt (whichOf which) w P) × (recordWords k ≡ recordWords (whichOf which)) × (countAt k ≡ countAt (whichOf which))
-place-by which pw w h P k q a e = (e ∙ ap (λ z. listsAt pw h + areaAt z w P) (sym q), ap recordWords (sym q), ap countAt (sym q))
+-- behind the shears, by the words that tell the sides
+pub list-start : (s : List ℕ) (k : Which) (at w P : ℕ) (q : ResultPlaces) → at ≡ listsAt (getD s 1 0) (getD s 4 0) → w ≡ getD s 3 0 → P ≡ getD s 5 0 → q ≡ resultPlaces w P → at + placeIn k q ≡ listStart k s
+list-start s k at w P q ea ew ep eq = λ i. ea i + placeIn k ((eq ∙ (λ j. resultPlaces (ew j) (ep j))) i)
+
+pub list-by : (s : List ℕ) (which : ℕ) (k : Which) → whichOf which ≡ k → (r : RecordList) (p : ℕ) → (r .at ≡ p) × (r .width ≡ recordWords k) × (r .count ≡ listSize k s) → p ≡ listStart k s
+    → (r .at ≡ listStart (whichOf which) s) × (r .width ≡ recordWords (whichOf which)) × (r .count ≡ listSize (whichOf which) s)
+list-by s which k q r p e f = (e .0 ∙ (f ∙ ap (λ z. listStart z s) (sym q)), e .1 ∙ ap recordWords (sym q), e .2 ∙ ap (λ z. listSize z s) (sym q))
 
 pub which-last : (n : ℕ) → (n ≡ 0 → ⊥) → (n ≡ 1 → ⊥) → (n ≡ 2 → ⊥) → (n ≡ 3 → ⊥) → (n ≡ 4 → ⊥) → whichOf n ≡ blocks
 which-last n a b c d e = rw (ne-eqb n 0 a, ne-eqb n 1 b, ne-eqb n 2 c, ne-eqb n 3 d, ne-eqb n 4 e)
@@ -190,26 +197,12 @@ module _ (s ink kinds : List ℕ) (R : ReadableResults s ink kinds) where
 
 -- ---- a list by its place
 
-module _ (s : List ℕ) (A : ListsAt s) (k : Which) (at width word : ℕ) (ea : at ≡ listStart k s) (ew : width ≡ recordWords k) (eo : word ≡ countAt k) where
-  pub list-word : word < length s
-  list-word = subst (λ z. z < length s) (sym eo) (go k (A .words))
-    where
-      go : (k : Which) → 64 ≤ length s → countAt k < length s
-      go columns h = omega arith
-      go rules h = omega arith
-      go graphics h = omega arith
-      go glyphs h = omega arith
-      go lines h = omega arith
-      go blocks h = omega arith
+module _ (s : List ℕ) (A : ListsAt s) (k : Which) (r : RecordList) (e : (r .at ≡ listStart k s) × (r .width ≡ recordWords k) × (r .count ≡ listSize k s)) where
+  pub list-end : r .at + r .count * r .width ≤ length s
+  list-end = subst (λ z. z ≤ length s) (sym (λ i. e .0 i + e .2 i * e .1 i)) (A .room k)
 
-  pub list-size : getD s word 0 ≡ listSize k s
-  list-size = ap (λ z. getD s z 0) eo
-
-  pub list-end : at + getD s word 0 * width ≤ length s
-  list-end = subst (λ z. z ≤ length s) (sym (λ i. ea i + getD s (eo i) 0 * ew i)) (A .room k)
-
-  pub list-part : (n : ℕ) → n ≡ getD s word 0 → take (at + n * width - at) (drop at s) ≡ listRead k s
+  pub list-part : (n : ℕ) → n ≡ r .count → take (r .at + n * r .width - r .at) (drop (r .at) s) ≡ listRead k s
   unfolding part
-  list-part n e =
-      let q : at + n * width - at ≡ n * width = omega arith in
-      ap (λ z. take z (drop at s)) q ∙ (λ i. take ((e ∙ list-size) i * ew i) (drop (ea i) s))
+  list-part n f =
+      let q : r .at + n * r .width - r .at ≡ n * r .width = omega arith in
+      ap (λ z. take z (drop (r .at) s)) q ∙ (λ i. take ((f ∙ e .2) i * e .1 i) (drop (e .0 i) s))

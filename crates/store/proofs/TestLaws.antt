@@ -12,7 +12,7 @@ use Rattle.memory.specs.rules.Records.{encoded}
 use Rattle.memory.proofs.RecordLaws.{record-at}
 use Rattle.memory.specs.declared.rect.Rect.{Rect}
 use Rattle.sorting.specs.rules.Units.{median}
-use Rattle.grouping.specs.stages.LineBoxes.{Inside}
+use Rattle.memory.specs.stages.Boxes.{Inside}
 use Rattle.memory.proofs.ListLaws.{Each, each-at, each-sort, each-table}
 use Rattle.judging.specs.rules.Spoiled.{every, fieldsOk, boxOk, boxesOk}
 use Rattle.store.proofs.LayoutLaws.{sort-long}

@@ -4,7 +4,7 @@ ghost use Prim.Native.Nat.{_≤_};
 ghost use lib.ListN.{length};
 ghost use Rattle.memory.specs.rules.Words.{over};
 ghost use Rattle.segmenting.specs.rules.Figures.{figuresLength};
-ghost use Rattle.judging.specs.rules.Header.{part, figuresAt};
+ghost use Rattle.judging.specs.rules.Header.{headerWords, part, figuresAt};
 ghost use Rattle.store.specs.rules.Readings.{figuresTold, ResultReading};
 ghost use Rattle.store.specs.rules.Readings.Output.{words};
 ghost use Rattle.store.specs.rules.Outcomes.{told, resultTold};
@@ -18,7 +18,7 @@ use memory::copy_words;
 
 // The words 10 to 24 over the front of the words lent, the first as 0 or 1.
 fn put_figures(store: &[u32], out: &mut [u32])
-    requires { ⌜ (64 ≤ length (now store)) × (15 ≤ length (now out)) ⌝ }
+    requires { ⌜ (headerWords ≤ length (now store)) × (figuresLength ≤ length (now out)) ⌝ }
     ensures { λ _. ⌜ now (out .exit) ≡ over (figuresTold (part figuresAt figuresLength (now (store .entry)))) (now (out .entry)) ⌝ }
 {
     copy_words(out, &store[FIGURES..FIGURES_END]);

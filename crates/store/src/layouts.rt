@@ -12,16 +12,17 @@ ghost use Rattle.store.specs.stages.Heads.{headSegmented, headLeft};
 ghost use Rattle.store.specs.rules.Outcomes.{left, segmentLeft};
 ghost use Rattle.store.specs.rules.Answers.{outcomeNumber};
 use crate::answers::Outcome;
-use extents::area;
 use judging::CAPACITY;
 use judging::FIGURES;
 use judging::FRAME_HEIGHT;
 use judging::FRAME_WIDTH;
-use judging::HEADER;
 use judging::PAGE_WIDTH;
 use judging::SEGMENTED;
 use judging::STATE;
 use judging::judge_segment;
+use judging::lists_at;
+use memory::area;
+use memory::scratch_words;
 use memory::word_at;
 use params::LayoutParams;
 use segmenting::SegmentAnswer;
@@ -56,7 +57,7 @@ fn segment_parts(
     sheet: LayoutParams,
     w: u32,
     h: u32,
-    capacity: usize,
+    capacity: u32,
     start: usize,
     store: &mut [u32],
     ink: &[u8],
@@ -67,13 +68,13 @@ fn segment_parts(
     ensures { λ r. ⌜ (take start (now (store .exit)) ≡ take start (now (store .entry))) × (Answers.segmentOutcome r (drop start (now (store .exit))) (now (kinds .exit)) ≡ segmentPlane sheet w h (take (w * h) (now (ink .entry))) capacity (drop start (now (store .entry))) (now (kinds .entry))) × (drop (scratchWords (w * h) capacity) (now (scratch .exit)) ≡ drop (scratchWords (w * h) capacity) (now (scratch .entry))) ⌝ }
 {
     let dots = area(w, h);
-    let need = 4 * dots + 16 * capacity + 64;
+    let need = scratch_words(dots, capacity);
     segmenting::segment(
         &ink[..dots],
         w,
         h,
         sheet,
-        capacity,
+        capacity as usize,
         &mut scratch[..need],
         &mut store[start..],
         kinds,
@@ -94,8 +95,8 @@ fn segment_held(
     let page_w = word_at(store, PAGE_WIDTH);
     let w = word_at(store, FRAME_WIDTH);
     let h = word_at(store, FRAME_HEIGHT);
-    let capacity = word_at(store, CAPACITY) as usize;
-    let start = HEADER + page_w as usize + h as usize;
+    let capacity = word_at(store, CAPACITY);
+    let start = lists_at(page_w, h);
     let answer = segment_parts(sheet, w, h, capacity, start, store, ink, kinds, scratch);
     tell(answer, store)
 }

@@ -7,6 +7,7 @@ ghost use Rattle.memory.specs.rules.Words.{over, putAt};
 ghost use Rattle.rounding.specs.rules.Drift.{WithinOne};
 ghost use Rattle.levelling.specs.rules.Frames.{PageSides, frame};
 ghost use Rattle.levelling.specs.rules.Planes.{levelled};
+ghost use Rattle.judging.specs.rules.Header.{headerWords, figuresAt};
 ghost use Rattle.judging.specs.rules.Leaves.{leafOf};
 ghost use Rattle.store.specs.rules.Written.{headWords};
 ghost use Rattle.store.specs.rules.Outcomes.{left, levelLeft};
@@ -37,7 +38,7 @@ fn write_head(
     slope: f64,
     store: &mut [u32],
 )
-    requires { ⌜ 10 ≤ length (now store) ⌝ }
+    requires { ⌜ figuresAt ≤ length (now store) ⌝ }
     ensures { λ _. ⌜ now (store .exit) ≡ over (1 ∷ headWords «page_w» «page_h» w h capacity skew slope) (now (store .entry)) ⌝ }
 {
     let mut head = [0u32; 10];
@@ -88,8 +89,8 @@ fn move_mask(
     store: &mut [u32],
     ink: &mut [u8],
 )
-    requires { ⌜ PageSides «page_w» «page_h» ⌝ ∗ ⌜ WithinOne slope ⌝ ∗ ⌜ (w ≡ frame «page_w» «page_h» slope .w) × (h ≡ frame «page_w» «page_h» slope .h) ⌝ ∗ ⌜ (length (now mask) ≡ «page_w» * «page_h») × (64 + («page_w» + h) ≤ length (now store)) × (w * h ≤ length (now ink)) ⌝ }
-    ensures { λ _. ⌜ (now (store .exit) ≡ putAt 64 (frame «page_w» «page_h» slope .shear ++ frame «page_w» «page_h» slope .shear-x) (now (store .entry))) × (now (ink .exit) ≡ over (levelled (frame «page_w» «page_h» slope) 0 (now (mask .entry))) (now (ink .entry))) ⌝ }
+    requires { ⌜ PageSides «page_w» «page_h» ⌝ ∗ ⌜ WithinOne slope ⌝ ∗ ⌜ (w ≡ frame «page_w» «page_h» slope .w) × (h ≡ frame «page_w» «page_h» slope .h) ⌝ ∗ ⌜ (length (now mask) ≡ «page_w» * «page_h») × (headerWords + («page_w» + h) ≤ length (now store)) × (w * h ≤ length (now ink)) ⌝ }
+    ensures { λ _. ⌜ (now (store .exit) ≡ putAt headerWords (frame «page_w» «page_h» slope .shear ++ frame «page_w» «page_h» slope .shear-x) (now (store .entry))) × (now (ink .exit) ≡ over (levelled (frame «page_w» «page_h» slope) 0 (now (mask .entry))) (now (ink .entry))) ⌝ }
 {
     move_page(mask, page_w, page_h, slope, w, h, &mut store[HEADER..], ink);
 }
@@ -107,8 +108,8 @@ fn write_leaf(
     store: &mut [u32],
     ink: &mut [u8],
 )
-    requires { ⌜ PageSides «page_w» «page_h» ⌝ ∗ ⌜ WithinOne slope ⌝ ∗ ⌜ (w ≡ frame «page_w» «page_h» slope .w) × (h ≡ frame «page_w» «page_h» slope .h) ⌝ ∗ ⌜ (length (now mask) ≡ «page_w» * «page_h») × (64 + («page_w» + h) ≤ length (now store)) × (w * h ≤ length (now ink)) ⌝ }
-    ensures { λ _. ⌜ (now (store .exit) ≡ putAt 64 (frame «page_w» «page_h» slope .shear ++ frame «page_w» «page_h» slope .shear-x) (over (1 ∷ headWords «page_w» «page_h» w h capacity skew slope) (now (store .entry)))) × (now (ink .exit) ≡ over (levelled (frame «page_w» «page_h» slope) 0 (now (mask .entry))) (now (ink .entry))) ⌝ }
+    requires { ⌜ PageSides «page_w» «page_h» ⌝ ∗ ⌜ WithinOne slope ⌝ ∗ ⌜ (w ≡ frame «page_w» «page_h» slope .w) × (h ≡ frame «page_w» «page_h» slope .h) ⌝ ∗ ⌜ (length (now mask) ≡ «page_w» * «page_h») × (headerWords + («page_w» + h) ≤ length (now store)) × (w * h ≤ length (now ink)) ⌝ }
+    ensures { λ _. ⌜ (now (store .exit) ≡ putAt headerWords (frame «page_w» «page_h» slope .shear ++ frame «page_w» «page_h» slope .shear-x) (over (1 ∷ headWords «page_w» «page_h» w h capacity skew slope) (now (store .entry)))) × (now (ink .exit) ≡ over (levelled (frame «page_w» «page_h» slope) 0 (now (mask .entry))) (now (ink .entry))) ⌝ }
 {
     write_head(page_w, page_h, w, h, capacity, skew, slope, store);
     move_mask(

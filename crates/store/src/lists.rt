@@ -1,14 +1,12 @@
 // The lists of a segmentation, out of a store.
 ghost use mathlib.Core.Path.{_≡_};
-ghost use Prim.Native.Nat.{_+_, _*_, _≤_};
-ghost use Rattle.memory.specs.rules.Limits.{maxPageSide, maxFrameWidth, maxFrameHeight, maxCapacity};
-ghost use Rattle.judging.specs.rules.Header.{listsAt};
-ghost use Rattle.store.specs.stages.Areas.{whichOf, areaAt, recordWords, countAt, listStart, listSize, listRead, ListsAt};
+ghost use Rattle.store.specs.stages.Areas.{whichOf, recordWords, listStart, listSize, listRead, ListsAt};
 ghost use Rattle.store.specs.rules.Readings.{ResultReading, Which};
 ghost use Rattle.store.specs.rules.Readings.Output.{words};
 ghost use Rattle.store.specs.rules.Outcomes.{told, resultTold};
 ghost use Rattle.store.specs.rules.Answers.{answerNumber, answerValue};
 use crate::answers::Answer;
+use grouping::BLOCK_WORDS;
 use judging::BLOCKS;
 use judging::CAPACITY;
 use judging::COLUMNS;
@@ -16,19 +14,24 @@ use judging::FRAME_HEIGHT;
 use judging::FRAME_WIDTH;
 use judging::GLYPHS;
 use judging::GRAPHICS;
-use judging::HEADER;
 use judging::LINES;
 use judging::PAGE_WIDTH;
 use judging::RULES;
 use judging::judge_reading;
+use judging::lists_at;
 use memory::copy_words;
 use memory::wide;
+use segmenting::BOX_WORDS;
+use segmenting::COLUMN_WORDS;
+use segmenting::result_places;
+use smoothing::GLYPH_WORDS;
+use smoothing::LINE_WORDS;
 
-// Where a list stands: its first word, the words of a record, the word of the header that counts its records.
-struct Area {
+// A list of a store: the place of its first word, the words of a record, how many records it has.
+struct RecordList {
     at: usize,
     width: usize,
-    word: usize,
+    count: u32,
 }
 
 // The lists by number.
@@ -44,68 +47,35 @@ pub const LINES_LIST: u32 = 4;
 
 pub const BLOCKS_LIST: u32 = 5;
 
-// The place of a list by its number; any other number is that of the blocks.
-fn place_of(which: u32, page_w: u32, w: u32, h: u32, capacity: u32) -> Area
-    requires { ⌜ («page_w» ≤ maxPageSide) × (w ≤ maxFrameWidth) × (h ≤ maxFrameHeight) × (capacity ≤ maxCapacity) ⌝ }
-    ensures { λ r. ⌜ (r .at ≡ listsAt «page_w» h + areaAt (whichOf which) w capacity) × (r .width ≡ recordWords (whichOf which)) × (r .word ≡ countAt (whichOf which)) ⌝ }
+fn record_list(at: usize, width: usize, count: u32) -> RecordList
+    ensures { λ r. ⌜ (r .at ≡ at) × (r .width ≡ width) × (r .count ≡ count) ⌝ }
 {
-    let p = capacity as usize;
-    let first = HEADER + page_w as usize + h as usize;
-    let rest = first + 2 * (w as usize);
-    if which == COLUMNS_LIST {
-        return Area {
-            at: first,
-            width: 2,
-            word: COLUMNS,
-        };
-    }
-    if which == RULES_LIST {
-        return Area {
-            at: rest,
-            width: 4,
-            word: RULES,
-        };
-    }
-    if which == GRAPHICS_LIST {
-        return Area {
-            at: rest + 12 * p,
-            width: 4,
-            word: GRAPHICS,
-        };
-    }
-    if which == GLYPHS_LIST {
-        return Area {
-            at: rest + 16 * p,
-            width: 6,
-            word: GLYPHS,
-        };
-    }
-    if which == LINES_LIST {
-        return Area {
-            at: rest + 22 * p,
-            width: 8,
-            word: LINES,
-        };
-    }
-    Area {
-        at: rest + 30 * p,
-        width: 5,
-        word: BLOCKS,
-    }
+    RecordList { at, width, count }
 }
 
-// The place of a list of a store.
-fn area_of(store: &[u32], which: u32) -> Area
+// A list by its number; any other number is that of the blocks.
+fn list_at(store: &[u32], which: u32) -> RecordList
     requires { ⌜ ListsAt (now store) ⌝ }
-    ensures { λ r. ⌜ (r .at ≡ listStart (whichOf which) (now (store .entry))) × (r .width ≡ recordWords (whichOf which)) × (r .word ≡ countAt (whichOf which)) ⌝ }
+    ensures { λ r. ⌜ (r .at ≡ listStart (whichOf which) (now (store .entry))) × (r .width ≡ recordWords (whichOf which)) × (r .count ≡ listSize (whichOf which) (now (store .entry))) ⌝ }
 {
-    place_of(
-        which,
-        store[PAGE_WIDTH],
-        store[FRAME_WIDTH],
-        store[FRAME_HEIGHT],
-        store[CAPACITY],
-    )
+    let at = lists_at(store[PAGE_WIDTH], store[FRAME_HEIGHT]);
+    let places = result_places(wide(store[FRAME_WIDTH]), wide(store[CAPACITY]));
+    if which == COLUMNS_LIST {
+        return record_list(at + places.columns, COLUMN_WORDS, store[COLUMNS]);
+    }
+    if which == RULES_LIST {
+        return record_list(at + places.rules, BOX_WORDS, store[RULES]);
+    }
+    if which == GRAPHICS_LIST {
+        return record_list(at + places.graphics, BOX_WORDS, store[GRAPHICS]);
+    }
+    if which == GLYPHS_LIST {
+        return record_list(at + places.glyphs, GLYPH_WORDS, store[GLYPHS]);
+    }
+    if which == LINES_LIST {
+        return record_list(at + places.lines, LINE_WORDS, store[LINES]);
+    }
+    record_list(at + places.blocks, BLOCK_WORDS, store[BLOCKS])
 }
 
 // How many records a list has.
@@ -113,9 +83,8 @@ fn count_of(store: &[u32], which: u32) -> u32
     requires { ⌜ ListsAt (now store) ⌝ }
     ensures { λ r. ⌜ r ≡ listSize (whichOf which) (now (store .entry)) ⌝ }
 {
-    let here = area_of(store, which);
-    let word = here.word;
-    store[word]
+    let list = list_at(store, which);
+    list.count
 }
 
 // The words of a list.
@@ -123,11 +92,9 @@ pub fn list_of(store: &[u32], which: u32) -> &[u32]
     requires { ⌜ ListsAt (now store) ⌝ }
     ensures { λ r. ⌜ now r ≡ listRead (whichOf which) (now (store .entry)) ⌝ }
 {
-    let here = area_of(store, which);
-    let at = here.at;
-    let word = here.word;
-    let n = wide(store[word]);
-    let end = at + n * here.width;
+    let list = list_at(store, which);
+    let at = list.at;
+    let end = at + wide(list.count) * list.width;
     &store[at..end]
 }
 

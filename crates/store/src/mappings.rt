@@ -8,14 +8,13 @@ ghost use Rattle.memory.specs.rules.Words.{over};
 ghost use Rattle.levelling.specs.rules.Frames.{frameOf};
 ghost use Rattle.levelling.specs.rules.Mapping.{rectToPage};
 ghost use Rattle.levelling.specs.rules.Planes.{levelGray};
-ghost use Rattle.judging.specs.rules.Header.{held, frameHeld, dotsHeld};
+ghost use Rattle.judging.specs.rules.Header.{headerWords, held, frameHeld, dotsHeld};
 ghost use Rattle.judging.specs.stages.Judged.{levelJudged};
 ghost use Rattle.store.specs.rules.Readings.{LevelReading, boxInside, filled, rectNumbers};
 ghost use Rattle.store.specs.rules.Readings.Output.{words, integers};
 ghost use Rattle.store.specs.rules.Outcomes.{told, levelTold};
 ghost use Rattle.store.specs.rules.Answers.{outcomeNumber};
 use crate::answers::Outcome;
-use extents::area;
 use judging::FRAME_HEIGHT;
 use judging::FRAME_WIDTH;
 use judging::HEADER;
@@ -25,6 +24,7 @@ use judging::frame_held;
 use judging::judge_frame;
 use judging::level_head;
 use memory::Rect;
+use memory::area;
 use memory::word_at;
 
 // All that can refuse a gray plane of so many bytes: the number, or 0.
@@ -99,8 +99,8 @@ fn judge_box(store: &[u32], r: Rect, out: usize) -> u32
 
 // The page box of a frame box, by the shears that stand behind the header.
 fn mapped_box(store: &[u32], page_w: u32, page_h: u32, h: u32, r: Rect) -> Rect
-    requires { ⌜ (0 < «page_w») × (0 < «page_h») × (r .y0 < h) × (r .y1 < h) × (64 + («page_w» + h) ≤ length (now store)) ⌝ }
-    ensures { λ b. ⌜ ((w k : ℕ) → b ≡ rectToPage (frameOf «page_w» «page_h» (take «page_w» (drop 64 (now (store .entry)))) (take h (drop (64 + «page_w») (now (store .entry)))) w k) r) ⌝ }
+    requires { ⌜ (0 < «page_w») × (0 < «page_h») × (r .y0 < h) × (r .y1 < h) × (headerWords + («page_w» + h) ≤ length (now store)) ⌝ }
+    ensures { λ b. ⌜ ((w k : ℕ) → b ≡ rectToPage (frameOf «page_w» «page_h» (take «page_w» (drop headerWords (now (store .entry)))) (take h (drop (headerWords + «page_w») (now (store .entry)))) w k) r) ⌝ }
 {
     let start = HEADER + page_w as usize;
     let end = start + h as usize;

@@ -4,7 +4,7 @@ ghost use mathlib.Core.Path.{_≡_};
 ghost use Prim.Native.Nat.{ℕ, _+_, _≤_, _<_};
 ghost use lib.Dec.{ltb};
 ghost use lib.ListN.{length, take, drop};
-ghost use Rattle.judging.specs.rules.Header.{held, frameHeld};
+ghost use Rattle.judging.specs.rules.Header.{headerWords, held, frameHeld};
 ghost use Rattle.levelling.specs.rules.Frames.{frameOf};
 ghost use Rattle.levelling.specs.rules.Mapping.{toPage};
 ghost use Rattle.store.specs.rules.Readings.{filled, pointNumbers, pointLength, LevelReading};
@@ -51,8 +51,8 @@ fn put_point(p: Point, point: &mut [i32])
 
 // The page point of a frame point, by the shears that stand behind the header.
 fn mapped(store: &[u32], page_w: u32, h: u32, x: u32, y: u32) -> Point
-    requires { ⌜ (0 < «page_w») × (y < h) × (64 + («page_w» + h) ≤ length (now store)) ⌝ }
-    ensures { λ r. ⌜ ((page-h w k : ℕ) → r ≡ toPage (frameOf «page_w» page-h (take «page_w» (drop 64 (now (store .entry)))) (take h (drop (64 + «page_w») (now (store .entry)))) w k) x y) ⌝ }
+    requires { ⌜ (0 < «page_w») × (y < h) × (headerWords + («page_w» + h) ≤ length (now store)) ⌝ }
+    ensures { λ r. ⌜ ((page-h w k : ℕ) → r ≡ toPage (frameOf «page_w» page-h (take «page_w» (drop headerWords (now (store .entry)))) (take h (drop (headerWords + «page_w») (now (store .entry)))) w k) x y) ⌝ }
 {
     let start = HEADER + page_w as usize;
     let end = start + h as usize;

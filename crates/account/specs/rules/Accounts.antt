@@ -15,7 +15,7 @@ use Rattle.segmenting.specs.rules.LayoutReadings.{twentyLineMeasure}
 use Rattle.grouping.specs.rules.Readings.{summaryNumbers, dotList}
 use Rattle.smoothing.specs.rules.LineRecords.{lineRecord, glyphRecord}
 use Rattle.grouping.specs.rules.BlockRecords.{blockRecord, columnRecord}
-use Rattle.segmenting.specs.rules.Results.{boxWords}
+use Rattle.memory.specs.rules.Rects.{boxWords}
 use Rattle.segmenting.specs.rules.Figures.{figuresOf, figureWords}
 use Rattle.judging.specs.rules.Header.{Held, frameHeld, emptyState, levelledState, segmentedState}
 use Rattle.judging.specs.rules.Leaves.{Leaf, levellingOf, leafHeld, layoutOf}
@@ -77,7 +77,7 @@ shortOf (summary out) v l = false
 shortOf (list k out) v l = ltb (length out) (length (listBy k l))
 shortOf twentyLines v l = false
 shortOf (countDots k r) v l = false
-shortOf (dots k r out) v l = ltb (length out) (length (dotList (v .frame) (l .kinds) k r))
+shortOf (dots k r out) v l = ltb (length out) (length (dotList (v .frame) (l .plane) k r))
 shortOf (listing out) v l = ltb (length out) (length (sheetBy v l))
 
 -- the value of an answer
@@ -86,8 +86,8 @@ valueOf (figures out) v l = 0
 valueOf (summary out) v l = 0
 valueOf (list k out) v l = lengthBy k l
 valueOf twentyLines v l = twentyLineMeasure l
-valueOf (countDots k r) v l = dotCount (v .frame) (l .kinds) k r
-valueOf (dots k r out) v l = dotCount (v .frame) (l .kinds) k r
+valueOf (countDots k r) v l = dotCount (v .frame) (l .plane) k r
+valueOf (dots k r out) v l = dotCount (v .frame) (l .plane) k r
 valueOf (listing out) v l = length (sheetBy v l)
 
 -- what an answer fills
@@ -97,7 +97,7 @@ fillOf (summary out) v l = floats (filled (summaryNumbers (readings.summary (v .
 fillOf (list k out) v l = words (over (listBy k l) out)
 fillOf twentyLines v l = none
 fillOf (countDots k r) v l = none
-fillOf (dots k r out) v l = words (over (dotList (v .frame) (l .kinds) k r) out)
+fillOf (dots k r out) v l = words (over (dotList (v .frame) (l .plane) k r) out)
 fillOf (listing out) v l = words (over (sheetBy v l) out)
 
 -- the same for what the account holds; a reading of results finds nothing where it does not hold both

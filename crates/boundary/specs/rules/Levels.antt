@@ -11,7 +11,7 @@ use Rattle.memory.specs.rules.Limits.{maxPageSide}
 use Rattle.memory.specs.rules.Words.{over}
 use Rattle.params.specs.declared.LayoutParams.{LayoutParams}
 use Rattle.params.specs.rules.Sheets.{sheetOf}
-use Rattle.params.specs.rules.Valid.{zero}
+use Rattle.params.specs.rules.Valid.{floatZero}
 use Rattle.memory.specs.declared.rect.Rect.{Rect}
 use Rattle.levelling.specs.rules.Frames.{Frame, frame, frameOf}
 use Rattle.levelling.specs.rules.Mapping.{toPage, rectToPage}
@@ -20,7 +20,7 @@ use Rattle.levelling.specs.declared.Point.{Point}
 
 -- a sheet of what is read of it where the skew is applied, all else 0
 abbrev pub skewSheet : Float → LayoutParams
-skewSheet shearMinDeg = sheetOf 0 zero 0 zero zero zero zero zero zero 0 zero zero zero zero zero zero zero shearMinDeg
+skewSheet shearMinDeg = sheetOf 0 floatZero 0 floatZero floatZero floatZero floatZero floatZero floatZero 0 floatZero floatZero floatZero floatZero floatZero floatZero floatZero shearMinDeg
 
 -- page sides from 1 to 8192, a slope from -1 to 1
 unfoldable pub inLimits : ℕ → ℕ → Float → Bool

@@ -53,7 +53,7 @@ left r results kinds figures words beyond =
 
 -- what it leaves where the segmentation leaves s
 abbrev pub leftWith : Answers.SegmentOutcome → List ℕ → ℕ → List ℕ → Left
-leftWith s figures words beyond = left (s .number) (s .results) (s .kinds) (figuresLeft (s .answer) figures) words beyond
+leftWith s figures words beyond = left (s .number) (s .results) (s .plane) (figuresLeft (s .answer) figures) words beyond
 
 -- what `novlizeb_segment_plane` leaves: the layout of 01, unless the call is refused
 abbrev pub paged : LayoutParams → ℕ → ℕ → List ℕ → ℕ → List ℕ → List ℕ → List ℕ → List ℕ → Left

@@ -9,11 +9,10 @@ use lib.ListN.{length, drop}
 use Rattle.memory.specs.rules.Limits.{maxMaskDots}
 use Rattle.memory.specs.rules.Lists.{table}
 use Rattle.memory.specs.rules.Refusals.{refuseIf}
-use Rattle.memory.specs.rules.Masks.{isInk}
+use Rattle.memory.specs.rules.Masks.{isInk, isMaskSide}
 use Rattle.memory.specs.rules.Words.{over}
-use Rattle.params.specs.rules.Valid.{zero}
+use Rattle.params.specs.rules.Valid.{floatZero}
 use Rattle.params.specs.declared.LayoutParams.{LayoutParams}
-use Rattle.extents.specs.rules.Answers.{isMaskSide}
 use Rattle.rulings.specs.rules.Rulings.{cutHorizontal, cutVertical}
 use Rattle.sorting.specs.rules.Capacity.{componentsOf, mostCuts}
 use Rattle.sorting.specs.declared.Unit.{Unit}
@@ -70,4 +69,4 @@ unitFor false v = Assumed v
 -- a sheet of what the limits of thin rulings and the kinds read, all else 0
 abbrev pub sizeSheet : ℕ → Float → Float → Float → Float → Float → LayoutParams
 sizeSheet glyphMinArea glyphMaxExtentFrac ruleMinLenXh ruleMaxThickXh ruleRunXh graphicMinXh =
-    sheetOf glyphMinArea glyphMaxExtentFrac 0 zero ruleMinLenXh ruleMaxThickXh ruleRunXh graphicMinXh zero 0 zero zero zero zero zero zero zero zero
+    sheetOf glyphMinArea glyphMaxExtentFrac 0 floatZero ruleMinLenXh ruleMaxThickXh ruleRunXh graphicMinXh floatZero 0 floatZero floatZero floatZero floatZero floatZero floatZero floatZero floatZero

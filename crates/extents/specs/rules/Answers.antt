@@ -1,29 +1,22 @@
 -- Run extents called by themselves: the number that a call is refused with, and what it gives (01, Limits, part 4 and "Turned back").
 use Prim.Native.Nat.{ℕ, _*_}
-use mathlib.Core.Bool.{Bool, true, false, cond, not, _&&_}
+use mathlib.Core.Bool.{Bool, true, false, cond, not}
 use mathlib.Core.List.{List}
 use lib.ListN.{length}
-use lib.Dec.{eqb, ltb, leb}
+use lib.Dec.{eqb, ltb}
 use Rattle.memory.specs.rules.Words.{over}
 use Rattle.memory.specs.rules.Refusals.{refuseIf}
-use Rattle.memory.specs.rules.Limits.{maxMaskSide, maxMaskDots}
+use Rattle.memory.specs.rules.Masks.{sidesRefusal}
 use Rattle.extents.specs.rules.Extents.{rowExtents, columnExtents}
 use Rattle.extents.specs.declared.entry.Along.{Along}
 use Rattle.extents.specs.declared.entry.Along.the-variants.{Rows, Columns}
 use Rattle.extents.specs.declared.entry.ExtentsAnswer.{ExtentsAnswer}
 use Rattle.extents.specs.declared.entry.ExtentsAnswer.the-variants.{Done, Refused}
 
--- a side of a mask: 1 to 131,072
-abbrev pub isMaskSide : ℕ → Bool
-isMaskSide n = ltb 0 n && leb n maxMaskSide
-
 -- the number that a call is refused with, 0 where it is accepted, by the mask's length, its sides and the length of what is lent
 unfoldable pub extentsRefusal : ℕ → ℕ → ℕ → ℕ → ℕ
 extentsRefusal mask-length w h extents-length =
-    refuseIf (not (isMaskSide w && isMaskSide h)) 1
-    (refuseIf (ltb maxMaskDots (w * h)) 1
-    (refuseIf (not (eqb mask-length (w * h))) 2
-    (refuseIf (ltb extents-length (w * h)) 9 0)))
+    sidesRefusal w h (refuseIf (not (eqb mask-length (w * h))) 2 (refuseIf (ltb extents-length (w * h)) 9 0))
 
 -- the run extents of a mask along its rows or columns
 abbrev pub extentsAlong : Along → ℕ → ℕ → List ℕ → List ℕ

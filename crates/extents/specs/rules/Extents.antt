@@ -2,17 +2,17 @@
 use Prim.Native.Nat.{ℕ, zero, suc, _+_, _-_, _*_, _/_, _%_, min}
 use mathlib.Core.Bool.{Bool, cond, _&&_}
 use mathlib.Core.List.{List}
-use lib.ListN.{getD}
 use lib.Dec.{ltb}
 use Rattle.memory.specs.rules.Lists.{table}
 use Rattle.memory.specs.rules.Limits.{maxExtent}
+use Rattle.memory.specs.rules.Masks.{isInk}
 
 abbrev pub Plane : Type 0
 Plane = ℕ → ℕ → Bool
 
 -- the ink of a mask w wide
 unfoldable pub inkAt : ℕ → List ℕ → Plane
-inkAt w m x y = ltb x w && ltb 0 (getD m (y * w + x) 0)
+inkAt w m x y = ltb x w && isInk m (y * w + x)
 
 -- a plane as a mask w wide and h high
 unfoldable pub maskOf : ℕ → ℕ → Plane → List ℕ

@@ -65,7 +65,7 @@ shortExtent a b dot d e = cond dot (1 + cond b (cond a 2 1) 0 + cond d (cond e 2
 
 -- the same of dot i of a row
 abbrev pub shortExtentAt : List ℕ → ℕ → ℕ
-shortExtentAt row i = shortExtent (ltb 0 (getD row (i - 2) 0)) (ltb 0 (getD row (i - 1) 0)) (ltb 0 (getD row i 0)) (ltb 0 (getD row (i + 1) 0)) (ltb 0 (getD row (i + 2) 0))
+shortExtentAt row i = shortExtent (isInk row (i - 2)) (isInk row (i - 1)) (isInk row i) (isInk row (i + 1)) (isInk row (i + 2))
 
 -- how many ink dots in a row, down its column, end at dot i
 abbrev pub countDown : ℕ → List ℕ → ℕ → ℕ

@@ -27,10 +27,10 @@ abbrev pub blockAt : List ℕ → ℕ → ℕ
 blockAt s i = getD s (i * lineWords + 7) 0
 
 -- those of the first n lines that are in block b
-abbrev pub linesIn : (ℕ → ℕ) → ℕ → ℕ → List ℕ
-linesIn number b n = keep (λ i. eqb (number i) b) (upto n)
+abbrev pub heldLines : (ℕ → ℕ) → ℕ → ℕ → List ℕ
+heldLines number b n = keep (λ i. eqb (number i) b) (upto n)
 
 -- the differences of y0 + y1 between following lines of each of the first m blocks
 unfoldable pub pitchesBelow : (ℕ → ℕ) → (ℕ → ℕ) → ℕ → ℕ → List ℕ
 pitchesBelow centre number n zero = []
-pitchesBelow centre number n (suc b) = pitchesBelow centre number n b ++ differences (map centre (linesIn number b n))
+pitchesBelow centre number n (suc b) = pitchesBelow centre number n b ++ differences (map centre (heldLines number b n))

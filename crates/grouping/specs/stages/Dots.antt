@@ -75,7 +75,7 @@ isShort r falls start x y =
     cond start (ltb x (r .x0) || cond falls (ltb (r .y1) y) (ltb y (r .y0))) (leb x (r .x1) && cond falls (leb (r .y0) y) (leb y (r .y1)))
 
 -- n is the first column of page row y that is not short
-pub record Turn (f : Frame) (r : Rect) (falls start : Bool) (y n : ℕ) : Type 0 where
+pub record FirstReached (f : Frame) (r : Rect) (falls start : Bool) (y n : ℕ) : Type 0 where
   pub inside : n ≤ f .page-w
   pub short : (c : ℕ) → c < n → isShort r falls start (columnOf f c y) (rowOf f c y) ≡ true
   pub reached : (c : ℕ) → n ≤ c → c < f .page-w → isShort r falls start (columnOf f c y) (rowOf f c y) ≡ false

@@ -4,19 +4,13 @@ use Prim.Native.Nat.{ℕ, _+_, _*_, _≤_, _<_}
 use lib.ListN.{length}
 use Rattle.memory.specs.rules.Lists.{table}
 use Rattle.memory.specs.declared.rect.Rect.{Rect}
+use Rattle.memory.specs.stages.Boxes.{Inside}
 use Rattle.smoothing.specs.rules.LineRecords.{lineWords}
 use Rattle.grouping.specs.rules.HeldLines.{lineBox}
 
 -- the boxes of the first n lines
 abbrev pub lineBoxes : List ℕ → ℕ → List Rect
 lineBoxes s n = table (lineBox s) n
-
--- a box inside a frame w wide and h high, its ends in order
-pub record Inside (w h : ℕ) (r : Rect) : Type 0 where
-  pub columns : r .x0 ≤ r .x1
-  pub right : r .x1 < w
-  pub rows : r .y0 ≤ r .y1
-  pub bottom : r .y1 < h
 
 -- the lines go by y0: none starts above the one before it
 abbrev pub ByTop : ℕ → List ℕ → Type 0

@@ -9,14 +9,14 @@ use lib.Ieee.Scale.{finite}
 use lib.ListN.{take, getD}
 use Rattle.memory.specs.rules.Limits.{maxPageSide, maxCapacity, maxLines, noLine}
 use Rattle.memory.specs.rules.Words.{wordAt, sameWords}
-use Rattle.params.specs.rules.Valid.{one, lengthOk}
+use Rattle.params.specs.rules.Valid.{floatOne, lengthOk}
 use Rattle.levelling.specs.rules.Frames.{Frame}
 use Rattle.sorting.specs.rules.Kinds.{speckKind}
 use Rattle.smoothing.specs.rules.LineRecords.{lineWords, glyphWords}
 use Rattle.grouping.specs.rules.BlockRecords.{blockWords}
 use Rattle.memory.specs.rules.Masks.{isMask}
 use Rattle.judging.specs.rules.Header.{segmentedState, headerWords, part, Held, held, frameHeld, dotsHeld}
-use Rattle.judging.specs.rules.Views.{viewOf, glyphHeightAt, blockLinesAt, glyphLineAt, lineBlockAt, View, rectWords, unitCase, unitHeld, ruleCount, graphicCount, glyphCount, lineCount, blockCount, columnCount}
+use Rattle.judging.specs.rules.Views.{viewOf, glyphHeightAt, blockLinesAt, glyphLineAt, lineBlockAt, View, boxLength, unitCase, unitHeld, ruleCount, graphicCount, glyphCount, lineCount, blockCount, columnCount}
 
 -- a page side within its limit
 abbrev pub sideOk : ℕ → Bool
@@ -64,7 +64,7 @@ every p (suc n) = every p n && p n
 abbrev pub unitOk : List ℕ → Bool
 unitOk figures =
     let x = unitHeld figures in
-    cond (eqb (unitCase figures) 0) (lengthOk x && not (lt x one)) (finite x && le one x)
+    cond (eqb (unitCase figures) 0) (lengthOk x && not (lt x floatOne)) (finite x && le floatOne x)
 
 -- counts within the limits: rules 3 × P, columns the frame width, others P, and lines 4,095 besides
 abbrev pub countsOk : ℕ → ℕ → List ℕ → Bool
@@ -108,8 +108,8 @@ resultsOk P ink v =
     && countsOk w P c
     && fieldsOk (λ n. leb n h) lineWords glyphHeightAt (v .lines) (lineCount c)
     && fieldsOk (λ n. leb n (lineCount c)) blockWords blockLinesAt (v .blocks) (blockCount c)
-    && boxesOk w h rectWords (v .rules) (ruleCount c)
-    && boxesOk w h rectWords (v .graphics) (graphicCount c)
+    && boxesOk w h boxLength (v .rules) (ruleCount c)
+    && boxesOk w h boxLength (v .graphics) (graphicCount c)
     && boxesOk w h glyphWords (v .glyphs) (glyphCount c)
     && boxesOk w h lineWords (v .lines) (lineCount c)
     && boxesOk w h blockWords (v .blocks) (blockCount c)

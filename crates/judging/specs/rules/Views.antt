@@ -10,13 +10,14 @@ use Rattle.levelling.specs.rules.Frames.{Frame}
 use Rattle.segmenting.specs.rules.Layouts.{Layout}
 use Rattle.smoothing.specs.rules.LineRecords.{lineWords, glyphWords, lineRecord, glyphRecord}
 use Rattle.grouping.specs.rules.BlockRecords.{blockWords, columnWords, blockRecord, columnRecord}
-use Rattle.segmenting.specs.rules.Results.{rulesAt, graphicsAt, glyphRecordsAt, linesAt, blocksAt, boxWords}
+use Rattle.memory.specs.rules.Rects.{boxWords}
+use Rattle.segmenting.specs.rules.Results.{rulesAt, graphicsAt, glyphRecordsAt, linesAt, blocksAt}
 use Rattle.segmenting.specs.rules.Figures.{figuresOf, figuresLength, figureWords}
 use Rattle.judging.specs.rules.Header.{held, frameHeld, figuresAt, listsAt, part}
 
 -- the words of a box
-abbrev pub rectWords : ℕ
-rectWords = 4
+abbrev pub boxLength : ℕ
+boxLength = 4
 
 -- words of a record: a glyph's line, a line's glyph height and block, a block's count of lines
 abbrev pub glyphLineAt : ℕ
@@ -85,8 +86,8 @@ viewWith figures f skew P s kinds =
       skew = skew;
       figures = figures;
       columns = part at (columnCount figures * columnWords) s;
-      rules = part (at + rulesAt (f .w)) (ruleCount figures * rectWords) s;
-      graphics = part (at + graphicsAt (f .w) P) (graphicCount figures * rectWords) s;
+      rules = part (at + rulesAt (f .w)) (ruleCount figures * boxLength) s;
+      graphics = part (at + graphicsAt (f .w) P) (graphicCount figures * boxLength) s;
       glyphs = part (at + glyphRecordsAt (f .w) P) (glyphCount figures * glyphWords) s;
       lines = part (at + linesAt (f .w) P) (lineCount figures * lineWords) s;
       blocks = part (at + blocksAt (f .w) P) (blockCount figures * blockWords) s;
@@ -110,5 +111,5 @@ viewOfLayout f skew l =
       glyphs = encoded glyphRecord (l .glyphs);
       lines = encoded lineRecord (l .lines);
       blocks = encoded blockRecord (l .blocks);
-      kinds = l .kinds;
+      kinds = l .plane;
     }

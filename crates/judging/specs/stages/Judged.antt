@@ -11,7 +11,7 @@ use Rattle.smoothing.specs.rules.LineRecords.{lineWords, glyphWords}
 use Rattle.grouping.specs.rules.BlockRecords.{blockWords}
 use Rattle.segmenting.specs.rules.Results.{rulesAt, graphicsAt, glyphRecordsAt, linesAt, blocksAt}
 use Rattle.judging.specs.rules.Header.{held, part, dotsHeld, storeHeld}
-use Rattle.judging.specs.rules.Views.{rectWords, glyphLineAt, glyphHeightAt, lineBlockAt, blockLinesAt, ruleCount, graphicCount, glyphCount, lineCount, blockCount}
+use Rattle.judging.specs.rules.Views.{boxLength, glyphLineAt, glyphHeightAt, lineBlockAt, blockLinesAt, ruleCount, graphicCount, glyphCount, lineCount, blockCount}
 use Rattle.judging.specs.rules.Spoiled.{frameSpoiled, inkSpoiled, unitOk, countsOk, boxesOk, fieldsOk, resultsSpoiled}
 use Rattle.judging.specs.rules.Refusals.{segmentRefusal, levelReadingRefusal}
 
@@ -46,8 +46,8 @@ unfoldable pub listsOk : ℕ → ℕ → List ℕ → ℕ → ℕ → ℕ → �
 listsOk w h s at P r g y l b =
     fieldsOk (λ n. leb n h) lineWords glyphHeightAt (part (at + linesAt w P) (l * lineWords) s) l
     && fieldsOk (λ n. leb n l) blockWords blockLinesAt (part (at + blocksAt w P) (b * blockWords) s) b
-    && boxesOk w h rectWords (part (at + rulesAt w) (r * rectWords) s) r
-    && boxesOk w h rectWords (part (at + graphicsAt w P) (g * rectWords) s) g
+    && boxesOk w h boxLength (part (at + rulesAt w) (r * boxLength) s) r
+    && boxesOk w h boxLength (part (at + graphicsAt w P) (g * boxLength) s) g
     && boxesOk w h glyphWords (part (at + glyphRecordsAt w P) (y * glyphWords) s) y
     && boxesOk w h lineWords (part (at + linesAt w P) (l * lineWords) s) l
     && boxesOk w h blockWords (part (at + blocksAt w P) (b * blockWords) s) b

@@ -7,7 +7,8 @@ use lib.Dec.{eqb, ltb}
 use Rattle.memory.specs.rules.Words.{over}
 use Rattle.memory.specs.rules.Records.{encoded}
 use Rattle.memory.specs.rules.Refusals.{refuseIf}
-use Rattle.memory.specs.rules.Limits.{maxMaskSide, maxMaskDots, maxCapacity, componentWords, scratchWords}
+use Rattle.memory.specs.rules.Limits.{maxCapacity, componentWords, scratchWords}
+use Rattle.memory.specs.rules.Masks.{sidesRefusal}
 use Rattle.labelling.specs.rules.Labels.{Labelling, labelling}
 use Rattle.labelling.specs.rules.RecordWords.{recordWords}
 use Rattle.labelling.specs.declared.entry.LabelAnswer.{LabelAnswer}
@@ -32,11 +33,6 @@ pickLabel false a b = b
 unfoldable pub answerOf : ℕ → ℕ → LabelAnswer
 answerOf n k = pickLabel (eqb n 0) (Labelled k) (Refused n)
 
--- 1: a side or a dot count outside its limit
-unfoldable pub sideRefusal : ℕ → ℕ → ℕ → ℕ
-sideRefusal w h rest =
-    refuseIf (eqb w 0) 1 (refuseIf (ltb maxMaskSide w) 1 (refuseIf (eqb h 0) 1 (refuseIf (ltb maxMaskSide h) 1 (refuseIf (ltb maxMaskDots (w * h)) 1 rest))))
-
 -- 2: mask length; 7: capacity; 9: lent memory too short, labels, records or scratch
 unfoldable pub lentRefusal : ℕ → ℕ → ℕ → ℕ → ℕ → ℕ → ℕ → ℕ
 lentRefusal dots mask P labels components scratch rest =
@@ -54,7 +50,7 @@ manyRefusal count P = refuseIf (ltb P count) 20 0
 -- the number that the call is refused with, the lowest that applies; 0 where none does
 abbrev pub refusal : ℕ → ℕ → List ℕ → ℕ → ℕ → ℕ → ℕ → ℕ
 refusal w h m P labels components scratch =
-    sideRefusal w h (lentRefusal (w * h) (length m) P labels components scratch (manyRefusal (length (labelling w h m .components)) P))
+    sidesRefusal w h (lentRefusal (w * h) (length m) P labels components scratch (manyRefusal (length (labelling w h m .components)) P))
 
 -- an answer with its number and count, the labels and the records' words, the length of scratch, and what lies in it past the words it needs
 pub record LabelOutcome : Type 0 where

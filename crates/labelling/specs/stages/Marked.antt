@@ -7,20 +7,21 @@ use lib.ListN.{getD, length, take, drop}
 use lib.Dec.{eqb, ltb}
 use Rattle.memory.specs.rules.Lists.{table}
 use Rattle.memory.specs.rules.Limits.{maxMaskSide, maxMaskDots}
+use Rattle.memory.specs.rules.Masks.{isInk}
 use Rattle.labelling.specs.stages.Extraction.{rowWords, ScanRoom, Scanned, RowRoom, RowExtracted}
 use Rattle.labelling.specs.stages.Sizes.{HoldsRuns}
 use Rattle.labelling.specs.declared.marked.Test.{Test}
 use Rattle.labelling.specs.declared.marked.Test.the-variants.{First, Second, Neither}
 
 -- ink whose mark has its first bit, its second bit, or none
-abbrev pub passes : Test → ℕ → ℕ → Bool
-passes First ink mark = ltb 0 ink && eqb (mark % 2) 1
-passes Second ink mark = ltb 0 ink && ltb 1 mark
-passes Neither ink mark = ltb 0 ink && eqb mark 0
+abbrev pub passes : Test → Bool → ℕ → Bool
+passes First ink mark = ink && eqb (mark % 2) 1
+passes Second ink mark = ink && ltb 1 mark
+passes Neither ink mark = ink && eqb mark 0
 
 -- the mask of the n dots that pass
 unfoldable pub passing : Test → List ℕ → List ℕ → ℕ → List ℕ
-passing t ink marks n = table (λ i. cond (passes t (getD ink i 0) (getD marks i 0)) 1 0) n
+passing t ink marks n = table (λ i. cond (passes t (isInk ink i) (getD marks i 0)) 1 0) n
 
 -- the same of a row, whose first dot is `base`
 abbrev pub rowPassing : Test → List ℕ → List ℕ → ℕ → List ℕ

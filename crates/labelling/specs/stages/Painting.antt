@@ -1,10 +1,11 @@
 -- What painting asks and gives.
 use mathlib.Core.Path.{_≡_}
 use mathlib.Core.List.{List, _++_}
-use Prim.Native.Nat.{ℕ, suc, _+_, _*_, _≤_, _<_}
+use Prim.Native.Nat.{ℕ, suc, _+_, _-_, _*_, _≤_, _<_}
 use lib.ListN.{getD, length, take, drop}
 use Rattle.memory.specs.rules.Lists.{table}
 use Rattle.memory.specs.rules.Limits.{maxMaskDots}
+use Rattle.memory.specs.stages.Stored.{Stored}
 use Rattle.labelling.specs.stages.InkRuns.{startOf, endOf}
 use Rattle.labelling.specs.stages.Linking.{Order}
 use Rattle.labelling.specs.stages.Spans.{SpanAhead, SpanOf}
@@ -18,25 +19,18 @@ Front f l₀ l i = l ≡ table f i ++ drop i l₀
 abbrev pub numbered : ℕ → List ℕ → List ℕ → List ℕ
 numbered c t numbers = take (2 * c) t ++ numbers
 
--- the value v from `from` up to `to`, and all else as it was
-pub record Filled (l l' : List ℕ) (from to v : ℕ) : Type 0 where
-  pub len : length l' ≡ length l
-  pub here : (i : ℕ) → from ≤ i → i < to → getD l' i 0 ≡ v
-  pub low : (i : ℕ) → i < from → getD l' i 0 ≡ getD l i 0
-  pub high : (i : ℕ) → to ≤ i → getD l' i 0 ≡ getD l i 0
-
 -- the labels, cleared up to `clear`, are cleared up to r: `end` or further, but not past `limit`
 pub record Cleared (l l' : List ℕ) (clear end limit r : ℕ) : Type 0 where
   pub from : clear ≤ r
   pub reach : end ≤ r
   pub upto : r ≤ limit
-  pub filled : Filled l l' clear r 0
+  pub filled : Stored (λ _. 0) clear (r - clear) l l'
 
 -- cleared so, up to r, and then the value v from `start` up to `end`
 pub record RunPainted (l l' : List ℕ) (clear start end limit v r : ℕ) : Type 0 where
   pub between : List ℕ
   pub cleared : Cleared l between clear end limit r
-  pub filled : Filled between l' start end v
+  pub filled : Stored (λ _. v) start (end - start) between l'
 
 -- c runs within n dots, with their numbers, and a label for each dot
 pub record Paintable (s : List ℕ) (c : ℕ) (l : List ℕ) (n : ℕ) : Type 0 where

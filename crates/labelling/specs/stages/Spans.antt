@@ -4,6 +4,7 @@ use mathlib.Core.List.{List}
 use Prim.Native.Nat.{ℕ, suc, _+_, _*_, _/_, _%_, _≤_, _<_, max}
 use lib.ListN.{take}
 use Rattle.memory.specs.rules.Lists.{countIf}
+use Rattle.memory.specs.rules.Limits.{maxMaskSide}
 use Rattle.labelling.specs.stages.Absorbing.{absorbedSpan}
 use Rattle.labelling.specs.stages.InkRuns.{startOf, endOf, isRoot, componentNumber, componentRuns}
 use Rattle.labelling.specs.stages.Linking.{firstRun}
@@ -29,7 +30,7 @@ pub record SpanOf (w c : ℕ) (t : List ℕ) (first next last dots sum : ℕ) : 
   pub from : startOf t first % w ≤ last
   pub narrow : last < w
   pub few : dots ≤ suc last
-  pub light : sum ≤ 131072 * dots
+  pub light : sum ≤ maxMaskSide * dots
   pub ends : (j : ℕ) → suc j ≡ next → endOf t 0 j ≡ startOf t first / w * w + suc last
   pub counted : max (countTo w c t first) (numberByRuns w c t first) ≡ countTo w c t next
   pub own : recordTo w c t (numberByRuns w c t first) next ≡ absorbedSpan (recordTo w c t (numberByRuns w c t first) first) (startOf t first % w) last dots sum (startOf t first / w)

@@ -3,10 +3,10 @@ use mathlib.Core.Path.{_≡_}
 use mathlib.Core.List.{List}
 use Prim.Native.Nat.{ℕ, _*_, _≤_, _<_}
 use lib.ListN.{length}
-use Rattle.memory.specs.rules.Limits.{maxMaskSide, maxMaskDots, maxCapacity, scratchWords}
+use Rattle.memory.specs.rules.Limits.{maxMaskSide, maxMaskDots, maxCapacity, componentWords, scratchWords}
 use Rattle.labelling.specs.rules.Labels.{Labelling, labelling}
 use Rattle.labelling.specs.declared.entry.LabelAnswer.{LabelAnswer}
-use Rattle.labelling.specs.rules.Answer.{answerOf, manyRefusal, labelsLeft, componentsLeft, labelMask}
+use Rattle.labelling.specs.rules.Answer.{answerOf, manyRefusal, labelsLeft, componentsLeft}
 
 -- a call that only 20 can refuse
 pub record Workable (w h : ℕ) (m : List ℕ) (P : ℕ) (labels components s : List ℕ) : Type 0 where
@@ -18,7 +18,7 @@ pub record Workable (w h : ℕ) (m : List ℕ) (P : ℕ) (labels components s : 
   pub whole : length m ≡ w * h
   pub few : P ≤ maxCapacity
   pub labels-room : w * h ≤ length labels
-  pub records-room : 9 * P ≤ length components
+  pub records-room : componentWords * P ≤ length components
   pub words-room : scratchWords (w * h) P ≤ length s
 
 -- what the stages leave

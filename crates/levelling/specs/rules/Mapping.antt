@@ -3,7 +3,7 @@ use Prim.Native.Nat.{ℕ, _-_, min}
 use lib.IntN.{ℤ, subℕ}
 use lib.ListN.{getD}
 use Rattle.memory.specs.declared.rect.Rect.{Rect}
-use Rattle.levelling.specs.rules.Shears.{lesserℤ, greaterℤ, natural}
+use Rattle.levelling.specs.rules.Shears.{minℤ, greaterℤ, natural}
 use Rattle.levelling.specs.rules.Frames.{Frame}
 use Rattle.levelling.specs.declared.Point.{Point}
 
@@ -25,8 +25,8 @@ rectToPage f r =
     let c = toPage f (r .x0) (r .y1) in
     let d = toPage f (r .x1) (r .y1) in
     record {
-      x0 = clamped (f .page-w) (lesserℤ (lesserℤ (a .x) (b .x)) (lesserℤ (c .x) (d .x)));
-      y0 = clamped (f .page-h) (lesserℤ (lesserℤ (a .y) (b .y)) (lesserℤ (c .y) (d .y)));
+      x0 = clamped (f .page-w) (minℤ (minℤ (a .x) (b .x)) (minℤ (c .x) (d .x)));
+      y0 = clamped (f .page-h) (minℤ (minℤ (a .y) (b .y)) (minℤ (c .y) (d .y)));
       x1 = clamped (f .page-w) (greaterℤ (greaterℤ (a .x) (b .x)) (greaterℤ (c .x) (d .x)));
       y1 = clamped (f .page-h) (greaterℤ (greaterℤ (a .y) (b .y)) (greaterℤ (c .y) (d .y)));
     }

@@ -25,11 +25,11 @@ driftOf Drift.Row slope c = drift slope c
 driftOf Drift.Column slope r = driftX slope r
 
 -- the lesser of two integers
-abbrev pub lesserℤ : ℤ → ℤ → ℤ
-lesserℤ (pos a) (pos b) = pos (min a b)
-lesserℤ (pos a) (negsuc b) = negsuc b
-lesserℤ (negsuc a) (pos b) = negsuc a
-lesserℤ (negsuc a) (negsuc b) = negsuc (max a b)
+abbrev pub minℤ : ℤ → ℤ → ℤ
+minℤ (pos a) (pos b) = pos (min a b)
+minℤ (pos a) (negsuc b) = negsuc b
+minℤ (negsuc a) (pos b) = negsuc a
+minℤ (negsuc a) (negsuc b) = negsuc (max a b)
 
 -- the greater of two integers
 abbrev pub greaterℤ : ℤ → ℤ → ℤ
@@ -46,7 +46,7 @@ natural (negsuc n) = 0
 -- the least of d and the entries
 unfoldable pub leastEntry : ℤ → List ℤ → ℤ
 leastEntry d [] = d
-leastEntry d (e ∷ t) = lesserℤ e (leastEntry d t)
+leastEntry d (e ∷ t) = minℤ e (leastEntry d t)
 
 -- each table minus its least entry is the shear
 unfoldable pub shearOf : List ℤ → List ℕ

@@ -5,11 +5,11 @@ use lib.IntN.{ℤ, _-ℤ_}
 use lib.Ieee.{Float}
 use Rattle.rounding.specs.rules.Drift.{WithinOne}
 use Rattle.levelling.specs.declared.shears.Drift.{Drift}
-use Rattle.levelling.specs.rules.Shears.{lesserℤ, natural, driftOf}
+use Rattle.levelling.specs.rules.Shears.{minℤ, natural, driftOf}
 
 -- the lesser of the first and the last of n drifts
 abbrev pub leastEnd : (ℕ → ℤ) → ℕ → ℤ
-leastEnd d n = lesserℤ (d 0) (d (n - 1))
+leastEnd d n = minℤ (d 0) (d (n - 1))
 
 -- `least` is the least of some n drifts, at least k
 pub record LeastOf (which : Drift) (slope : Float) (k : ℕ) (least : ℤ) : Type 0 where

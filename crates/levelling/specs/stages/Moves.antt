@@ -1,4 +1,4 @@
--- How the code moves a page plane: frame rows by stretches of columns, or page dots by tiles of columns. No promise of the crate names
+-- How the code moves a page plane: frame rows by plateaus of columns, or page dots by tiles of columns. No promise of the crate names
 -- these; that they come to `levelled` is a law.
 use Prim.Native.Nat.{ℕ, zero, suc, _+_, _-_, _*_, _≤_, _<_}
 use mathlib.Core.Path.{_≡_}
@@ -17,14 +17,14 @@ unfoldable pub columnAt : List ℕ → ℕ → ℕ → ℕ → ℕ → ℕ → �
 columnAt page fill page-w page-h r s c = cond (leb s r && ltb (r - s) page-h) (getD page ((r - s) * page-w + c) fill) fill
 
 -- the columns from c up to e move by the same number of rows
-pub record Stretch (shear : List ℕ) (c e : ℕ) : Type 0 where
+pub record Plateau (shear : List ℕ) (c e : ℕ) : Type 0 where
   pub some : c < e
   pub inside : e ≤ length shear
   pub level : (k : ℕ) → c ≤ k → k < e → getD shear k 0 ≡ getD shear c 0
 
--- from each column c on, `from` and behind, such a stretch ends at ends[c]
-abbrev pub Stretches : List ℕ → List ℕ → ℕ → Type 0
-Stretches shear ends from = (c : ℕ) → from ≤ c → c < length shear → Stretch shear c (getD ends c 0)
+-- from each column c on, `from` and behind, such a plateau ends at ends[c]
+abbrev pub Plateaus : List ℕ → List ℕ → ℕ → Type 0
+Plateaus shear ends from = (c : ℕ) → from ≤ c → c < length shear → Plateau shear c (getD ends c 0)
 
 -- the number in a frame w wide of page dot (c, y)
 abbrev pub placeOf : List ℕ → List ℕ → ℕ → ℕ → ℕ → ℕ

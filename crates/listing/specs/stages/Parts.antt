@@ -12,6 +12,14 @@ fieldsFrom kind s from = fieldsText kind (wordFrom s from) (fieldCount kind)
 abbrev pub threeKinds : ℕ → List ℕ → ℕ → List ℕ → ℕ → List ℕ → ℕ → List ℕ
 threeKinds kind a m b n c k = entriesText kind a m ++ entriesText (kind + 1) b n ++ entriesText (kind + 2) c k
 
+-- the entries of lines, blocks and rules, as many as the figures say
+abbrev pub linesToRules : List ℕ → List ℕ → List ℕ → List ℕ → List ℕ
+linesToRules figures lines blocks rules = threeKinds 1 lines (lineCount figures) blocks (blockCount figures) rules (ruleCount figures)
+
+-- .. and those of graphics, glyphs and columns
+abbrev pub graphicsToColumns : List ℕ → List ℕ → List ℕ → List ℕ → List ℕ
+graphicsToColumns figures graphics glyphs columns = threeKinds 4 graphics (graphicCount figures) glyphs (glyphCount figures) columns (columnCount figures)
+
 -- all digits of a format
 abbrev pub allDigits : List ℕ → ℕ
 allDigits [] = 0

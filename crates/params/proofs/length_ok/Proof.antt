@@ -2,7 +2,7 @@ use mathlib.Core.Path.{_≡_, refl, ap}
 use mathlib.Core.Bool.{Bool, true, false, not, _&&_, _||_}
 use lib.Ieee.{Float, nan, inf, fin, ofBits, neg, div, lt}
 use lib.Ieee.Scale.{finite}
-use Rattle.params.specs.rules.Valid.{zero, tenThousand}
+use Rattle.params.specs.rules.Valid.{floatZero, tenThousand}
 use Rattle.params.proofs.length_ok.Statement.{statement}
 use Rattle.params.proofs.length_ok.Tie as tie
 
@@ -16,7 +16,7 @@ finite-is (fin s m e) = refl
 
 returns : tie.Need-returns
 unfolding ofBits neg div
-returns c = ap (λ (b : Bool). not (not b || lt (c .args .v) zero || lt tenThousand (c .args .v))) (finite-is (c .args .v))
+returns c = ap (λ (b : Bool). not (not b || lt (c .args .v) floatZero || lt tenThousand (c .args .v))) (finite-is (c .args .v))
 
 pub length-ok-spec : {M : Type 1} → statement M
 length-ok-spec = tie.close (tie.spec returns)

@@ -4,12 +4,12 @@ use lib.Dec.{T}
 use lib.Ieee.{Float, lt, le}
 use lib.Ieee.Scale.{finite}
 use Rattle.params.specs.declared.LayoutParams.{LayoutParams}
-use Rattle.params.specs.rules.Valid.{zero, one, tenThousand}
+use Rattle.params.specs.rules.Valid.{floatZero, floatOne, tenThousand}
 
 -- a finite float from 0 to 10,000
 pub record Length (v : Float) : Type 0 where
   pub is-finite : T (finite v)
-  pub low : T (le zero v)
+  pub low : T (le floatZero v)
   pub high : T (le v tenThousand)
 
 -- each float is a length; then the tests that follow, in the Rust's order
@@ -29,11 +29,11 @@ pub record ValidSheet (p : LayoutParams) : Type 0 where
   pub column-gap : Length (p .«column_gap_xh»)
   pub column-cover : Length (p .«column_cover_frac»)
   pub shear-min : Length (p .«shear_min_deg»)
-  pub extent-above-zero : T (lt zero (p .«glyph_max_extent_frac»))
-  pub extent-at-most-one : T (le (p .«glyph_max_extent_frac») one)
-  pub fallback-at-least-one : T (le one (p .«xheight_fallback_px»))
-  pub overlap-at-most-one : T (le (p .«block_min_overlap») one)
-  pub cover-below-one : T (lt (p .«column_cover_frac») one)
+  pub extent-above-zero : T (lt floatZero (p .«glyph_max_extent_frac»))
+  pub extent-at-most-one : T (le (p .«glyph_max_extent_frac») floatOne)
+  pub fallback-at-least-one : T (le floatOne (p .«xheight_fallback_px»))
+  pub overlap-at-most-one : T (le (p .«block_min_overlap») floatOne)
+  pub cover-below-one : T (lt (p .«column_cover_frac») floatOne)
   pub line-heights-in-order : T (le (p .«line_min_height_xh») (p .«line_max_height_xh»))
   pub some-glyph-area : 1 ≤ p .«glyph_min_area»
   pub some-line-glyphs : 1 ≤ p .«line_min_glyphs»

@@ -8,22 +8,22 @@ use lib.Ieee.Scale.{finite}
 use Rattle.params.specs.declared.LayoutParams.{LayoutParams}
 
 -- the numbers that the tests compare with, by their bits
-abbrev pub zero : Float
-zero = ofBits binary64 0
+abbrev pub floatZero : Float
+floatZero = ofBits binary64 0
 
-abbrev pub one : Float
-one = ofBits binary64 0x3ff0_0000_0000_0000
+abbrev pub floatOne : Float
+floatOne = ofBits binary64 0x3ff0_0000_0000_0000
 
 abbrev pub tenThousand : Float
 tenThousand = ofBits binary64 0x40c3_8800_0000_0000
 
-zero-is : zero ≡ ofInt binary64 (pos 0)
+float-zero-is : floatZero ≡ ofInt binary64 (pos 0)
 unfolding ofBits ofInt
-zero-is = refl
+float-zero-is = refl
 
-one-is : one ≡ ofInt binary64 (pos 1)
+float-one-is : floatOne ≡ ofInt binary64 (pos 1)
 unfolding ofBits ofInt
-one-is = refl
+float-one-is = refl
 
 ten-thousand-is : tenThousand ≡ ofInt binary64 (pos 10000)
 unfolding ofBits ofInt
@@ -31,7 +31,7 @@ ten-thousand-is = refl
 
 -- `!v.is_finite() || v < 0.0 || v > 1.0e4` is bad
 abbrev pub lengthOk : Float → Bool
-lengthOk v = not (not (finite v) || lt v zero || lt tenThousand v)
+lengthOk v = not (not (finite v) || lt v floatZero || lt tenThousand v)
 
 -- each of the list `lengths`
 abbrev pub lengthsOk : LayoutParams → Bool
@@ -54,15 +54,15 @@ lengthsOk p =
 
 -- `!(glyph_max_extent_frac > 0.0 && glyph_max_extent_frac <= 1.0)` is bad
 abbrev pub extentOk : LayoutParams → Bool
-extentOk p = lt zero (p .«glyph_max_extent_frac») && le (p .«glyph_max_extent_frac») one
+extentOk p = lt floatZero (p .«glyph_max_extent_frac») && le (p .«glyph_max_extent_frac») floatOne
 
 -- `xheight_fallback_px < 1.0` is bad
 abbrev pub fallbackOk : LayoutParams → Bool
-fallbackOk p = not (lt (p .«xheight_fallback_px») one)
+fallbackOk p = not (lt (p .«xheight_fallback_px») floatOne)
 
 -- `block_min_overlap > 1.0 || column_cover_frac >= 1.0` is bad
 abbrev pub fractionsOk : LayoutParams → Bool
-fractionsOk p = not (lt one (p .«block_min_overlap») || le one (p .«column_cover_frac»))
+fractionsOk p = not (lt floatOne (p .«block_min_overlap») || le floatOne (p .«column_cover_frac»))
 
 -- `line_min_height_xh > line_max_height_xh` is bad
 abbrev pub heightsOk : LayoutParams → Bool

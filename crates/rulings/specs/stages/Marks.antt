@@ -8,7 +8,7 @@ use Rattle.memory.specs.rules.Lists.{table}
 use Rattle.memory.specs.rules.Masks.{isInk}
 use Rattle.memory.specs.rules.Words.{over}
 use Rattle.rulings.specs.rules.Rulings.{cutHorizontal, cutVertical}
-use Rattle.rulings.specs.declared.lines.Found.{Found}
+use Rattle.rulings.specs.declared.scanlines.Found.{Found}
 
 -- the mark of dot i: 1 in the horizontal cut mask, 2 in the vertical one, 3 in both
 unfoldable pub cutMark : ℕ → ℕ → ℕ → ℕ → List ℕ → ℕ → ℕ

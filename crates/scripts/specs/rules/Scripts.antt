@@ -179,8 +179,8 @@ sheetFrom w fs =
     (numberAt fs (f + 14))
 
 -- its box
-unfoldable pub boxOf : List ℕ → Rect
-boxOf w = record { x0 = wordAt w leftAt; y0 = wordAt w topAt; x1 = wordAt w rightAt; y1 = wordAt w bottomAt }
+unfoldable pub boxFrom : List ℕ → Rect
+boxFrom w = record { x0 = wordAt w leftAt; y0 = wordAt w topAt; x1 = wordAt w rightAt; y1 = wordAt w bottomAt }
 
 -- what levelling is handed
 unfoldable pub leafFrom : List ℕ → List Float → List ℕ → Leaf
@@ -199,21 +199,21 @@ listNamed n =
 unfoldable pub levelReading : List ℕ → List ℕ → Outputs → LevelReading
 levelReading w bs o =
     cond (eqb (wordAt w opAt) 3) (point (wordAt w leftAt) (wordAt w topAt) (lentOf w outAt (o .integers)))
-    (cond (eqb (wordAt w opAt) 4) (box (boxOf w) (lentOf w outAt (o .integers)))
+    (cond (eqb (wordAt w opAt) 4) (box (boxFrom w) (lentOf w outAt (o .integers)))
     (cond (eqb (wordAt w opAt) 5) (gray (bytesOf w bs) (lentOf w outAt (o .gray))) (frameFigures (lentOf w outAt (o .words)))))
 
 -- 7 and 11 to 17: those that fill words
 unfoldable pub wordsReading : List ℕ → List ℕ → ResultReading
 wordsReading w out =
     cond (eqb (wordAt w opAt) 7) (figures out)
-    (cond (eqb (wordAt w opAt) 11) (dots (wordAt w kindAt) (boxOf w) out) (list (listNamed (wordAt w opAt)) out))
+    (cond (eqb (wordAt w opAt) 11) (dots (wordAt w kindAt) (boxFrom w) out) (list (listNamed (wordAt w opAt)) out))
 
 -- 7 to 18: the summary fills numbers, the twenty-line measure and a count of dots nothing, the sheet bytes
 unfoldable pub resultReading : List ℕ → Outputs → ResultReading
 resultReading w o =
     cond (eqb (wordAt w opAt) 8) (summary (lentOf w outAt (o .numbers)))
     (cond (eqb (wordAt w opAt) 9) twentyLines
-    (cond (eqb (wordAt w opAt) 10) (countDots (wordAt w kindAt) (boxOf w))
+    (cond (eqb (wordAt w opAt) 10) (countDots (wordAt w kindAt) (boxFrom w))
     (cond (eqb (wordAt w opAt) 18) (listing (lentOf w outAt (o .gray))) (wordsReading w (lentOf w outAt (o .words))))))
 
 -- the act, with x words of scratch

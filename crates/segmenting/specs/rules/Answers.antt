@@ -21,11 +21,11 @@ pub record SegmentOutcome : Type 0 where
   pub answer : SegmentAnswer
   pub number : ℕ
   pub results : List ℕ
-  pub kinds : List ℕ
+  pub plane : List ℕ
 
 -- what a segmentation with the answer r leaves
 abbrev pub segmentOutcome : SegmentAnswer → List ℕ → List ℕ → SegmentOutcome
-segmentOutcome r results kinds = record { answer = r; number = segmentNumber r; results = results; kinds = kinds }
+segmentOutcome r results plane = record { answer = r; number = segmentNumber r; results = results; plane = plane }
 
 -- one answer or the other
 abbrev pub pickSegment : Bool → SegmentAnswer → SegmentAnswer → SegmentAnswer
@@ -34,9 +34,9 @@ pickSegment false a b = b
 
 -- the layout l, refused with n: all is as it was; with 0: its figures, its lists in their places, its plane of kinds over the front
 unfoldable pub segmentOutcomeBy : ℕ → ℕ → ℕ → Layout → List ℕ → List ℕ → SegmentOutcome
-segmentOutcomeBy n w P l results kinds =
-    segmentOutcome (pickSegment (eqb n 0) (Segmented (figuresOf l)) (Refused n)) (cond (eqb n 0) (resultsLeft w P l results) results) (cond (eqb n 0) (over (l .kinds) kinds) kinds)
+segmentOutcomeBy n w P l results plane =
+    segmentOutcome (pickSegment (eqb n 0) (Segmented (figuresOf l)) (Refused n)) (cond (eqb n 0) (resultsLeft w P l results) results) (cond (eqb n 0) (over (l .plane) plane) plane)
 
 -- what the segmentation of an ink plane w wide and h high by a sheet leaves
 unfoldable pub segmentPlane : LayoutParams → ℕ → ℕ → List ℕ → ℕ → List ℕ → List ℕ → SegmentOutcome
-segmentPlane p w h m P results kinds = segmentOutcomeBy (layoutRefusal P (layout p w h m)) w P (layout p w h m) results kinds
+segmentPlane p w h m P results plane = segmentOutcomeBy (layoutRefusal P (layout p w h m)) w P (layout p w h m) results plane

@@ -31,7 +31,7 @@ pub record Layout : Type 0 where
   pub glyphs : List GlyphBox
   pub columns : List Column
   -- 01's sort plane
-  pub kinds : List ℕ
+  pub plane : List ℕ
   -- counted before the cut
   pub ink-pixels : ℕ
   pub counts : KindCounts
@@ -49,9 +49,9 @@ unfoldable pub layout : LayoutParams → ℕ → ℕ → List ℕ → Layout
 layout p w h m =
     let s = sorted p w h m in
     let unit = unitValue (s .unit) in
-    let rows = labelling w h (smoothed (smoothingGap p unit) w h (s .plane)) in
-    let gs = labelledGlyphs (s .rest) (s .kinds) rows in
-    let ls = keptLines p unit gs (rows .components) in
+    let smears = labelling w h (smoothed (smoothingGap p unit) w h (s .plane)) in
+    let gs = labelledGlyphs (s .rest) (s .kinds) smears in
+    let ls = keptLines p unit gs (smears .components) in
     let boxes = map (λ (l : SmoothedLine). l .bbox) ls in
     let fs = blockFirsts p boxes in
     record {
@@ -62,10 +62,10 @@ layout p w h m =
       graphics = graphicsOf p w h s;
       glyphs = map (glyphBox ls) gs;
       columns = columnsOf p unit w boxes;
-      kinds = s .plane;
+      plane = s .plane;
       ink-pixels = occurs 1 m;
       counts = kindCounts (s .plane);
-      components = map (λ (l : Labelling). length (l .components)) (s .ink ∷ s .horizontal ∷ s .vertical ∷ s .rest ∷ rows ∷ []);
+      components = map (λ (l : Labelling). length (l .components)) (s .ink ∷ s .horizontal ∷ s .vertical ∷ s .rest ∷ smears ∷ []);
     }
 
 -- a page: what levelling gives, and the segmentation of its ink

@@ -3,6 +3,7 @@ use mathlib.Core.List.{List, [], _∷_}
 use Prim.Native.Nat.{ℕ, _+_, _*_}
 use Rattle.memory.specs.rules.Words.{over, putAt}
 use Rattle.memory.specs.rules.Records.{encoded}
+use Rattle.memory.specs.rules.Rects.{boxWords}
 use Rattle.memory.specs.declared.rect.Rect.{Rect}
 use Rattle.segmenting.specs.rules.Layouts.{Layout}
 use Rattle.grouping.specs.rules.BlockRecords.{columnRecord, blockRecord}
@@ -31,10 +32,6 @@ blocksAt w P = rulesAt w + 30 * P
 -- all of them
 abbrev pub resultWords : ℕ → ℕ → ℕ
 resultWords w P = rulesAt w + 35 * P
-
--- a box: four words
-abbrev pub boxWords : Rect → List ℕ
-boxWords r = r .x0 ∷ r .y0 ∷ r .x1 ∷ r .y1 ∷ []
 
 -- the lists of a layout in their places
 unfoldable pub resultsLeft : ℕ → ℕ → Layout → List ℕ → List ℕ

@@ -1,17 +1,18 @@
 -- Boxes and kinds of components, and packed boxes of cuts, as the words of scratch hold them.
 use mathlib.Core.Path.{_≡_}
 use mathlib.Core.List.{List, _++_, map}
-use Prim.Native.Nat.{ℕ, _+_, _*_, _/_, _%_, _<_}
+use Prim.Native.Nat.{ℕ, _+_, _*_, _%_, _<_}
 use lib.ListN.{getD, length}
 use lib.Dec.{eqb}
 use Rattle.memory.specs.rules.Lists.{table, upto, keep, total}
+use Rattle.memory.specs.rules.Rects.{boxAt}
 use Rattle.memory.specs.declared.rect.Rect.{Rect}
 use Rattle.sorting.specs.rules.Kinds.{ruleKind}
+use Rattle.sorting.specs.stages.Measures.{unpacked}
 
--- the box of component k, whose size is five words from word sizes + 5 × k on
+-- the box of component k, behind its area in the five words from word sizes + 5 × k on
 abbrev pub heldBox : List ℕ → ℕ → ℕ → Rect
-heldBox s sizes k =
-    record { x0 = getD s (sizes + 5 * k + 1) 0; y0 = getD s (sizes + 5 * k + 2) 0; x1 = getD s (sizes + 5 * k + 3) 0; y1 = getD s (sizes + 5 * k + 4) 0 }
+heldBox s sizes k = boxAt s (sizes + 5 * k + 1)
 
 -- its kind: the remainder by 8 of word kinds + k
 abbrev pub heldKind : List ℕ → ℕ → ℕ → ℕ
@@ -35,7 +36,7 @@ heldArea s sizes kinds kind n = total (map (λ k. getD s (sizes + 5 * k) 0) (ofK
 
 -- the box packed in the two words at `at`
 abbrev pub unpackedBox : List ℕ → ℕ → Rect
-unpackedBox s at = record { x0 = getD s at 0 % 32768; y0 = getD s (at + 1) 0 % 32768; x1 = getD s at 0 / 32768; y1 = getD s (at + 1) 0 / 32768 }
+unpackedBox s at = unpacked (getD s at 0) (getD s (at + 1) 0)
 
 -- n boxes packed from word `from` on
 unfoldable pub unpackedBoxes : List ℕ → ℕ → ℕ → List Rect

@@ -3,8 +3,8 @@ use mathlib.Core.List.{List}
 use Prim.Native.Nat.{ℕ, _*_, _≤_}
 use Rattle.params.specs.declared.LayoutParams.{LayoutParams}
 use Rattle.sorting.specs.stages.Scratch.{SortRoom}
-use Rattle.sorting.specs.stages.Sortings.{SortHeld}
-use Rattle.sorting.specs.declared.sort.Sorting.{Sorting}
+use Rattle.sorting.specs.stages.SortSteps.{SortHeld}
+use Rattle.sorting.specs.declared.sort.SortCounts.{SortCounts}
 use Rattle.segmenting.specs.rules.Results.{resultWords}
 
 -- an ink plane within the limits of a frame, a valid sheet, scratch for it, and room for results and kinds
@@ -14,6 +14,6 @@ pub record SegmentRoom (p : LayoutParams) (w h : ℕ) (m : List ℕ) (P : ℕ) (
   pub kinds-room : w * h ≤ kinds
 
 -- the same with the plane sorted in scratch
-pub record SortedRoom (p : LayoutParams) (w h : ℕ) (m : List ℕ) (P : ℕ) (s : List ℕ) (f : Sorting) (results kinds : ℕ) : Type 0 where
+pub record SortedRoom (p : LayoutParams) (w h : ℕ) (m : List ℕ) (P : ℕ) (s : List ℕ) (f : SortCounts) (results kinds : ℕ) : Type 0 where
   pub room : SegmentRoom p w h m P s results kinds
   pub held : SortHeld p w h m P s f

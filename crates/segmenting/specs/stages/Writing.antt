@@ -13,26 +13,27 @@ use Rattle.memory.specs.declared.rect.Rect.{Rect}
 use Rattle.labelling.specs.declared.component.Component.{Component}
 use Rattle.params.specs.declared.LayoutParams.{LayoutParams}
 use Rattle.sorting.specs.rules.Kinds.{graphicKind}
-use Rattle.sorting.specs.stages.Scratch.{horizontalAt, verticalAt, sizesAt, kindsAt, smoothedAt, glyphsAt, SortRoom, SortedFigures}
+use Rattle.sorting.specs.stages.Scratch.{horizontalAt, verticalAt, sizesAt, kindsAt, smearsAt, glyphsAt, SortRoom, SortedFigures}
 use Rattle.sorting.specs.rules.Capacity.{mostComponents}
 use Rattle.sorting.specs.rules.Sorted.{sorted}
-use Rattle.sorting.specs.declared.sort.Sorting.{Sorting}
+use Rattle.sorting.specs.declared.sort.SortCounts.{SortCounts}
 use Rattle.sorting.specs.declared.Unit.{Unit}
 use Rattle.smoothing.specs.rules.Lines.{LabelledGlyph, SmoothedLine, keptLines, lineNumber, TextLine, glyphBox}
 use Rattle.grouping.specs.rules.Blocks.{blockFirsts, blocksOf}
 use Rattle.grouping.specs.rules.Columns.{columnsOf}
 use Rattle.segmenting.specs.rules.Layouts.{textLine}
-use Rattle.grouping.specs.stages.LineBoxes.{Inside}
+use Rattle.memory.specs.stages.Boxes.{Inside}
 use Rattle.smoothing.specs.rules.LineRecords.{lineRecord, glyphRecord}
 use Rattle.grouping.specs.rules.BlockRecords.{blockRecord, columnRecord}
-use Rattle.smoothing.specs.stages.LineWords.{glyphsOf, plainLine, lineRows, orderedRow, KeptFrom, HoldsGlyphs, HoldsRows}
-use Rattle.segmenting.specs.rules.Results.{rulesAt, graphicsAt, glyphRecordsAt, linesAt, blocksAt, resultWords, boxWords}
+use Rattle.smoothing.specs.stages.LineWords.{glyphsOf, plainLine, lineSmears, orderedSmear, KeptFrom, HoldsGlyphs, HoldsSmears}
+use Rattle.memory.specs.rules.Rects.{boxWords}
+use Rattle.segmenting.specs.rules.Results.{rulesAt, graphicsAt, glyphRecordsAt, linesAt, blocksAt, resultWords}
 use Rattle.segmenting.specs.stages.Held.{heldBoxes, heldRules}
-use Rattle.smoothing.specs.stages.Segments.{RowsHeld}
+use Rattle.smoothing.specs.stages.Segments.{SmearsHeld}
 use Rattle.segmenting.specs.declared.results.Segmentation.{Segmentation}
 use Rattle.segmenting.specs.declared.results.KindDots.{KindDots}
 use Rattle.smoothing.specs.declared.lines.LinePlaces.{LinePlaces}
-use Rattle.smoothing.specs.declared.rows.Rows.{Rows}
+use Rattle.smoothing.specs.declared.smears.Smears.{Smears}
 use Rattle.segmenting.specs.declared.lists.BoxCounts.{BoxCounts}
 use Rattle.segmenting.specs.declared.groups.GroupCounts.{GroupCounts}
 
@@ -68,16 +69,16 @@ abbrev pub plainRecords : List SmoothedLine → List ℕ
 plainRecords ls = encoded lineRecord (table (plainLine ls) (length ls))
 
 -- scratch holds the components cs of a frame h high, with kinds and labels, and the smoothed components; their lines are few
-pub record LinesHeld (p : LayoutParams) (unit : Float) (cs : List Component) (ks : List ℕ) (labels : ℕ → ℕ) (rows : List Component) (w h dots P : ℕ) (s : List ℕ) (results : ℕ) : Type 0 where
+pub record LinesHeld (p : LayoutParams) (unit : Float) (cs : List Component) (ks : List ℕ) (labels : ℕ → ℕ) (smears : List Component) (w h dots P : ℕ) (s : List ℕ) (results : ℕ) : Type 0 where
   pub glyphs : HoldsGlyphs cs ks labels (sizesAt dots P) (kindsAt dots P) s
-  pub smoothed : HoldsRows (glyphsOf cs ks labels) rows (smoothedAt dots P) (glyphsAt dots P) s
+  pub smoothed : HoldsSmears (glyphsOf cs ks labels) smears (smearsAt dots P) (glyphsAt dots P) s
   pub few : P ≤ maxCapacity
   pub few-components : length cs ≤ P
-  pub few-rows : length rows ≤ P
-  pub few-lines : length (keptLines p unit (glyphsOf cs ks labels) rows) ≤ maxLines
-  pub low : (k : ℕ) → k < length cs → labels k ≤ length rows
+  pub few-smears : length smears ≤ P
+  pub few-lines : length (keptLines p unit (glyphsOf cs ks labels) smears) ≤ maxLines
+  pub low : (k : ℕ) → k < length cs → labels k ≤ length smears
   pub boxes : (k : ℕ) → k < length cs → Inside w h (boxOf (getD cs k noDots))
-  pub row-boxes : (t : ℕ) → t < length rows → Inside w h (boxOf (getD rows t noDots))
+  pub smear-boxes : (t : ℕ) → t < length smears → Inside w h (boxOf (getD smears t noDots))
   pub ink : total (map (λ (c : Component). c .area) cs) ≤ 4294967295
   pub heights : h < dots + 64
   pub high : h ≤ maxFrameHeight
@@ -85,22 +86,22 @@ pub record LinesHeld (p : LayoutParams) (unit : Float) (cs : List Component) (ks
   pub results-room : resultWords w P ≤ results
 
 -- the labels of the lines stand in order where the boxes of the horizontal cuts stood, the line of each label where those of the vertical cuts stood
-pub record LinesOrdered (p : LayoutParams) (unit : Float) (cs : List Component) (ks : List ℕ) (labels : ℕ → ℕ) (rows : List Component) (dots P : ℕ) (s s' : List ℕ) (r : ℕ) : Type 0 where
-  pub count : r ≡ length (keptLines p unit (glyphsOf cs ks labels) rows)
+pub record LinesOrdered (p : LayoutParams) (unit : Float) (cs : List Component) (ks : List ℕ) (labels : ℕ → ℕ) (smears : List Component) (dots P : ℕ) (s s' : List ℕ) (r : ℕ) : Type 0 where
+  pub count : r ≡ length (keptLines p unit (glyphsOf cs ks labels) smears)
   pub kept : KeptFrom (sizesAt dots P) s s'
-  pub few : r ≤ length rows
-  pub labelled : (i : ℕ) → i < r → (0 < getD s' (horizontalAt dots + i) 0) × (getD s' (horizontalAt dots + i) 0 ≤ length rows)
-  pub order : (i : ℕ) → i < r → orderedRow s' (horizontalAt dots) i ≡ getD (lineRows p unit s (smoothedAt dots P) (glyphsAt dots P) (length rows)) i 0
-  pub numbers : (t : ℕ) → t < length rows → getD s' (verticalAt dots P + t) 0 ≡ lineNumber (keptLines p unit (glyphsOf cs ks labels) rows) (suc t)
+  pub few : r ≤ length smears
+  pub labelled : (i : ℕ) → i < r → (0 < getD s' (horizontalAt dots + i) 0) × (getD s' (horizontalAt dots + i) 0 ≤ length smears)
+  pub order : (i : ℕ) → i < r → orderedSmear s' (horizontalAt dots) i ≡ getD (lineSmears p unit s (smearsAt dots P) (glyphsAt dots P) (length smears)) i 0
+  pub numbers : (t : ℕ) → t < length smears → getD s' (verticalAt dots P + t) 0 ≡ lineNumber (keptLines p unit (glyphsOf cs ks labels) smears) (suc t)
 
 -- where writing the lines finds glyphs and lines in scratch: the lists of glyphs stand behind the order of the lines and behind the line of each label
 abbrev pub linePlaces : ℕ → ℕ → ℕ → ℕ → ℕ → LinePlaces
-linePlaces h dots P components rows =
+linePlaces h dots P components smears =
     record {
       order = horizontalAt dots;
-      smoothed = smoothedAt dots P;
+      smoothed = smearsAt dots P;
       glyphs = glyphsAt dots P;
-      rows = rows;
+      smears = smears;
       sizes = sizesAt dots P;
       kinds = kindsAt dots P;
       count = components;
@@ -166,10 +167,10 @@ countedFigures unit ink dots boxes glyphs lines groups =
     }
 
 -- an ink plane, scratch that holds its page, the figures of both, and room for the results
-pub record ResultsRoom (p : LayoutParams) (w h : ℕ) (m : List ℕ) (P : ℕ) (s : List ℕ) (found : Sorting) (rows : Rows) (results kinds : ℕ) : Type 0 where
+pub record ResultsRoom (p : LayoutParams) (w h : ℕ) (m : List ℕ) (P : ℕ) (s : List ℕ) (found : SortCounts) (smears : Smears) (results kinds : ℕ) : Type 0 where
   pub plane : SortRoom p w h m P s
   pub few : mostComponents (sorted p w h m) ≤ P
-  pub figures : SortedFigures p w h m (found .unit) (found .ink) (found .horizontal) (found .vertical) (found .components)
-  pub held : RowsHeld p w h m P s (found .runs) rows
+  pub figures : SortedFigures p w h m (found .unit) (found .ink) (found .horizontal) (found .vertical) (found .«component_count»)
+  pub held : SmearsHeld p w h m P s (found .runs) smears
   pub results-room : resultWords w P ≤ results
   pub kinds-room : w * h ≤ kinds

@@ -28,8 +28,8 @@ pub record LabelledGlyph : Type 0 where
 
 -- the glyphs by number; the smoothed component of each is that of its first dot
 unfoldable pub labelledGlyphs : Labelling → List ℕ → Labelling → List LabelledGlyph
-labelledGlyphs rest kinds rows =
-    map (λ k. record { component = getD (rest .components) k noDots; label = getD (rows .labels) (firstDot (rest .labels) (suc k)) 0 })
+labelledGlyphs rest kinds smears =
+    map (λ k. record { component = getD (rest .components) k noDots; label = getD (smears .labels) (firstDot (rest .labels) (suc k)) 0 })
     (keep (λ k. eqb (getD kinds k 0) glyphKind) (upto (length (rest .components))))
 
 -- a smoothed component: its box, the number, ink and median height of its glyphs, its label
@@ -56,12 +56,14 @@ smoothedLine gs c t =
 abbrev pub noSmoothedLine : SmoothedLine
 noSmoothedLine = record { bbox = boxOf noDots; glyphs = 0; ink-area = 0; glyph-height = 0; label = 0 }
 
--- it is a line if it holds at least `line_min_glyphs` glyphs and its height lies within the two line heights × unit
-unfoldable pub isLine : LayoutParams → Float → SmoothedLine → Bool
-isLine p unit l =
-    leb (p .«line_min_glyphs») (l .glyphs)
-    && le (p .«line_min_height_xh» · unit) (float (height (l .bbox)))
-    && le (float (height (l .bbox))) (p .«line_max_height_xh» · unit)
+-- a line by size: at least `line_min_glyphs` glyphs, and a height within the two line heights × unit
+unfoldable pub lineBySize : LayoutParams → Float → ℕ → ℕ → Bool
+lineBySize p unit glyphs high =
+    leb (p .«line_min_glyphs») glyphs && le (p .«line_min_height_xh» · unit) (float high) && le (float high) (p .«line_max_height_xh» · unit)
+
+-- whether a smoothed component is a line
+abbrev pub isLine : LayoutParams → Float → SmoothedLine → Bool
+isLine p unit l = lineBySize p unit (l .glyphs) (height (l .bbox))
 
 -- the order of keys: by the first that differ
 unfoldable pub keysAtMost : List ℕ → List ℕ → Bool
@@ -75,9 +77,9 @@ lineKeys l = l .bbox .y0 ∷ l .bbox .x0 ∷ l .bbox .y1 ∷ l .bbox .x1 ∷ l .
 
 -- the lines among the smoothed components, in order
 unfoldable pub keptLines : LayoutParams → Float → List LabelledGlyph → List Component → List SmoothedLine
-keptLines p unit gs rows =
+keptLines p unit gs smears =
     sortBy (λ (a b : SmoothedLine). keysAtMost (lineKeys a) (lineKeys b))
-    (keep (isLine p unit) (table (λ t. smoothedLine gs (getD rows t noDots) (suc t)) (length rows)))
+    (keep (isLine p unit) (table (λ t. smoothedLine gs (getD smears t noDots) (suc t)) (length smears)))
 
 -- the number of the line with this label, or the mark of a glyph in no line
 unfoldable pub lineNumber : List SmoothedLine → ℕ → ℕ

@@ -28,16 +28,16 @@ walkedHeights s sizes nexts first n = table (λ i. height (boxAt s sizes (met s 
 
 -- a walk from the head of each label meets just the glyphs with that label, by number
 pub record GlyphLists (p : LinePlaces) (s : List ℕ) : Type 0 where
-  pub own : (t : ℕ) → t < p .rows
+  pub own : (t : ℕ) → t < p .smears
       → walked s (p .nexts) (getD s (p .heads + t) 0) (length (ownGlyphs s (p .kinds) (p .count) (suc t))) ≡ ownGlyphs s (p .kinds) (p .count) (suc t)
 
 -- labelled kinds, and before them a head for each label, then a next for each component
 pub record ListRoom (p : LinePlaces) (s : List ℕ) : Type 0 where
-  pub before-nexts : p .heads + p .rows ≤ p .nexts
+  pub before-nexts : p .heads + p .smears ≤ p .nexts
   pub before-kinds : p .nexts + p .count ≤ p .kinds
   pub room : p .kinds + p .count ≤ length s
   pub few : p .count ≤ maxCapacity
-  pub labels : (k : ℕ) → k < p .count → labelAt s (p .kinds) k ≤ p .rows
+  pub labels : (k : ℕ) → k < p .count → labelAt s (p .kinds) k ≤ p .smears
 
 -- component k stands at the head of its label's list, if it has a label
 pub record ListedGlyph (label heads nexts k : ℕ) (s s' : List ℕ) : Type 0 where
@@ -48,7 +48,7 @@ pub record ListedGlyph (label heads nexts k : ℕ) (s s' : List ℕ) : Type 0 wh
 pub record KeptBeside (at : ℕ) (p : LinePlaces) (s s' : List ℕ) : Type 0 where
   pub len : length s' ≡ length s
   pub before : (i : ℕ) → at ≤ i → i < p .heads → getD s' i 0 ≡ getD s i 0
-  pub between : (i : ℕ) → p .heads + p .rows ≤ i → i < p .nexts → getD s' i 0 ≡ getD s i 0
+  pub between : (i : ℕ) → p .heads + p .smears ≤ i → i < p .nexts → getD s' i 0 ≡ getD s i 0
   pub behind : (i : ℕ) → p .nexts + p .count ≤ i → getD s' i 0 ≡ getD s i 0
 
 -- sizes and nexts of all that a walk meets
@@ -83,9 +83,9 @@ pub record OwnRoom (p : LinePlaces) (s : List ℕ) : Type 0 where
   pub ink : total (table (areaAt s (p .sizes)) (p .count)) ≤ 4294967295
   pub before-smoothed : p .nexts + p .count ≤ p .smoothed
   pub before-glyphs : p .nexts + p .count ≤ p .glyphs
-  pub smoothed-room : p .smoothed + p .rows * 5 ≤ length s
-  pub glyphs-room : p .glyphs + p .rows ≤ length s
-  pub counted : (t : ℕ) → t < p .rows → getD s (p .glyphs + t) 0 ≡ length (ownGlyphs s (p .kinds) (p .count) (suc t))
+  pub smoothed-room : p .smoothed + p .smears * 5 ≤ length s
+  pub glyphs-room : p .glyphs + p .smears ≤ length s
+  pub counted : (t : ℕ) → t < p .smears → getD s (p .glyphs + t) 0 ≡ length (ownGlyphs s (p .kinds) (p .count) (suc t))
 
 -- the record of the line that smoothed component t is
 abbrev pub recordAt : LinePlaces → List ℕ → ℕ → List ℕ
@@ -103,5 +103,5 @@ pub record LinesRoom (p : LinePlaces) (n : ℕ) (s : List ℕ) (out : ℕ) : Typ
   pub before-order : p .heights + p .values ≤ p .order
   pub order-room : p .order + n ≤ p .heads
   pub labels : (i : ℕ) → i < n → 0 < getD s (p .order + i) 0
-  pub low : (i : ℕ) → i < n → getD s (p .order + i) 0 ≤ p .rows
+  pub low : (i : ℕ) → i < n → getD s (p .order + i) 0 ≤ p .smears
   pub room : n * 8 ≤ out

@@ -12,6 +12,7 @@ use Rattle.memory.specs.rules.Words.{over}
 use Rattle.memory.specs.rules.Records.{encoded}
 use Rattle.memory.specs.rules.Limits.{maxCapacity, maxLines}
 use Rattle.memory.specs.rules.Rects.{height}
+use Rattle.memory.specs.stages.Stored.{Stored}
 use Rattle.labelling.specs.rules.Components.{noDots}
 use Rattle.labelling.specs.stages.Sizes.{HoldsSizes}
 use Rattle.memory.specs.declared.rect.Rect.{Rect}
@@ -20,19 +21,12 @@ use Rattle.params.specs.declared.LayoutParams.{LayoutParams}
 use Rattle.rounding.specs.rules.Lengths.{float, _·_}
 use Rattle.sorting.specs.rules.Kinds.{glyphKind}
 use Rattle.sorting.specs.rules.Units.{median}
-use Rattle.smoothing.specs.rules.Lines.{LabelledGlyph, SmoothedLine, noSmoothedLine, TextLine, keysAtMost}
+use Rattle.smoothing.specs.rules.Lines.{LabelledGlyph, SmoothedLine, noSmoothedLine, TextLine, lineBySize, keysAtMost}
 
 -- the glyphs among these components, by number, each with the label of the smoothed component that holds it
 unfoldable pub glyphsOf : List Component → List ℕ → (ℕ → ℕ) → List LabelledGlyph
 glyphsOf cs kinds labels =
     map (λ k. record { component = getD cs k noDots; label = labels k }) (keep (λ k. eqb (getD kinds k 0) glyphKind) (upto (length cs)))
-
--- n words from `at` on have become f 0, f 1, ..; all other words are as they were
-pub record Filled (f : ℕ → ℕ) (at n : ℕ) (s s' : List ℕ) : Type 0 where
-  pub len : length s' ≡ length s
-  pub inside : (k : ℕ) → k < n → getD s' (at + k) 0 ≡ f k
-  pub before : (i : ℕ) → i < at → getD s' i 0 ≡ getD s i 0
-  pub behind : (i : ℕ) → at + n ≤ i → getD s' i 0 ≡ getD s i 0
 
 -- the word of a component: its kind, and of a glyph 8 × its label besides
 unfoldable pub kindWord : ℕ → ℕ → ℕ
@@ -58,11 +52,11 @@ abbrev pub labelsAt : List ℕ → ℕ → ℕ → List ℕ
 labelsAt s kinds count = table (labelAt s kinds) count
 
 -- labelled kinds of `count` components, and behind them a word for each of so many smoothed components
-pub record CountRoom (kinds count glyphs rows : ℕ) (s : List ℕ) : Type 0 where
+pub record CountRoom (kinds count glyphs smears : ℕ) (s : List ℕ) : Type 0 where
   pub behind : kinds + count ≤ glyphs
-  pub room : glyphs + rows ≤ length s
+  pub room : glyphs + smears ≤ length s
   pub few : count ≤ maxCapacity
-  pub labels : (k : ℕ) → k < count → labelAt s kinds k ≤ rows
+  pub labels : (k : ℕ) → k < count → labelAt s kinds k ≤ smears
 
 -- the box of component k, whose sizes stand from word `sizes` on
 abbrev pub boxAt : List ℕ → ℕ → ℕ → Rect
@@ -74,49 +68,44 @@ boxAt s sizes k =
       y1 = getD s (sizes + k * 5 + 4) 0;
     }
 
--- `isLine`, of a smoothed component with so many glyphs and so many rows
-unfoldable pub lineBySize : LayoutParams → Float → ℕ → ℕ → Bool
-lineBySize p unit glyphs high =
-    leb (p .«line_min_glyphs») glyphs && le (p .«line_min_height_xh» · unit) (float high) && le (float high) (p .«line_max_height_xh» · unit)
-
 -- whether smoothed component t is a line
-abbrev pub rowIsLine : LayoutParams → Float → List ℕ → ℕ → ℕ → ℕ → Bool
-rowIsLine p unit s smoothed glyphs t = lineBySize p unit (getD s (glyphs + t) 0) (height (boxAt s smoothed t))
+abbrev pub smearIsLine : LayoutParams → Float → List ℕ → ℕ → ℕ → ℕ → Bool
+smearIsLine p unit s smoothed glyphs t = lineBySize p unit (getD s (glyphs + t) 0) (height (boxAt s smoothed t))
 
 -- y0, x0, y1, x1 of a box, and a label: `lineKeys`
 abbrev pub boxKeys : Rect → ℕ → List ℕ
 boxKeys r t = r .y0 ∷ r .x0 ∷ r .y1 ∷ r .x1 ∷ suc t ∷ []
 
 -- the order of lines, of smoothed components a and b
-unfoldable pub rowAtMost : List ℕ → ℕ → ℕ → ℕ → Bool
-rowAtMost s smoothed a b = keysAtMost (boxKeys (boxAt s smoothed a) a) (boxKeys (boxAt s smoothed b) b)
+unfoldable pub smearAtMost : List ℕ → ℕ → ℕ → ℕ → Bool
+smearAtMost s smoothed a b = keysAtMost (boxKeys (boxAt s smoothed a) a) (boxKeys (boxAt s smoothed b) b)
 
 -- the lines among the first so many smoothed components, in order
-unfoldable pub lineRows : LayoutParams → Float → List ℕ → ℕ → ℕ → ℕ → List ℕ
-lineRows p unit s smoothed glyphs rows = sortBy (rowAtMost s smoothed) (keep (rowIsLine p unit s smoothed glyphs) (upto rows))
+unfoldable pub lineSmears : LayoutParams → Float → List ℕ → ℕ → ℕ → ℕ → List ℕ
+lineSmears p unit s smoothed glyphs smears = sortBy (smearAtMost s smoothed) (keep (smearIsLine p unit s smoothed glyphs) (upto smears))
 
 -- sizes of so many smoothed components, behind them their counts of glyphs
-pub record RowRoom (smoothed glyphs rows : ℕ) (s : List ℕ) : Type 0 where
-  pub behind : smoothed + rows * 5 ≤ glyphs
-  pub room : glyphs + rows ≤ length s
-  pub few : rows ≤ maxCapacity
-  pub tops : (t : ℕ) → t < rows → boxAt s smoothed t .y0 ≤ boxAt s smoothed t .y1
-  pub bottoms : (t : ℕ) → t < rows → boxAt s smoothed t .y1 + 1 ≤ 4294967295
+pub record SmearRoom (smoothed glyphs smears : ℕ) (s : List ℕ) : Type 0 where
+  pub behind : smoothed + smears * 5 ≤ glyphs
+  pub room : glyphs + smears ≤ length s
+  pub few : smears ≤ maxCapacity
+  pub tops : (t : ℕ) → t < smears → boxAt s smoothed t .y0 ≤ boxAt s smoothed t .y1
+  pub bottoms : (t : ℕ) → t < smears → boxAt s smoothed t .y1 + 1 ≤ 4294967295
 
 -- before them a word for the label of each line
-pub record OrderRoom (order smoothed glyphs rows : ℕ) (s : List ℕ) : Type 0 where
-  pub before : order + rows ≤ smoothed
-  pub rows-room : RowRoom smoothed glyphs rows s
+pub record OrderRoom (order smoothed glyphs smears : ℕ) (s : List ℕ) : Type 0 where
+  pub before : order + smears ≤ smoothed
+  pub smears-room : SmearRoom smoothed glyphs smears s
 
 -- the smoothed component whose label stands at place i
-abbrev pub orderedRow : List ℕ → ℕ → ℕ → ℕ
-orderedRow s order i = getD s (order + i) 0 - 1
+abbrev pub orderedSmear : List ℕ → ℕ → ℕ → ℕ
+orderedSmear s order i = getD s (order + i) 0 - 1
 
 -- the labels of n ordered lines, and smoothed component t
 pub record PlaceRoom (smoothed order n t : ℕ) (s : List ℕ) : Type 0 where
   pub room : order + n < length s
   pub labels : (i : ℕ) → i < n → 0 < getD s (order + i) 0
-  pub sizes : (i : ℕ) → i < n → smoothed + orderedRow s order i * 5 + 5 ≤ length s
+  pub sizes : (i : ℕ) → i < n → smoothed + orderedSmear s order i * 5 + 5 ≤ length s
   pub own : smoothed + t * 5 + 5 ≤ length s
   pub few : t < 4294967295
 
@@ -134,8 +123,8 @@ pub record Shifted (order place n : ℕ) (s s' : List ℕ) : Type 0 where
   pub behind : (i : ℕ) → order + n < i → getD s' i 0 ≡ getD s i 0
 
 -- the label of t stands in its place among the n + 1
-pub record InsertedRow (smoothed order n t place : ℕ) (s s' : List ℕ) : Type 0 where
-  pub place-of : PlaceOf (rowAtMost s smoothed) (orderedRow s order) t n place
+pub record InsertedSmear (smoothed order n t place : ℕ) (s s' : List ℕ) : Type 0 where
+  pub place-of : PlaceOf (smearAtMost s smoothed) (orderedSmear s order) t n place
   pub len : length s' ≡ length s
   pub before : (i : ℕ) → i < order + place → getD s' i 0 ≡ getD s i 0
   pub own : getD s' (order + place) 0 ≡ t + 1
@@ -145,22 +134,22 @@ pub record InsertedRow (smoothed order n t place : ℕ) (s s' : List ℕ) : Type
 -- t is put in its place if it is a line
 pub record OrderedOne (line : Bool) (smoothed order n t : ℕ) (s s' : List ℕ) (r : ℕ) : Type 0 where
   pub yes-count : line ≡ true → r ≡ n + 1
-  pub yes-words : line ≡ true → (place : ℕ) × InsertedRow smoothed order n t place s s'
+  pub yes-words : line ≡ true → (place : ℕ) × InsertedSmear smoothed order n t place s s'
   pub no-count : line ≡ false → r ≡ n
   pub no-words : line ≡ false → s' ≡ s
 
 -- the labels of the lines, in order, from word `order` on
 pub record OrderedLines (ls : List ℕ) (order : ℕ) (s s' : List ℕ) (r : ℕ) : Type 0 where
   pub count : r ≡ length ls
-  pub words : Filled (λ i. suc (getD ls i 0)) order r s s'
+  pub words : Stored (λ i. suc (getD ls i 0)) order r s s'
 
--- the labels of n lines, each at most `rows`, and behind them a word for each label
-pub record NumberRoom (order n numbers rows : ℕ) (s : List ℕ) : Type 0 where
+-- the labels of n lines, each at most `smears`, and behind them a word for each label
+pub record NumberRoom (order n numbers smears : ℕ) (s : List ℕ) : Type 0 where
   pub behind : order + n ≤ numbers
-  pub room : numbers + rows ≤ length s
+  pub room : numbers + smears ≤ length s
   pub few : n ≤ maxLines
   pub labels : (i : ℕ) → i < n → 0 < getD s (order + i) 0
-  pub low : (i : ℕ) → i < n → getD s (order + i) 0 ≤ rows
+  pub low : (i : ℕ) → i < n → getD s (order + i) 0 ≤ smears
 
 -- the labels of n lines in their order
 abbrev pub orderAt : List ℕ → ℕ → ℕ → List ℕ
@@ -245,6 +234,6 @@ abbrev pub glyphCount : List LabelledGlyph → ℕ → ℕ
 glyphCount gs t = length (keep (λ (g : LabelledGlyph). eqb (g .label) t) gs)
 
 -- scratch holds these smoothed components, and how many of the glyphs each has
-pub record HoldsRows (gs : List LabelledGlyph) (rows : List Component) (smoothed glyphs : ℕ) (s : List ℕ) : Type 0 where
-  pub held : HoldsSizes rows s smoothed
-  pub counts : (t : ℕ) → t < length rows → getD s (glyphs + t) 0 ≡ glyphCount gs (suc t)
+pub record HoldsSmears (gs : List LabelledGlyph) (smears : List Component) (smoothed glyphs : ℕ) (s : List ℕ) : Type 0 where
+  pub held : HoldsSizes smears s smoothed
+  pub counts : (t : ℕ) → t < length smears → getD s (glyphs + t) 0 ≡ glyphCount gs (suc t)

@@ -1,6 +1,6 @@
 -- Smoothing on the runs of rows (01, part 7): what it asks and leaves, with the ink after the cut as runs in scratch.
 use mathlib.Core.Path.{_≡_}
-use mathlib.Core.List.{List, _∷_, _++_}
+use mathlib.Core.List.{List, _∷_}
 use mathlib.Core.Bool.{Bool, true, cond}
 use Prim.Native.Nat.{ℕ, suc, _+_, _-_, _*_, _≤_, _<_}
 use lib.ListN.{getD, length, take, drop, set}
@@ -8,7 +8,7 @@ use lib.Dec.{eqb}
 use Rattle.memory.specs.rules.Lists.{countIf}
 use Rattle.memory.specs.rules.Limits.{maxFrameWidth, maxFrameHeight}
 use Rattle.labelling.specs.rules.Labels.{labelling}
-use Rattle.labelling.specs.stages.InkRuns.{inkBefore, appendIf, turns, runCount, runOf, startOf, isRoot}
+use Rattle.labelling.specs.stages.InkRuns.{inkBefore, appendIf, turns, runCount, runOf, startOf, endOf, isRoot}
 use Rattle.labelling.specs.stages.Linking.{firstRun}
 use Rattle.labelling.specs.stages.Sizes.{HoldsRuns, HoldsNumbers}
 use Rattle.sorting.specs.rules.Kinds.{glyphKind}
@@ -16,6 +16,7 @@ use Rattle.smoothing.specs.rules.Smoothing.{smoothed}
 use Rattle.smoothing.specs.rules.Lines.{firstDot}
 use Rattle.smoothing.specs.declared.smooth.Places.{Places}
 use Rattle.smoothing.specs.declared.smooth.Walk.{Walk}
+use Rattle.smoothing.specs.declared.smooth.GlyphRun.{GlyphRun}
 
 -- dot i is one of a glyph, by the labels and the kinds ks of the components
 unfoldable pub glyphDot : List ℕ → List ℕ → ℕ → Bool
@@ -88,6 +89,14 @@ smoothedPage g = smoothed (g .gap) (g .w) (g .h) (g .plane)
 abbrev pub startAt : SmoothingInput → ℕ → ℕ
 startAt g k = startOf (turns (g .w) (g .m) (g .w * g .h)) k
 
+-- where it ends
+abbrev pub endAt : SmoothingInput → ℕ → ℕ
+endAt g k = endOf (turns (g .w) (g .m) (g .w * g .h)) 0 k
+
+-- the number of its component
+abbrev pub numberAt : SmoothingInput → ℕ → ℕ
+numberAt g k = getD (labelling (g .w) (g .h) (g .m) .labels) (startAt g k) 0
+
 -- a dot of a glyph of the page
 abbrev pub glyphOf : SmoothingInput → ℕ → Bool
 glyphOf g i = glyphDot (labelling (g .w) (g .h) (g .m) .labels) (g .ks) i
@@ -108,8 +117,9 @@ pub record Passed (g : SmoothingInput) (y j n : ℕ) : Type 0 where
   pub clear : (i : ℕ) → n ≤ i → i < g .w * g .h → glyphOf g i ≡ true → j ≤ runOf (g .w) (g .m) i
   pub on : 0 < n → glyphOf g (n - 1) ≡ true
 
--- their smoothed runs, r in all, stand in the words s; `last` is n where it lies in row y, else 0; `components` of them are met
-pub record RowWalk (g : SmoothingInput) (s : List ℕ) (y j r components last : ℕ) : Type 0 where
+-- their smoothed runs, r in all, stand in the words s; `last` is n where it lies in row y, else 0; `newest` is the greatest number of
+-- a glyph among them
+pub record RowWalk (g : SmoothingInput) (s : List ℕ) (y j r newest last : ℕ) : Type 0 where
   pub kept : PageKept g s
   pub end : ℕ
   pub passed : Passed g y j end
@@ -117,19 +127,66 @@ pub record RowWalk (g : SmoothingInput) (s : List ℕ) (y j r components last : 
   pub some : 0 < last → (last ≡ end) × (y * g .w < end)
   pub runs : take (2 * r) (drop (3 * g .c) s) ≡ endedTurns (g .w) (smoothedPage g) end
   pub fits : r ≤ countIf (glyphRun (g .w) (g .h) (g .m) (g .ks)) j
-  pub met : components ≡ metBefore (g .w) (g .h) (g .m) j
-  pub first : (k : ℕ) → k < components → getD (g .ks) k 0 ≡ glyphKind
+  pub met : newest ≤ metBefore (g .w) (g .h) (g .m) j
+  pub glyphs-met : (k : ℕ) → k < metBefore (g .w) (g .h) (g .m) j → getD (g .ks) k 0 ≡ glyphKind → k < newest
+  pub first : (k : ℕ) → k < newest → getD (g .ks) k 0 ≡ glyphKind
       → getD s (g .firsts + k) 0 ≡ runOf (g .w) (smoothedPage g) (firstDot (labelling (g .w) (g .h) (g .m) .labels) (suc k))
 
--- the part of the words from run `first` on, behind the words `front`, with the places of the rest counted from there
-pub record PartWalk (g : SmoothingInput) (front : List ℕ) (first y : ℕ) (part : List ℕ) (places : Places) (walk : Walk) : Type 0 where
-  pub front-is : length front ≡ 2 * first
-  pub runs-is : first + places .runs ≡ g .c
-  pub numbers-is : 2 * first + places .numbers ≡ 2 * g .c + first
-  pub smoothed-is : 2 * first + places .smoothed ≡ 3 * g .c
-  pub kinds-is : 2 * first + places .kinds ≡ g .kinds
-  pub firsts-is : 2 * first + places .firsts ≡ g .firsts
-  pub walked : RowWalk g (front ++ part) y (first + walk .passed) (walk .smoothed) (walk .components) (walk .last)
+-- the same as the code has it
+pub record PageWalk (g : SmoothingInput) (s : List ℕ) (places : Places) (gap y : ℕ) (walk : Walk) : Type 0 where
+  pub gap-is : gap ≡ g .gap
+  pub numbers-is : places .numbers ≡ 2 * g .c
+  pub smoothed-is : places .smoothed ≡ 3 * g .c
+  pub kinds-is : places .kinds ≡ g .kinds
+  pub firsts-is : places .firsts ≡ g .firsts
+  pub walked : RowWalk g s y (walk .passed) (walk .smoothed) (walk .newest) (walk .last)
+
+-- the walk at the start of a row
+abbrev pub rowStart : Walk → Walk
+rowStart walk = record { passed = walk .passed; smoothed = walk .smoothed; newest = walk .newest; last = 0 }
+
+-- Rows
+
+-- the runs from `first` on that start before dot `limit`, of c in the words s, are those up to `end`
+pub record RowEnd (s : List ℕ) (first c limit end : ℕ) : Type 0 where
+  pub low : first ≤ end
+  pub high : end ≤ c
+  pub inside : (j : ℕ) → first ≤ j → j < end → getD s (2 * j) 0 < limit
+  pub past : end < c → limit ≤ getD s (2 * end) 0
+
+-- the runs from `first` to `end` of a page are in row y
+pub record RowOf (g : SmoothingInput) (y first end : ℕ) : Type 0 where
+  pub row : y < g .h
+  pub low : first ≤ end
+  pub high : end ≤ g .c
+  pub inside : (j : ℕ) → first ≤ j → j < end → startAt g j < y * g .w + g .w
+
+-- the kind of run j of a row, by the numbers of its runs and all kinds
+abbrev pub kindOf : List ℕ → List ℕ → ℕ → ℕ
+kindOf numbers kinds j = getD kinds (getD numbers j 0 - 1) 0
+
+-- a row's runs, the numbers of their components and all kinds
+pub record RowParts (row numbers kinds : List ℕ) : Type 0 where
+  pub runs : length row ≡ 2 * length numbers
+  pub known : (j : ℕ) → j < length numbers → (0 < getD numbers j 0) × (getD numbers j 0 ≤ length kinds)
+
+-- run j of a row, where it is one of a glyph; else its number is 0
+pub record RunOfGlyph (row numbers kinds : List ℕ) (j : ℕ) (run : GlyphRun) : Type 0 where
+  pub other : run .number ≡ 0 → kindOf numbers kinds j ≡ glyphKind → ⊥
+  pub glyph : 0 < run .number → kindOf numbers kinds j ≡ glyphKind
+  pub number : 0 < run .number → run .number ≡ getD numbers j 0
+  pub start : 0 < run .number → run .start ≡ getD row (2 * j) 0
+  pub end : 0 < run .number → run .end ≡ getD row (2 * j + 1) 0
+
+-- `run` is run j of a page, of a glyph and in row y
+pub record GlyphAt (g : SmoothingInput) (y j : ℕ) (run : GlyphRun) : Type 0 where
+  pub row : y < g .h
+  pub within : j < g .c
+  pub here : startAt g j < y * g .w + g .w
+  pub glyph : glyphOf g (startAt g j) ≡ true
+  pub number : run .number ≡ numberAt g j
+  pub start : run .start ≡ startAt g j
+  pub end : run .end ≡ endAt g j
 
 -- a glyph run more, joined with the last smoothed run or not
 pub record RunAdded (s s' : List ℕ) (at r start end : ℕ) (joins : Bool) (r' : ℕ) : Type 0 where

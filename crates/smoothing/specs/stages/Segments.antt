@@ -13,37 +13,37 @@ use Rattle.params.specs.declared.LayoutParams.{LayoutParams}
 use Rattle.sorting.specs.rules.Units.{unitValue}
 use Rattle.sorting.specs.rules.Kinds.{glyphKind}
 use Rattle.sorting.specs.rules.Sorted.{sorted}
-use Rattle.sorting.specs.stages.Scratch.{horizontalAt, verticalAt, sizesAt, kindsAt, smoothedAt, glyphsAt, packed, inkAfterCut, SortRoom, HoldsSorted}
+use Rattle.sorting.specs.stages.Scratch.{horizontalAt, verticalAt, sizesAt, kindsAt, smearsAt, glyphsAt, packed, inkAfterCut, SortRoom, HoldsSorted}
 use Rattle.sorting.specs.rules.Capacity.{mostComponents}
 use Rattle.smoothing.specs.rules.Smoothing.{smoothingGap, smoothed}
 use Rattle.smoothing.specs.rules.Lines.{firstDot, LabelledGlyph, labelledGlyphs, SmoothedLine, keptLines}
-use Rattle.smoothing.specs.stages.LineWords.{firstNumber, HoldsGlyphs, HoldsRows}
-use Rattle.smoothing.specs.declared.rows.Rows.{Rows}
-use Rattle.smoothing.specs.declared.rows.RowLabels.{RowLabels}
-use Rattle.smoothing.specs.declared.rows.RowsAnswer.{RowsAnswer}
-use Rattle.smoothing.specs.declared.rows.RowsAnswer.the-variants.{Grouped, TooMany, TooManyLines}
+use Rattle.smoothing.specs.stages.LineWords.{firstNumber, HoldsGlyphs, HoldsSmears}
+use Rattle.smoothing.specs.declared.smears.Smears.{Smears}
+use Rattle.smoothing.specs.declared.smears.SmearLabels.{SmearLabels}
+use Rattle.smoothing.specs.declared.smears.SmearsAnswer.{SmearsAnswer}
+use Rattle.smoothing.specs.declared.smears.SmearsAnswer.the-variants.{Found, TooMany, TooManyLines}
 
 -- the labelling of the smoothed glyphs
-unfoldable pub rowsOf : LayoutParams → ℕ → ℕ → List ℕ → Labelling
-rowsOf p w h m = labelling w h (smoothed (smoothingGap p (unitValue (sorted p w h m .unit))) w h (sorted p w h m .plane))
+unfoldable pub smearsOf : LayoutParams → ℕ → ℕ → List ℕ → Labelling
+smearsOf p w h m = labelling w h (smoothed (smoothingGap p (unitValue (sorted p w h m .unit))) w h (sorted p w h m .plane))
 
 -- the glyphs, each with the label of the smoothed component that holds it
 unfoldable pub glyphsIn : LayoutParams → ℕ → ℕ → List ℕ → List LabelledGlyph
-glyphsIn p w h m = labelledGlyphs (sorted p w h m .rest) (sorted p w h m .kinds) (rowsOf p w h m)
+glyphsIn p w h m = labelledGlyphs (sorted p w h m .rest) (sorted p w h m .kinds) (smearsOf p w h m)
 
 -- the lines
 unfoldable pub linesIn : LayoutParams → ℕ → ℕ → List ℕ → List SmoothedLine
-linesIn p w h m = keptLines p (unitValue (sorted p w h m .unit)) (glyphsIn p w h m) (rowsOf p w h m .components)
+linesIn p w h m = keptLines p (unitValue (sorted p w h m .unit)) (glyphsIn p w h m) (smearsOf p w h m .components)
 
 -- the label of the smoothed component that holds component k: that of its first dot
 abbrev pub glyphLabel : LayoutParams → ℕ → ℕ → List ℕ → ℕ → ℕ
-glyphLabel p w h m k = getD (rowsOf p w h m .labels) (firstDot (sorted p w h m .rest .labels) (suc k)) 0
+glyphLabel p w h m k = getD (smearsOf p w h m .labels) (firstDot (sorted p w h m .rest .labels) (suc k)) 0
 
 -- scratch holds all that the results are written from: runs and numbers after the cut, components with kinds and labels, smoothed components with their glyphs, boxes of the cuts
 pub record HoldsPage (p : LayoutParams) (w h : ℕ) (m : List ℕ) (P : ℕ) (s : List ℕ) (runs : ℕ) : Type 0 where
   pub numbered : HoldsNumbers w h (inkAfterCut p w h m) s runs
   pub glyphs : HoldsGlyphs (sorted p w h m .rest .components) (sorted p w h m .kinds) (glyphLabel p w h m) (sizesAt (w * h) P) (kindsAt (w * h) P) s
-  pub rows : HoldsRows (glyphsIn p w h m) (rowsOf p w h m .components) (smoothedAt (w * h) P) (glyphsAt (w * h) P) s
+  pub smears : HoldsSmears (glyphsIn p w h m) (smearsOf p w h m .components) (smearsAt (w * h) P) (glyphsAt (w * h) P) s
   pub horizontal : take (2 * length (sorted p w h m .horizontal .components)) (drop (horizontalAt (w * h)) s) ≡ encoded packed (map boxOf (sorted p w h m .horizontal .components))
   pub vertical : take (2 * length (sorted p w h m .vertical .components)) (drop (verticalAt (w * h) P) s) ≡ encoded packed (map boxOf (sorted p w h m .vertical .components))
 
@@ -55,33 +55,33 @@ pub record SortedPage (p : LayoutParams) (w h : ℕ) (m : List ℕ) (P : ℕ) (s
   pub unit-is : unit ≡ unitValue (sorted p w h m .unit)
 
 -- the first smoothed run of a glyph is one of the smoothed runs, and the number that stands there is the glyph's label, one of the smoothed components
-pub record GlyphNumbered (run number label runs rows : ℕ) : Type 0 where
+pub record GlyphNumbered (run number label runs smears : ℕ) : Type 0 where
   pub inside : run < runs
   pub number-is : number ≡ label
   pub some : 0 < label
-  pub few : label ≤ rows
+  pub few : label ≤ smears
 
 -- the smoothed runs stand behind the runs and are labelled: f tells how many components they have, or P + 1 where there are more; if not, sizes and labels stand in their places; the sorted plane is as it was
-pub record RowsLabelled (p : LayoutParams) (w h : ℕ) (m : List ℕ) (P : ℕ) (s s' : List ℕ) (runs : ℕ) (f : RowLabels) : Type 0 where
+pub record SmearsLabelled (p : LayoutParams) (w h : ℕ) (m : List ℕ) (P : ℕ) (s s' : List ℕ) (runs : ℕ) (f : SmearLabels) : Type 0 where
   pub len : length s' ≡ length s
-  pub count : f .rows ≡ min (length (rowsOf p w h m .components)) (P + 1)
+  pub count : f .smears ≡ min (length (smearsOf p w h m .components)) (P + 1)
   pub fits : 3 * runs + 3 * f .runs ≤ horizontalAt (w * h)
   pub front : (i : ℕ) → i < 3 * runs → getD s' i 0 ≡ getD s i 0
-  pub between : (i : ℕ) → horizontalAt (w * h) ≤ i → i < smoothedAt (w * h) P → getD s' i 0 ≡ getD s i 0
-  pub sizes : f .rows ≤ P → HoldsSizes (rowsOf p w h m .components) s' (smoothedAt (w * h) P)
-  pub labels : f .rows ≤ P → (k : ℕ) → k < length (sorted p w h m .kinds) → getD (sorted p w h m .kinds) k 0 ≡ glyphKind
-      → GlyphNumbered (getD s' (glyphsAt (w * h) P + k) 0) (firstNumber s' (glyphsAt (w * h) P) (3 * runs + 2 * f .runs) k) (glyphLabel p w h m k) (f .runs) (f .rows)
+  pub between : (i : ℕ) → horizontalAt (w * h) ≤ i → i < smearsAt (w * h) P → getD s' i 0 ≡ getD s i 0
+  pub sizes : f .smears ≤ P → HoldsSizes (smearsOf p w h m .components) s' (smearsAt (w * h) P)
+  pub labels : f .smears ≤ P → (k : ℕ) → k < length (sorted p w h m .kinds) → getD (sorted p w h m .kinds) k 0 ≡ glyphKind
+      → GlyphNumbered (getD s' (glyphsAt (w * h) P + k) 0) (firstNumber s' (glyphsAt (w * h) P) (3 * runs + 2 * f .runs) k) (glyphLabel p w h m k) (f .runs) (f .smears)
 
 -- no more than P smoothed components and no more than 4,095 lines: scratch holds the page, and f how many there are
-pub record RowsHeld (p : LayoutParams) (w h : ℕ) (m : List ℕ) (P : ℕ) (s : List ℕ) (runs : ℕ) (f : Rows) : Type 0 where
-  pub few : length (rowsOf p w h m .components) ≤ P
+pub record SmearsHeld (p : LayoutParams) (w h : ℕ) (m : List ℕ) (P : ℕ) (s : List ℕ) (runs : ℕ) (f : Smears) : Type 0 where
+  pub few : length (smearsOf p w h m .components) ≤ P
   pub few-lines : length (linesIn p w h m) ≤ maxLines
   pub held : HoldsPage p w h m P s runs
-  pub rows-is : f .rows ≡ length (rowsOf p w h m .components)
+  pub smears-is : f .smears ≡ length (smearsOf p w h m .components)
   pub lines-is : f .lines ≡ length (linesIn p w h m)
 
 -- what each answer says of the plane m and of the words s that are left
-abbrev pub rowsLeft : RowsAnswer → LayoutParams → ℕ → ℕ → List ℕ → ℕ → List ℕ → ℕ → Type 0
-rowsLeft (Grouped f) p w h m P s runs = RowsHeld p w h m P s runs f
-rowsLeft TooMany p w h m P s runs = P < length (rowsOf p w h m .components)
-rowsLeft TooManyLines p w h m P s runs = (length (rowsOf p w h m .components) ≤ P) × (maxLines < length (linesIn p w h m))
+abbrev pub smearsLeft : SmearsAnswer → LayoutParams → ℕ → ℕ → List ℕ → ℕ → List ℕ → ℕ → Type 0
+smearsLeft (Found f) p w h m P s runs = SmearsHeld p w h m P s runs f
+smearsLeft TooMany p w h m P s runs = P < length (smearsOf p w h m .components)
+smearsLeft TooManyLines p w h m P s runs = (length (smearsOf p w h m .components) ≤ P) × (maxLines < length (linesIn p w h m))

@@ -5,23 +5,14 @@ use Prim.Native.Nat.{ℕ, _+_, _*_, _/_, _%_, _≤_, _<_}
 use lib.ListN.{getD, length}
 use Rattle.memory.specs.rules.Lists.{table, keep, occurs}
 use Rattle.memory.specs.rules.Rects.{height}
+use Rattle.memory.specs.stages.Boxes.{Inside}
+use Rattle.memory.specs.stages.Stored.{Within}
 use Rattle.labelling.specs.rules.Components.{boxOf}
 use Rattle.memory.specs.declared.rect.Rect.{Rect}
 use Rattle.labelling.specs.declared.component.Component.{Component}
 use Rattle.params.specs.declared.LayoutParams.{LayoutParams}
 use Rattle.sorting.specs.rules.Units.{measurable}
 use Rattle.sorting.specs.stages.Scratch.{packed}
-
--- s' is s but for the words from a up to e
-pub record Within (a e : ℕ) (s s' : List ℕ) : Type 0 where
-  pub len : length s' ≡ length s
-  pub before : (i : ℕ) → i < a → getD s' i 0 ≡ getD s i 0
-  pub past : (i : ℕ) → e ≤ i → getD s' i 0 ≡ getD s i 0
-
--- s' is s with f 0, f 1, .., n of them, from word `at` on
-pub record Stored (f : ℕ → ℕ) (at n : ℕ) (s s' : List ℕ) : Type 0 where
-  pub within : Within at (at + n) s s'
-  pub each : (i : ℕ) → i < n → getD s' (at + i) 0 ≡ f i
 
 -- a component with its sums left out: unit, kinds and boxes do not ask for them
 abbrev pub sized : Component → Component
@@ -44,17 +35,10 @@ sizedAt s at k =
 abbrev pub sizedFrom : List ℕ → ℕ → ℕ → List Component
 sizedFrom s at n = table (sizedAt s at) n
 
--- a box of dots of a frame w wide and h high
-pub record BoxInside (w h : ℕ) (c : Component) : Type 0 where
-  pub columns : c .x0 ≤ c .x1
-  pub wide : c .x1 < w
-  pub rows : c .y0 ≤ c .y1
-  pub high : c .y1 < h
-
--- the sizes of n components of such a frame stand from word `at` on
+-- the sizes of n components of a frame w wide and h high stand from word `at` on
 pub record SizesInside (w h : ℕ) (s : List ℕ) (at n : ℕ) : Type 0 where
   pub room : at + 5 * n ≤ length s
-  pub inside : (k : ℕ) → k < n → BoxInside w h (sizedAt s at k)
+  pub inside : (k : ℕ) → k < n → Inside w h (boxOf (sizedAt s at k))
 
 -- the heights that count for the unit
 abbrev pub measuredHeights : LayoutParams → ℕ → ℕ → List Component → List ℕ

@@ -16,6 +16,7 @@ use Rattle.rulings.specs.rules.Rulings.{runMin, thickMax, cutHorizontal, cutVer
 use Rattle.sorting.specs.rules.Units.{unitOf, unitValue}
 use Rattle.sorting.specs.rules.Sorted.{sorted}
 use Rattle.sorting.specs.declared.Unit.{Unit}
+use Rattle.sorting.specs.declared.plan.Plan.{Plan}
 
 -- a mark for each dot; before it the runs at hand, with their parents
 abbrev pub marksAt : ℕ → ℕ
@@ -38,12 +39,40 @@ abbrev pub kindsAt : ℕ → ℕ → ℕ
 kindsAt dots P = horizontalAt dots + 9 * P
 
 -- the sizes of the smoothed components, five words each
-abbrev pub smoothedAt : ℕ → ℕ → ℕ
-smoothedAt dots P = horizontalAt dots + 10 * P
+abbrev pub smearsAt : ℕ → ℕ → ℕ
+smearsAt dots P = horizontalAt dots + 10 * P
 
 -- a word for each component after the cut, then for each smoothed component
 abbrev pub glyphsAt : ℕ → ℕ → ℕ
 glyphsAt dots P = horizontalAt dots + 15 * P
+
+-- all of them, as the code hands them on, for a frame w wide and h high
+abbrev pub planOf : ℕ → ℕ → ℕ → Plan
+planOf w h P =
+    record {
+      width = w;
+      height = h;
+      dots = w * h;
+      capacity = P;
+      marks = marksAt (w * h);
+      horizontal = horizontalAt (w * h);
+      vertical = verticalAt (w * h) P;
+      sizes = sizesAt (w * h) P;
+      kinds = kindsAt (w * h) P;
+      smears = smearsAt (w * h) P;
+      glyphs = glyphsAt (w * h) P;
+    }
+
+-- f is `planOf` of its sides and capacity, place by place
+pub record Planned (f : Plan) : Type 0 where
+  pub dots-is : f .dots ≡ f .width * f .height
+  pub marks-is : f .marks ≡ marksAt (f .width * f .height)
+  pub horizontal-is : f .horizontal ≡ horizontalAt (f .width * f .height)
+  pub vertical-is : f .vertical ≡ verticalAt (f .width * f .height) (f .capacity)
+  pub sizes-is : f .sizes ≡ sizesAt (f .width * f .height) (f .capacity)
+  pub kinds-is : f .kinds ≡ kindsAt (f .width * f .height) (f .capacity)
+  pub smears-is : f .smears ≡ smearsAt (f .width * f .height) (f .capacity)
+  pub glyphs-is : f .glyphs ≡ glyphsAt (f .width * f .height) (f .capacity)
 
 -- a box as two words, its columns and its rows: no side of a frame reaches 2^15
 abbrev pub packed : Rect → List ℕ

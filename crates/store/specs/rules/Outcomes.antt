@@ -43,7 +43,7 @@ segmentLeft sheet s ink kinds scratch =
     let l = layoutHeld sheet g ink in
     settled
     (segmentRefusal sheet (length s) (length ink) (length kinds) scratch g (frameSpoiled s || inkSpoiled (dotsHeld g) ink) (layoutRefusal (g .capacity) l))
-    s kinds (storeSegmented (g .page-w) (frameHeld g .w) (frameHeld g .h) (g .capacity) l s) (over (l .kinds) kinds)
+    s kinds (storeSegmented (g .page-w) (frameHeld g .w) (frameHeld g .h) (g .capacity) l s) (over (l .plane) kinds)
 
 -- clearing: the store
 unfoldable pub clearLeft : List ℕ → Left

@@ -17,9 +17,10 @@ use Rattle.grouping.specs.stages.Pitches.{BlockedLines}
 use Rattle.smoothing.specs.rules.LineRecords.{lineWords, glyphWords}
 use Rattle.grouping.specs.rules.BlockRecords.{blockWords, columnWords}
 use Rattle.segmenting.specs.rules.Figures.{figuresLength}
-use Rattle.segmenting.specs.rules.Results.{rulesAt, graphicsAt, glyphRecordsAt, linesAt, blocksAt}
+use Rattle.segmenting.specs.stages.Places.{resultPlaces}
+use Rattle.segmenting.specs.declared.places.ResultPlaces.{ResultPlaces}
 use Rattle.judging.specs.rules.Header.{lowWord, highWord, part, figuresAt, listsAt}
-use Rattle.judging.specs.rules.Views.{glyphHeightAt, rectWords}
+use Rattle.judging.specs.rules.Views.{glyphHeightAt, boxLength}
 use Rattle.listing.specs.rules.Pages.{edition}
 use Rattle.listing.specs.rules.Sheets.{sheetText}
 use Rattle.store.specs.rules.Readings.{Which}
@@ -30,20 +31,24 @@ abbrev pub whichOf : ℕ → Which
 whichOf n =
     cond (eqb n 0) columns (cond (eqb n 1) rules (cond (eqb n 2) graphics (cond (eqb n 3) glyphs (cond (eqb n 4) lines blocks))))
 
--- where it begins behind the shears, in a frame w wide with capacity P
+-- where it begins behind the shears, by the places of the lists
+abbrev pub placeIn : Which → ResultPlaces → ℕ
+placeIn columns q = q .columns
+placeIn rules q = q .rules
+placeIn graphics q = q .graphics
+placeIn glyphs q = q .glyphs
+placeIn lines q = q .lines
+placeIn blocks q = q .blocks
+
+-- .. in a frame w wide with capacity P
 abbrev pub areaAt : Which → ℕ → ℕ → ℕ
-areaAt columns w P = 0
-areaAt rules w P = rulesAt w
-areaAt graphics w P = graphicsAt w P
-areaAt glyphs w P = glyphRecordsAt w P
-areaAt lines w P = linesAt w P
-areaAt blocks w P = blocksAt w P
+areaAt k w P = placeIn k (resultPlaces w P)
 
 -- the words of a record
 abbrev pub recordWords : Which → ℕ
 recordWords columns = columnWords
-recordWords rules = rectWords
-recordWords graphics = rectWords
+recordWords rules = boxLength
+recordWords graphics = boxLength
 recordWords glyphs = glyphWords
 recordWords lines = lineWords
 recordWords blocks = blockWords
@@ -112,17 +117,12 @@ pub record LinesHere (h n m : ℕ) (s : List ℕ) : Type 0 where
   pub low : h ≤ maxFrameHeight
 
 -- the words of the lines of a store
-abbrev pub linesStart : List ℕ → ℕ
-linesStart s = listsAt (getD s 1 0) (getD s 4 0) + linesAt (getD s 3 0) (getD s 5 0)
-
 abbrev pub linesWords : List ℕ → List ℕ
-linesWords s = part (linesStart s) (getD s 16 0 * lineWords) s
+linesWords s = listRead lines s
 
 -- they lie in the store
 pub record LinesAt (s : List ℕ) : Type 0 where
-  pub words : 64 ≤ length s
-  pub low : (getD s 1 0 ≤ maxPageSide) × (getD s 3 0 ≤ maxFrameWidth) × (getD s 4 0 ≤ maxFrameHeight) × (getD s 5 0 ≤ maxCapacity)
-  pub room : linesStart s + getD s 16 0 * lineWords ≤ length s
+  pub lists : ListsAt s
   pub lines : LinesHere (getD s 4 0) (getD s 16 0) (getD s 17 0) (linesWords s)
 
 -- the median pitch and the median glyph height of these lines

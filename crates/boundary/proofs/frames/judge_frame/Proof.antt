@@ -1,13 +1,13 @@
 -- `boundary::frames::judge_frame` meets its contract, test by test. Assumes nothing.
 use borrow.Author.Needs.{needs}
 use native.Mathlib.Omega.{arith}
-use Rattle.labelling.proofs.EntryLaws.{area-fits}
+use Rattle.memory.proofs.PlaneLaws.{product-fits}
 use Rattle.boundary.specs.rules.Frames.{frameRefusal}
 use Rattle.boundary.proofs.frames.judge_frame.Statement.{statement}
 use Rattle.boundary.proofs.frames.judge_frame.Tie as tie
 
 mul-dots : tie.Need-mul-dots
-mul-dots c = let h = area-fits ((c) .args .width) ((c) .args .height) (omega arith) (omega arith) in omega arith
+mul-dots c = record { fits = product-fits (c .args .width) (c .args .height) (c .fits .width .fits) (c .fits .height .fits) }
 
 refuse-if-requires : tie.Need-refuse-if-requires
 refuse-if-requires c κs = search needs

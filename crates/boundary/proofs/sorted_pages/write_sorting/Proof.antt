@@ -43,7 +43,7 @@ same-length : tie.Need-same-length
 same-length c = let l = (c .before .before .before .before .before .before .before .before .before .before) .pre .0 in let e = sort-long ((c .before .before .before .before .before .before .before .before .before .before) .args .figures .now) ((c .before .before .before .before .before .put-float) .last .0) _ _ ((c .before .before .before .before .before .put-float) .ensures) in simp length-set (omega arith)
 
 returns : tie.Need-returns
-returns c = let f = (c .before .before .before .before .before .before .before .before .before .before) .args .found in sort-written (f .unit) (f .ink) (f .horizontal) (f .vertical) (f .components) ((c .before .before .before .before .before .before .before .before .before .before) .args .figures .now) ((c .before .before .before .before .before .put-float) .last .0) ((c .before .before .before .before .before .before .before .before .measured-word) .result) ((c .before .before .before .before .before .before .value) .result) ((c .before .before .before .before .before .before .before .before .before .before) .pre .0) ((c .before .before .before .before .before .before .before .before .measured-word) .ensures) ((c .before .before .before .before .before .before .value) .ensures) ((c .before .before .before .before .before .put-float) .ensures)
+returns c = let f = (c .before .before .before .before .before .before .before .before .before .before) .args .found in sort-written (f .unit) (f .ink) (f .horizontal) (f .vertical) (f .«component_count») ((c .before .before .before .before .before .before .before .before .before .before) .args .figures .now) ((c .before .before .before .before .before .put-float) .last .0) ((c .before .before .before .before .before .before .before .before .measured-word) .result) ((c .before .before .before .before .before .before .value) .result) ((c .before .before .before .before .before .before .before .before .before .before) .pre .0) ((c .before .before .before .before .before .before .before .before .measured-word) .ensures) ((c .before .before .before .before .before .before .value) .ensures) ((c .before .before .before .before .before .put-float) .ensures)
 
 pub write-sorting-spec : {M : Type 1} → statement M
 write-sorting-spec =

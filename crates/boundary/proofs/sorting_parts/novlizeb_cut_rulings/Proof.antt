@@ -5,7 +5,7 @@ use mathlib.Core.Path.{sym, subst}
 use Prim.Native.Nat.{ℕ, _+_, _*_, _<_}
 use lib.Seq.{length-take-le, length-front}
 use Rattle.sorting.specs.rules.Capacity.{mostCuts}
-use Rattle.sorting.specs.stages.Sortings.{CutsHeld, cutsLeft}
+use Rattle.sorting.specs.stages.SortSteps.{CutsHeld, cutsLeft}
 use Rattle.sorting.specs.declared.sort.CutAnswer.{CutAnswer}
 use Rattle.boundary.proofs.CutLaws.{few-cuts, refused-frame, cut-frame, refused-room, cut-lent, cut-counts, cut-room, cut-many, cut-done}
 use Rattle.boundary.proofs.sorting_parts.novlizeb_cut_rulings.Statement.{statement}

@@ -4,8 +4,8 @@ use borrow.Author.Needs.{needs}
 use Rattle.boundary.proofs.sorting_parts.rulings_fit.Statement.{statement}
 use Rattle.boundary.proofs.sorting_parts.rulings_fit.Tie as tie
 
-dots-of-requires : tie.Need-dots-of-requires
-dots-of-requires c κs = search needs
+area-requires : tie.Need-area-requires
+area-requires c κs = search needs
 
 is-mask-side-requires : tie.Need-is-mask-side-requires
 is-mask-side-requires c κs = search needs
@@ -21,13 +21,13 @@ add-result-2 c = search needs
 
 returns : tie.Need-returns
 returns c =
-    fit-is _ _ _ _ _ _ _ _ _ (c .before .is-mask-side .ensures) (c .is-mask-side2 .ensures) (c .before .before .dots-of .ensures)
+    fit-is _ _ _ _ _ _ _ _ _ (c .before .is-mask-side .ensures) (c .is-mask-side2 .ensures) (c .before .before .area .ensures)
 
 pub rulings-fit-spec : {M : Type 1} → statement M
 rulings-fit-spec =
     tie.close
     (tie.spec
-    dots-of-requires
+    area-requires
     is-mask-side-requires
     is-mask-side-requires-2
     add-result

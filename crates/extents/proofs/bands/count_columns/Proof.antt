@@ -4,7 +4,7 @@ use Prim.Native.Nat.{ℕ, _≤_, _<_, _+_, _-_, _*_}
 use lib.ListN.{length, getD}
 use Rattle.extents.specs.rules.Extents.{inkAt, behind}
 use Rattle.extents.specs.stages.Bands.{countFrom}
-use Rattle.extents.proofs.OverLaws.{length-part}
+use Rattle.memory.proofs.PartLaws.{length-part}
 use Rattle.extents.proofs.RunLaws.{behind-le}
 use Rattle.extents.proofs.ExtentLaws.{row-upto}
 use Rattle.extents.proofs.BandLaws.{rows-fit, columns-more}

@@ -23,8 +23,8 @@ loop-holds c =
 sub-loop : tie.Need-sub-loop Inv-loop μ-loop
 sub-loop c = omega arith
 
-count-last-piece-requires : tie.Need-count-last-piece-requires Inv-loop μ-loop
-count-last-piece-requires c κs =
+count-last-chunk-requires : tie.Need-count-last-chunk-requires Inv-loop μ-loop
+count-last-chunk-requires c κs =
     let p = c .before .before .before .before .before .pre in
     let l = c .before .before .loop in
     (counts-kept p (l .inv .1) (omega arith), omega arith, le-refl _)
@@ -38,13 +38,13 @@ loop-less c = omega arith
 loop-again : tie.Need-loop-again Inv-loop μ-loop
 loop-again c =
     let l = c .before .before .before .before .before .loop in
-    (omega arith, put-ends (put-more (l .inv .1) (c .before .before .count-last-piece .ensures) (omega arith) (omega arith)) refl (omega arith))
+    (omega arith, put-ends (put-more (l .inv .1) (c .before .before .count-last-chunk .ensures) (omega arith) (omega arith)) refl (omega arith))
 
-sub-count-last-piece : tie.Need-sub-count-last-piece Inv-loop μ-loop
-sub-count-last-piece c = omega arith
+sub-count-last-chunk : tie.Need-sub-count-last-chunk Inv-loop μ-loop
+sub-count-last-chunk c = omega arith
 
-count-last-piece-requires-2 : tie.Need-count-last-piece-requires-2 Inv-loop μ-loop
-count-last-piece-requires-2 c κs =
+count-last-chunk-requires-2 : tie.Need-count-last-chunk-requires-2 Inv-loop μ-loop
+count-last-chunk-requires-2 c κs =
     let p = c .before .before .before .before .before .pre in
     let l = c .before .before .loop in
     (counts-kept p (l .inv .1) (omega arith), omega arith, omega arith)
@@ -52,12 +52,12 @@ count-last-piece-requires-2 c κs =
 same-length : tie.Need-same-length Inv-loop μ-loop
 same-length c =
     let l = c .before .before .before .before .before .loop in
-    c .before .before .count-last-piece2 .ensures .size ∙ l .inv .1 .size
+    c .before .before .count-last-chunk2 .ensures .size ∙ l .inv .1 .size
 
 returns : tie.Need-returns Inv-loop μ-loop
 returns c =
     let l = c .before .before .before .before .before .loop in
-    put-ends (put-more (l .inv .1) (c .before .before .count-last-piece2 .ensures) (omega arith) (omega arith)) refl (omega arith)
+    put-ends (put-more (l .inv .1) (c .before .before .count-last-chunk2 .ensures) (omega arith) (omega arith)) refl (omega arith)
 
 pub count-last-row-spec : {M : Type 1} → statement M
 count-last-row-spec =
@@ -67,11 +67,11 @@ count-last-row-spec =
     μ-loop
     loop-holds
     sub-loop
-    count-last-piece-requires
+    count-last-chunk-requires
     add-x
     loop-less
     loop-again
-    sub-count-last-piece
-    count-last-piece-requires-2
+    sub-count-last-chunk
+    count-last-chunk-requires-2
     same-length
     returns)

@@ -44,8 +44,8 @@ loop-holds c =
 sub-loop : tie.Need-sub-loop Inv-loop μ-loop
 sub-loop c = omega arith
 
-count-piece-requires : tie.Need-count-piece-requires Inv-loop μ-loop
-count-piece-requires c κs =
+count-chunk-requires : tie.Need-count-chunk-requires Inv-loop μ-loop
+count-chunk-requires c κs =
     let a = c .before .before .before .before .before .before .args in
     let p = c .before .before .before .before .before .before .pre in
     let l = c .before .before .loop in
@@ -61,7 +61,7 @@ loop-less c = omega arith
 loop-again : tie.Need-loop-again Inv-loop μ-loop
 loop-again c =
     let l = c .before .before .before .before .before .loop in
-    (omega arith, omega arith, put-more (l .inv .2) (c .before .before .count-piece .ensures) (l .inv .0) (omega arith))
+    (omega arith, omega arith, put-more (l .inv .2) (c .before .before .count-chunk .ensures) (l .inv .0) (omega arith))
 
 count-dots-requires : tie.Need-count-dots-requires Inv-loop μ-loop
 count-dots-requires c κs =
@@ -94,7 +94,7 @@ count-row-spec =
     add-end
     loop-holds
     sub-loop
-    count-piece-requires
+    count-chunk-requires
     add-i
     loop-less
     loop-again

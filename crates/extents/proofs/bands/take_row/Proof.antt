@@ -45,8 +45,8 @@ sub-loop c = omega arith
 sub-from : tie.Need-sub-from Inv-loop μ-loop
 sub-from c = omega arith
 
-take-piece-requires : tie.Need-take-piece-requires Inv-loop μ-loop
-take-piece-requires c κs =
+take-chunk-requires : tie.Need-take-chunk-requires Inv-loop μ-loop
+take-chunk-requires c κs =
     let a = c .before .before .before .before .before .before .args in
     let p = c .before .before .before .before .before .before .pre in
     let l = c .before .before .loop in
@@ -61,7 +61,7 @@ loop-again : tie.Need-loop-again Inv-loop μ-loop
 loop-again c =
     let l = c .before .before .before .before .before .loop in
     let z : l .to - 32 + 32 ≡ l .to = omega arith in
-    (omega arith, omega arith, put-more-down (l .inv .2) (put-ends (c .before .before .take-piece .ensures) refl z) (omega arith) (l .inv .1))
+    (omega arith, omega arith, put-more-down (l .inv .2) (put-ends (c .before .before .take-chunk .ensures) refl z) (omega arith) (l .inv .1))
 
 take-dots-requires : tie.Need-take-dots-requires Inv-loop μ-loop
 take-dots-requires c κs =
@@ -94,7 +94,7 @@ take-row-spec =
     loop-holds
     sub-loop
     sub-from
-    take-piece-requires
+    take-chunk-requires
     loop-less
     loop-again
     take-dots-requires

@@ -4,7 +4,7 @@ use native.Mathlib.Nat.{le-refl}
 use native.Mathlib.Omega.{arith}
 use Rattle.extents.specs.stages.Scans.{shortExtentAt}
 use Rattle.extents.specs.stages.Bands.{Put}
-use Rattle.extents.proofs.CrowdedLaws.{row-put, short-bytes}
+use Rattle.extents.proofs.CrowdedLaws.{row-put, short-is}
 use Rattle.extents.proofs.ExtentLaws.{row-size}
 use Rattle.extents.proofs.PutLaws.{put-none, put-as, put-ends, put-more, put-over}
 use Rattle.extents.proofs.crowded.short_extents.Statement.{statement}
@@ -56,7 +56,7 @@ returns c =
     let l = c .before .before .before .before .before .loop in
     let e : a .to - 32 + 32 ≡ a .to = omega (arith, p .5) in
     row-put (p .1) (p .0)
-    (put-as (put-over (l .inv .2) (put-ends (c .before .before .short-chunk2 .ensures) refl e) (omega (arith, p .5)) (omega arith) (l .inv .1)) (λ k x y. short-bytes (a .row .now) (a .x) (a .to) (p .0 .from) (p .3) (p .4) k (p .2) x y))
+    (put-as (put-over (l .inv .2) (put-ends (c .before .before .short-chunk2 .ensures) refl e) (omega (arith, p .5)) (omega arith) (l .inv .1)) (λ k x y. short-is (a .row .now) (a .x) (a .to) (p .0 .from) (p .3) (p .4) k (p .2) x y))
 
 pub short-extents-spec : {M : Type 1} → statement M
 short-extents-spec =

@@ -12,31 +12,12 @@ refuse-if-requires c κs = search needs
 refuse-if-requires-2 : tie.Need-refuse-if-requires-2
 refuse-if-requires-2 c κs = search needs
 
-refuse-if-requires-3 : tie.Need-refuse-if-requires-3
-refuse-if-requires-3 c κs = search needs
-
-is-mask-side-requires : tie.Need-is-mask-side-requires
-is-mask-side-requires c κs = search needs
-
-is-mask-side-requires-2 : tie.Need-is-mask-side-requires-2
-is-mask-side-requires-2 c κs = search needs
-
-refuse-if-requires-4 : tie.Need-refuse-if-requires-4
-refuse-if-requires-4 c κs = search needs
+refuse-sides-requires : tie.Need-refuse-sides-requires
+refuse-sides-requires c κs = search needs
 
 returns : tie.Need-returns
 unfolding extentsRefusal
-returns c = rw (c .refuse-if4 .ensures, c .before .is-mask-side2 .ensures, c .before .before .is-mask-side .ensures, c .before .before .before .refuse-if3 .ensures, c .before .before .before .before .refuse-if2 .ensures, c .before .before .before .before .before .refuse-if .ensures, c .before .before .before .before .before .before .area .ensures)
+returns c = rw (c .refuse-sides .ensures, c .before .refuse-if2 .ensures, c .before .before .refuse-if .ensures, c .before .before .before .area .ensures)
 
 pub judge-extents-spec : {M : Type 1} → statement M
-judge-extents-spec =
-    tie.close
-    (tie.spec
-    area-requires
-    refuse-if-requires
-    refuse-if-requires-2
-    refuse-if-requires-3
-    is-mask-side-requires
-    is-mask-side-requires-2
-    refuse-if-requires-4
-    returns)
+judge-extents-spec = tie.close (tie.spec area-requires refuse-if-requires refuse-if-requires-2 refuse-sides-requires returns)

@@ -7,7 +7,8 @@ use Rattle.memory.specs.rules.Lists.{table}
 use Rattle.memory.specs.rules.Words.{over}
 use Rattle.extents.specs.stages.Scans.{rowExtent, until}
 use Rattle.extents.specs.rules.Extents.{rowExtents}
-use Rattle.extents.proofs.OverLaws.{over-none, over-all, length-over, length-part}
+use Rattle.extents.proofs.OverLaws.{over-none, over-all, length-over}
+use Rattle.memory.proofs.PartLaws.{length-part}
 use Rattle.extents.proofs.ExtentLaws.{row-inside, rows-loop}
 use Rattle.extents.proofs.rows.row_extents.Statement.{statement}
 use Rattle.extents.proofs.rows.row_extents.Tie as tie

@@ -4,7 +4,7 @@ use mathlib.Core.Logic.{⊎-elim}
 use lib.ListN.{length}
 use Rattle.memory.specs.declared.rect.Rect.{Rect}
 use Rattle.grouping.specs.stages.Joining.{joins}
-use Rattle.grouping.specs.stages.LineBoxes.{Inside}
+use Rattle.memory.specs.stages.Boxes.{Inside}
 use Rattle.grouping.specs.rules.HeldLines.{lineBox}
 use Rattle.grouping.proofs.GapLaws.{too-far, near, pair-fits}
 use Rattle.grouping.proofs.PairLaws.{Rooted, rooted-found, rooted-skip, rooted-join, rooted-stop}

@@ -2,7 +2,7 @@ use Prim.Native.Nat.{ℕ, _+_, _-_, _≤_, _<_}
 use mathlib.Core.Path.{_≡_, refl, sym, ap, _∙_, subst}
 use Rattle.memory.specs.declared.rect.Rect.{Rect}
 use Rattle.grouping.specs.stages.Joining.{leastWith}
-use Rattle.grouping.specs.stages.LineBoxes.{Inside}
+use Rattle.memory.specs.stages.Boxes.{Inside}
 use Rattle.grouping.proofs.GapLaws.{gapsFrom, pair-fits, walk-on, walk-end, walk-stop}
 use native.Mathlib.Omega.{arith}
 use borrow.Author.Needs.{needs}

@@ -10,8 +10,8 @@ use Rattle.grouping.proofs.block.number_lines.Tie as tie
 gap-limits-requires : tie.Need-gap-limits-requires
 gap-limits-requires c κs = search needs
 
-lesser-requires : tie.Need-lesser-requires
-lesser-requires c κs = search needs
+min-u32-requires : tie.Need-min-u32-requires
+min-u32-requires c κs = search needs
 
 join-lines-requires : tie.Need-join-lines-requires
 join-lines-requires c κs = let g = c .before .before .before .before .before .before .before .before .pre in ((g .w, c .before .before .before .before .before .before .before .before .args .h, g .lines, g .narrow, omega arith), g .by-top, g .few, omega (arith, c .before .before .before .before .gap-limits .kept .1 .1 .1 .1 .0))
@@ -25,7 +25,7 @@ same-length c = search needs
 returns : tie.Need-returns
 returns c = let ls = lineBoxes (c .before .before .before .before .before .before .before .before .before .before .before .before .before .before .before .args .lines .now) (c .before .before .before .before .before .before .before .before .before .before .before .before .before .before .before .args .n) in
     numbers-right (c .before .before .before .before .before .before .before .before .before .before .before .before .before .before .before .args .sheet) (c .before .before .before .before .before .before .before .before .before .before .before .before .before .before .before .args .n) (c .before .before .before .before .before .before .before .before .before .before .before .before .before .before .before .args .lines .now) _ (c .before .before .before .before .before .before .join-lines .last .1 .1 .1 .1 .0) (c .before .before .number-blocks .last .0)
-    (joins-firsts (c .before .before .before .before .before .before .before .before .before .before .before .before .before .before .before .args .sheet) (c .before .before .before .before .before .before .before .before .before .before .before .before .before .before .before .args .n) (c .before .before .before .before .before .before .before .before .before .before .before .before .before .before .before .args .lines .now) (c .before .before .before .before .before .before .before .before .lesser .result) (c .before .before .before .before .before .before .before .before .before .before .before .gap-limits .result .cap) (c .before .before .before .before .before .before .before .before .before .before .before .gap-limits .result .most) (c .before .before .before .before .before .before .before .before .lesser .ensures) (c .before .before .before .before .before .before .before .before .before .before .before .gap-limits .ensures .0) (c .before .before .before .before .before .before .before .before .before .before .before .gap-limits .ensures .1))
+    (joins-firsts (c .before .before .before .before .before .before .before .before .before .before .before .before .before .before .before .args .sheet) (c .before .before .before .before .before .before .before .before .before .before .before .before .before .before .before .args .n) (c .before .before .before .before .before .before .before .before .before .before .before .before .before .before .before .args .lines .now) (c .before .before .before .before .before .before .before .before .min-u32 .result) (c .before .before .before .before .before .before .before .before .before .before .before .gap-limits .result .cap) (c .before .before .before .before .before .before .before .before .before .before .before .gap-limits .result .most) (c .before .before .before .before .before .before .before .before .min-u32 .ensures) (c .before .before .before .before .before .before .before .before .before .before .before .gap-limits .ensures .0) (c .before .before .before .before .before .before .before .before .before .before .before .gap-limits .ensures .1))
     (c .before .before .before .before .before .before .join-lines .ensures)
     (λ fs F l. filled-at (blockNumber fs) (c .before .before .before .before .before .before .before .before .before .before .before .before .before .before .before .args .n) (c .before .before .number-blocks .last .0) (c .before .before .before .before .before .before .join-lines .last .1 .1 .1 .1 .0) (c .before .before .number-blocks .ensures fs F l .1))
 
@@ -34,7 +34,7 @@ number-lines-spec =
     tie.close
     (tie.spec
     gap-limits-requires
-    lesser-requires
+    min-u32-requires
     join-lines-requires
     number-blocks-requires
     same-length

@@ -32,8 +32,8 @@ mul-counts c = search needs
 slice-write-counts : tie.Need-slice-write-counts Inv-loop μ-loop
 slice-write-counts c = search needs
 
-greater-requires : tie.Need-greater-requires Inv-loop μ-loop
-greater-requires c κs = search needs
+max-u32-requires : tie.Need-max-u32-requires Inv-loop μ-loop
+max-u32-requires c κs = search needs
 
 add-depth-2 : tie.Need-add-depth-2 Inv-loop μ-loop
 add-depth-2 c = search needs
@@ -54,7 +54,7 @@ loop-less : tie.Need-loop-less Inv-loop μ-loop
 loop-less c = search needs
 
 loop-again : tie.Need-loop-again Inv-loop μ-loop
-loop-again c = (omega arith, simp length-set (c .before .before .before .before .loop .inv .1), λ f s. rw (c .before .greater .ensures) (summed-more (c .before .before .before .before .before .before .args .w) (c .before .before .before .before .before .before .args .counts .now) f s (c .before .before .before .before .loop .counts) (c .before .before .before .before .loop .depth) (c .before .before .before .before .loop .busiest) (c .before .before .before .before .loop .x) (c .before .before .before .before .loop .inv .2 f s) (omega arith)))
+loop-again c = (omega arith, simp length-set (c .before .before .before .before .loop .inv .1), λ f s. rw (c .before .max-u32 .ensures) (summed-more (c .before .before .before .before .before .before .args .w) (c .before .before .before .before .before .before .args .counts .now) f s (c .before .before .before .before .loop .counts) (c .before .before .before .before .loop .depth) (c .before .before .before .before .loop .busiest) (c .before .before .before .before .loop .x) (c .before .before .before .before .loop .inv .2 f s) (omega arith)))
 
 same-length : tie.Need-same-length Inv-loop μ-loop
 same-length c = search needs
@@ -74,7 +74,7 @@ sum-cover-spec =
     add-depth
     mul-counts
     slice-write-counts
-    greater-requires
+    max-u32-requires
     add-depth-2
     mul-depth-2
     slice-read-depth-2

@@ -22,14 +22,14 @@ shared-slice-read-wide-2 c = search needs
 wide-requires-2 : tie.Need-wide-requires-2
 wide-requires-2 c κs = search needs
 
-turn-requires : tie.Need-turn-requires
-turn-requires c κs = (c .before .before .before .before .before .before .before .pre .0, λ i. ltb (c .before .before .wide .ensures i) (c .wide2 .ensures i), c .before .before .before .before .before .before .before .pre .1)
+first-reached-requires : tie.Need-first-reached-requires
+first-reached-requires c κs = (c .before .before .before .before .before .before .before .pre .0, λ i. ltb (c .before .before .wide .ensures i) (c .wide2 .ensures i), c .before .before .before .before .before .before .before .pre .1)
 
-turn-requires-2 : tie.Need-turn-requires-2
-turn-requires-2 c κs = (c .before .before .before .before .before .before .before .before .pre .0, λ i. ltb (c .before .before .before .wide .ensures i) (c .before .wide2 .ensures i), c .before .before .before .before .before .before .before .before .pre .1)
+first-reached-requires-2 : tie.Need-first-reached-requires-2
+first-reached-requires-2 c κs = (c .before .before .before .before .before .before .before .before .pre .0, λ i. ltb (c .before .before .before .wide .ensures i) (c .before .wide2 .ensures i), c .before .before .before .before .before .before .before .before .pre .1)
 
 returns : tie.Need-returns
-returns c = column-span (c .before .turn .ensures) (c .turn2 .ensures)
+returns c = column-span (c .before .first-reached .ensures) (c .first-reached2 .ensures)
 
 pub column-span-spec : {M : Type 1} → statement M
 column-span-spec =
@@ -41,6 +41,6 @@ column-span-spec =
     wide-requires
     shared-slice-read-wide-2
     wide-requires-2
-    turn-requires
-    turn-requires-2
+    first-reached-requires
+    first-reached-requires-2
     returns)

@@ -1,5 +1,5 @@
 -- `judging::levels::judge_frame` meets its contract: the frame, then what hangs on it. Assumes nothing.
-use Rattle.judging.proofs.LimitLaws.{point-sides, point-within, point-few, point-held}
+use Rattle.judging.proofs.LimitLaws.{point-sides, point-within, point-held}
 use mathlib.Core.Path.{sym, ap, _∙_}
 use Rattle.levelling.specs.rules.Frames.{Frame}
 use Rattle.judging.proofs.LevelLaws.{frame-by-words, frame-short, frame-room, frame-judged}
@@ -20,7 +20,7 @@ shared-slice-read-store-words : tie.Need-shared-slice-read-store-words
 shared-slice-read-store-words c = search needs
 
 store-words-requires : tie.Need-store-words-requires
-store-words-requires c κs = (point-sides (c .before .before .before .before .before .args .store .now) (c .before .before .before .before .before .pre .1) _ (c .before .float-at .ensures) .w-fits, c .before .before .before .before .before .pre .4, c .before .before .before .before .before .pre .5, point-few (c .before .before .before .before .before .args .store .now) (c .before .before .before .before .before .pre .1) _ (c .before .float-at .ensures))
+store-words-requires c κs = search needs
 
 returns : tie.Need-returns
 returns c = frame-short (c .before .before .before .before .before .before .before .args .store .now) _ _ (c .before .before .before .before .before .before .before .pre .2) (c .before .before .before .before .before .before .before .pre .3) _ (c .before .store-words .ensures) _ _ (c .if1 .taken)

@@ -4,12 +4,12 @@ use mathlib.Core.Path.{_≡_, ap, _∙_}
 use native.Mathlib.Omega.{arith}
 use borrow.Author.Needs.{needs}
 use Rattle.judging.specs.rules.Spoiled.{every, boxOk}
-use Rattle.judging.proofs.ResultLaws.{every-none, every-more, record-ends, boxAt, boxes-there}
+use Rattle.judging.proofs.ResultLaws.{every-none, every-more, record-ends, boxOkAt, boxes-there}
 use Rattle.judging.proofs.results.boxes_ok.Statement.{statement}
 use Rattle.judging.proofs.results.boxes_ok.Tie as tie
 
 abbrev Inv-loop : tie.InvT-loop
-Inv-loop words at width n w h ok₀ p₀ i₀ ok p i = (i ≤ n) × (p ≡ at + i * width) × (ok ≡ every (boxAt w h words at width) i)
+Inv-loop words at width n w h ok₀ p₀ i₀ ok p i = (i ≤ n) × (p ≡ at + i * width) × (ok ≡ every (boxOkAt w h words at width) i)
 
 abbrev μ-loop : tie.MeasureT-loop
 μ-loop words at width n w h ok₀ p₀ i₀ ok p i = n - i

@@ -1,8 +1,10 @@
 -- `judging::results::words_ok` meets its contract. Assumes nothing.
+use mathlib.Core.Path.{ap, _∙_}
 use mathlib.Core.Bool.{_&&_}
 use borrow.Author.Tests.{not-true, not-false}
-use Prim.Native.Nat.{_+_}
 use native.Mathlib.Omega.{arith}
+use Rattle.judging.specs.rules.Header.{listsAt, part}
+use Rattle.judging.specs.stages.Judged.{wordsOk}
 use Rattle.judging.proofs.ResultLaws.{words-no, words-few, words-yes}
 use borrow.Author.Needs.{needs}
 use Rattle.judging.proofs.results.words_ok.Statement.{statement}
@@ -39,22 +41,19 @@ counts-ok-requires : tie.Need-counts-ok-requires
 counts-ok-requires c κs = search needs
 
 returns : tie.Need-returns
-returns c = words-no (c .before .before .before .before .before .before .before .before .before .before .before .before .args .store .now) (c .before .before .before .before .before .float-at .result) (c .before .before .before .before .before .float-at .ensures) (c .before .before .before .before .before .before .before .before .before .before .before .before .args .w) (c .before .before .before .before .before .before .before .before .before .before .before .before .args .h) (c .before .before .before .before .before .before .before .before .before .before .before .before .args .capacity) (64 + c .before .before .before .before .before .before .before .before .before .before .before .before .args .page-w + c .before .before .before .before .before .before .before .before .before .before .before .before .args .h) (c .before .before .before .unit-ok .result) (c .before .counts-ok .result) (c .before .before .before .unit-ok .ensures) (c .before .counts-ok .ensures) (not-true (c .before .before .before .unit-ok .result && c .before .counts-ok .result) (c .if1 .taken))
+returns c = words-no (c .before .before .before .before .before .before .before .before .before .before .before .before .args .store .now) (c .before .before .before .before .before .float-at .result) (c .before .before .before .before .before .float-at .ensures) (c .before .before .before .before .before .before .before .before .before .before .before .before .args .w) (c .before .before .before .before .before .before .before .before .before .before .before .before .args .h) (c .before .before .before .before .before .before .before .before .before .before .before .before .args .capacity) (listsAt (c .before .before .before .before .before .before .before .before .before .before .before .before .args .page-w) (c .before .before .before .before .before .before .before .before .before .before .before .before .args .h)) (c .before .before .before .unit-ok .result) (c .before .counts-ok .result) (c .before .before .before .unit-ok .ensures) (c .before .counts-ok .ensures) (not-true (c .before .before .before .unit-ok .result && c .before .counts-ok .result) (c .if1 .taken))
 
-add-at : tie.Need-add-at
-add-at c = search needs
-
-add-at-2 : tie.Need-add-at-2
-add-at-2 c = search needs
+lists-at-requires : tie.Need-lists-at-requires
+lists-at-requires c κs = search needs
 
 lists-ok-requires : tie.Need-lists-ok-requires
 lists-ok-requires c κs =
-    let f = words-few (c .before .before .before .before .before .before .before .before .before .before .before .before .args .store .now) (c .before .before .before .before .before .float-at .result) (c .before .before .before .before .before .float-at .ensures) (c .before .before .before .before .before .before .before .before .before .before .before .before .args .w) (c .before .before .before .before .before .before .before .before .before .before .before .before .args .h) (c .before .before .before .before .before .before .before .before .before .before .before .before .args .capacity) (64 + c .before .before .before .before .before .before .before .before .before .before .before .before .args .page-w + c .before .before .before .before .before .before .before .before .before .before .before .before .args .h) (c .before .before .before .unit-ok .result) (c .before .counts-ok .result) (c .before .before .before .unit-ok .ensures) (c .before .counts-ok .ensures) (not-false (c .before .before .before .unit-ok .result && c .before .counts-ok .result) (c .if1 .left)) in
-    let p = c .before .before .before .before .before .before .before .before .before .before .before .before .pre in
-    ((omega (arith, p .4), omega (arith, p .0, p .2), p .1, p .2, p .3), (f .0, f .1, f .2, f .3, f .4))
+    let f = words-few (c .before .before .before .before .before .before .before .before .before .before .before .before .before .args .store .now) (c .before .before .before .before .before .before .float-at .result) (c .before .before .before .before .before .before .float-at .ensures) (c .before .before .before .before .before .before .before .before .before .before .before .before .before .args .w) (c .before .before .before .before .before .before .before .before .before .before .before .before .before .args .h) (c .before .before .before .before .before .before .before .before .before .before .before .before .before .args .capacity) (c .lists-at .result) (c .before .before .before .before .unit-ok .result) (c .before .before .counts-ok .result) (c .before .before .before .before .unit-ok .ensures) (c .before .before .counts-ok .ensures) (not-false (c .before .before .before .before .unit-ok .result && c .before .before .counts-ok .result) (c .before .if1 .left)) in
+    let p = c .before .before .before .before .before .before .before .before .before .before .before .before .before .pre in
+    ((omega (arith, p .4, c .lists-at .ensures), omega (arith, p .0, p .2, c .lists-at .ensures), p .1, p .2, p .3), (f .0, f .1, f .2, f .3, f .4))
 
 returns-2 : tie.Need-returns-2
-returns-2 c = words-yes (c .before .before .before .before .before .before .before .before .before .before .before .before .before .args .store .now) (c .before .before .before .before .before .before .float-at .result) (c .before .before .before .before .before .before .float-at .ensures) (c .before .before .before .before .before .before .before .before .before .before .before .before .before .args .w) (c .before .before .before .before .before .before .before .before .before .before .before .before .before .args .h) (c .before .before .before .before .before .before .before .before .before .before .before .before .before .args .capacity) (64 + c .before .before .before .before .before .before .before .before .before .before .before .before .before .args .page-w + c .before .before .before .before .before .before .before .before .before .before .before .before .before .args .h) (c .before .before .before .before .unit-ok .result) (c .before .before .counts-ok .result) (c .before .before .before .before .unit-ok .ensures) (c .before .before .counts-ok .ensures) (not-false (c .before .before .before .before .unit-ok .result && c .before .before .counts-ok .result) (c .before .if1 .left)) (c .lists-ok .result) (c .lists-ok .ensures)
+returns-2 c = words-yes (c .before .before .before .before .before .before .before .before .before .before .before .before .before .before .args .store .now) (c .before .before .before .before .before .before .before .float-at .result) (c .before .before .before .before .before .before .before .float-at .ensures) (c .before .before .before .before .before .before .before .before .before .before .before .before .before .before .args .w) (c .before .before .before .before .before .before .before .before .before .before .before .before .before .before .args .h) (c .before .before .before .before .before .before .before .before .before .before .before .before .before .before .args .capacity) (c .before .lists-at .result) (c .before .before .before .before .before .unit-ok .result) (c .before .before .before .counts-ok .result) (c .before .before .before .before .before .unit-ok .ensures) (c .before .before .before .counts-ok .ensures) (not-false (c .before .before .before .before .before .unit-ok .result && c .before .before .before .counts-ok .result) (c .before .before .if1 .left)) (c .lists-ok .result) (c .lists-ok .ensures) ∙ ap (λ z. wordsOk (c .before .before .before .before .before .before .before .before .before .before .before .before .before .before .args .w) (c .before .before .before .before .before .before .before .before .before .before .before .before .before .before .args .h) (c .before .before .before .before .before .before .before .before .before .before .before .before .before .before .args .capacity) (part 10 15 (c .before .before .before .before .before .before .before .before .before .before .before .before .before .before .args .store .now)) z (c .before .before .before .before .before .before .before .before .before .before .before .before .before .before .args .store .now)) (c .before .lists-at .ensures)
 
 pub words-ok-spec : {M : Type 1} → statement M
 words-ok-spec =
@@ -71,7 +70,6 @@ words-ok-spec =
     shared-slice-read-counts-ok
     counts-ok-requires
     returns
-    add-at
-    add-at-2
+    lists-at-requires
     lists-ok-requires
     returns-2)

@@ -1,5 +1,6 @@
 -- `judging::segments::judge_behind` meets its contract: the frame, then what hangs on it. Assumes nothing.
-use Rattle.judging.proofs.LimitLaws.{point-sides, point-within, point-few, point-held}
+use native.Mathlib.Omega.{arith}
+use Rattle.judging.proofs.LimitLaws.{point-sides, point-within, point-held}
 use Rattle.judging.proofs.SegmentLaws.{behind-short, behind-dots, behind-lent, behind-ink, behind-room, behind-judged}
 use borrow.Author.Needs.{needs}
 use Rattle.judging.proofs.segments.judge_behind.Statement.{statement}
@@ -21,7 +22,7 @@ shared-slice-read-capacity : tie.Need-shared-slice-read-capacity
 shared-slice-read-capacity c = search needs
 
 store-words-requires : tie.Need-store-words-requires
-store-words-requires c κs = (point-sides (c .before .before .before .before .before .before .before .args .store .now) (c .before .before .before .before .before .before .before .pre .1) _ (c .before .before .float-at .ensures) .w-fits, c .before .frame-size .ensures .1 .0, c .before .frame-size .ensures .1 .1, point-few (c .before .before .before .before .before .before .before .args .store .now) (c .before .before .before .before .before .before .before .pre .1) _ (c .before .before .float-at .ensures))
+store-words-requires c κs = search needs
 
 returns : tie.Need-returns
 returns c = behind-short (c .before .before .before .before .before .before .before .before .before .args .store .now) (c .before .before .before .before .before .before .before .before .before .args .ink .now) (c .before .before .before .before .before .before .before .before .before .args .kinds) (c .before .before .before .before .before .before .before .before .before .args .scratch) (c .before .before .before .before .before .before .before .before .before .pre .1) _ (c .before .before .before .before .float-at .ensures) _ _ (c .before .before .before .frame-size .ensures .0 .0) (c .before .before .before .frame-size .ensures .0 .1) _ (c .before .store-words .ensures) (c .if1 .taken)
@@ -30,7 +31,7 @@ area-requires : tie.Need-area-requires
 area-requires c κs = search needs
 
 judge-lengths-requires : tie.Need-judge-lengths-requires
-judge-lengths-requires c κs = (behind-dots (c .before .before .before .before .before .before .before .before .before .before .args .store .now) (c .before .before .before .before .before .before .before .before .before .before .args .ink .now) (c .before .before .before .before .before .before .before .before .before .before .args .kinds) (c .before .before .before .before .before .before .before .before .before .before .args .scratch) (c .before .before .before .before .before .before .before .before .before .before .pre .1) _ (c .before .before .before .before .before .float-at .ensures) _ _ (c .before .before .before .before .frame-size .ensures .0 .0) (c .before .before .before .before .frame-size .ensures .0 .1) _ (c .before .before .store-words .ensures) _ (c .area .ensures) (c .before .if1 .left) (c .before .before .before .before .frame-size .ensures .1 .0) (c .before .before .before .before .frame-size .ensures .1 .1), point-few (c .before .before .before .before .before .before .before .before .before .before .args .store .now) (c .before .before .before .before .before .before .before .before .before .before .pre .1) _ (c .before .before .before .before .before .float-at .ensures))
+judge-lengths-requires c κs = omega (arith, behind-dots (c .before .before .before .before .before .before .before .before .before .before .args .store .now) (c .before .before .before .before .before .before .before .before .before .before .args .ink .now) (c .before .before .before .before .before .before .before .before .before .before .args .kinds) (c .before .before .before .before .before .before .before .before .before .before .args .scratch) (c .before .before .before .before .before .before .before .before .before .before .pre .1) _ (c .before .before .before .before .before .float-at .ensures) _ _ (c .before .before .before .before .frame-size .ensures .0 .0) (c .before .before .before .before .frame-size .ensures .0 .1) _ (c .before .before .store-words .ensures) _ (c .area .ensures) (c .before .if1 .left) (c .before .before .before .before .frame-size .ensures .1 .0) (c .before .before .before .before .frame-size .ensures .1 .1))
 
 returns-2 : tie.Need-returns-2
 returns-2 c = behind-lent (c .before .before .before .before .before .before .before .before .before .before .before .before .args .store .now) (c .before .before .before .before .before .before .before .before .before .before .before .before .args .ink .now) (c .before .before .before .before .before .before .before .before .before .before .before .before .args .kinds) (c .before .before .before .before .before .before .before .before .before .before .before .before .args .scratch) (c .before .before .before .before .before .before .before .before .before .before .before .before .pre .1) _ (c .before .before .before .before .before .before .before .float-at .ensures) _ _ (c .before .before .before .before .before .before .frame-size .ensures .0 .0) (c .before .before .before .before .before .before .frame-size .ensures .0 .1) _ (c .before .before .before .before .store-words .ensures) _ (c .before .before .area .ensures) (c .before .before .before .if1 .left) _ (c .before .judge-lengths .ensures) (c .if2 .taken)

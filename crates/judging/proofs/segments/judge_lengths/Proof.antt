@@ -3,17 +3,8 @@ use borrow.Author.Needs.{needs}
 use Rattle.judging.proofs.segments.judge_lengths.Statement.{statement}
 use Rattle.judging.proofs.segments.judge_lengths.Tie as tie
 
-mul-need : tie.Need-mul-need
-mul-need c = search needs
-
-mul-need-2 : tie.Need-mul-need-2
-mul-need-2 c = search needs
-
-add-need : tie.Need-add-need
-add-need c = search needs
-
-add-need-2 : tie.Need-add-need-2
-add-need-2 c = search needs
+scratch-words-requires : tie.Need-scratch-words-requires
+scratch-words-requires c κs = search needs
 
 refuse-if-requires : tie.Need-refuse-if-requires
 refuse-if-requires c κs = search needs
@@ -25,17 +16,8 @@ refuse-if-requires-3 : tie.Need-refuse-if-requires-3
 refuse-if-requires-3 c κs = search needs
 
 returns : tie.Need-returns
-returns c = rw (c .refuse-if3 .ensures, c .before .refuse-if2 .ensures, c .before .before .refuse-if .ensures)
+returns c = rw (c .refuse-if3 .ensures, c .before .refuse-if2 .ensures, c .before .before .refuse-if .ensures, c .before .before .before .scratch-words .ensures)
 
 pub judge-lengths-spec : {M : Type 1} → statement M
 judge-lengths-spec =
-    tie.close
-    (tie.spec
-    mul-need
-    mul-need-2
-    add-need
-    add-need-2
-    refuse-if-requires
-    refuse-if-requires-2
-    refuse-if-requires-3
-    returns)
+    tie.close (tie.spec scratch-words-requires refuse-if-requires refuse-if-requires-2 refuse-if-requires-3 returns)

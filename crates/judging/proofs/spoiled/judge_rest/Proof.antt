@@ -25,7 +25,7 @@ area-requires : tie.Need-area-requires
 area-requires c κs = search needs
 
 store-words-requires : tie.Need-store-words-requires
-store-words-requires c κs = (point-sides (c .before .before .before .before .before .before .before .before .before .args .store .now) (c .before .before .before .before .before .before .before .before .before .pre .1) (c .before .before .float-at .result) (c .before .before .float-at .ensures) .w-fits, c .before .frame-size .ensures .1 .0, c .before .frame-size .ensures .1 .1, point-few (c .before .before .before .before .before .before .before .before .before .args .store .now) (c .before .before .before .before .before .before .before .before .before .pre .1) (c .before .before .float-at .result) (c .before .before .float-at .ensures))
+store-words-requires c κs = search needs
 
 returns : tie.Need-returns
 returns c = rest-lacking (c .before .before .before .before .before .before .before .before .before .before .before .args .store .now) (c .before .before .before .before .before .before .before .before .before .before .before .args .ink .now) (c .before .before .before .before .before .before .before .before .before .before .before .args .kinds .now) (c .before .before .before .before .before .before .before .before .before .before .before .args .lacking) (c .before .before .before .before .float-at .result) (c .before .before .before .before .float-at .ensures) (c .before .before .before .frame-size .result .w) (c .before .before .before .frame-size .result .h) (c .before .before .before .frame-size .ensures .0 .0) (c .before .before .before .frame-size .ensures .0 .1) (c .before .before .area .result) (c .before .before .area .ensures) (c .before .store-words .result) (c .before .store-words .ensures) (c .if1 .taken)

@@ -1,25 +1,16 @@
+use Rattle.labelling.specs.rules.Answer.{lentRefusal}
 use borrow.Author.Needs.{needs}
-use Rattle.labelling.proofs.EntryLaws.{lent-judged}
 use Rattle.labelling.proofs.entry.judge_lent.Statement.{statement}
 use Rattle.labelling.proofs.entry.judge_lent.Tie as tie
 
-mul-refuse-if : tie.Need-mul-refuse-if
-mul-refuse-if c = search needs
-
-mul-refuse-if-2 : tie.Need-mul-refuse-if-2
-mul-refuse-if-2 c = search needs
-
-add-refuse-if : tie.Need-add-refuse-if
-add-refuse-if c = search needs
-
-add-refuse-if-2 : tie.Need-add-refuse-if-2
-add-refuse-if-2 c = search needs
+scratch-words-requires : tie.Need-scratch-words-requires
+scratch-words-requires c κs = search needs
 
 refuse-if-requires : tie.Need-refuse-if-requires
 refuse-if-requires c κs = search needs
 
-mul-refuse-if-3 : tie.Need-mul-refuse-if-3
-mul-refuse-if-3 c = search needs
+mul-records : tie.Need-mul-records
+mul-records c = search needs
 
 refuse-if-requires-2 : tie.Need-refuse-if-requires-2
 refuse-if-requires-2 c κs = search needs
@@ -37,18 +28,16 @@ refuse-if-requires-6 : tie.Need-refuse-if-requires-6
 refuse-if-requires-6 c κs = search needs
 
 returns : tie.Need-returns
-returns c = lent-judged ((c .before .before .before .before .before .before) .args .dots) ((c .before .before .before .before .before .before) .args .mask) ((c .before .before .before .before .before .before) .args .capacity) ((c .before .before .before .before .before .before) .args .labels) ((c .before .before .before .before .before .before) .args .components) ((c .before .before .before .before .before .before) .args .scratch) ((c .before .before .before .before .before .refuse-if) .result) ((c .before .before .before .before .refuse-if2) .result) ((c .before .before .before .refuse-if3) .result) ((c .before .before .refuse-if4) .result) ((c .before .refuse-if5) .result) ((c .refuse-if6) .result) ((c .before .before .before .before .before .refuse-if) .ensures) ((c .before .before .before .before .refuse-if2) .ensures) ((c .before .before .before .refuse-if3) .ensures) ((c .before .before .refuse-if4) .ensures) ((c .before .refuse-if5) .ensures) ((c .refuse-if6) .ensures)
+unfolding lentRefusal
+returns c = rw (c .refuse-if6 .ensures, (c .before .refuse-if5) .ensures, (c .before .before .refuse-if4) .ensures, (c .before .before .before .refuse-if3) .ensures, (c .before .before .before .before .refuse-if2) .ensures, (c .before .before .before .before .before .refuse-if) .ensures, (c .before .before .before .before .before .before .scratch-words) .ensures)
 
 pub judge-lent-spec : {M : Type 1} → statement M
 judge-lent-spec =
     tie.close
     (tie.spec
-    mul-refuse-if
-    mul-refuse-if-2
-    add-refuse-if
-    add-refuse-if-2
+    scratch-words-requires
     refuse-if-requires
-    mul-refuse-if-3
+    mul-records
     refuse-if-requires-2
     refuse-if-requires-3
     refuse-if-requires-4

@@ -5,6 +5,7 @@ use Prim.Native.Nat.{_-_, _≤_}
 use lib.ListN.{getD}
 use Rattle.memory.specs.rules.Lists.{countIf}
 use Rattle.memory.specs.rules.Masks.{isInk}
+use lib.Dec.{ltb}
 use Rattle.labelling.specs.stages.Marked.{passes, passing}
 use Rattle.labelling.proofs.ExtractLaws.{ink-none}
 use Rattle.labelling.proofs.MarkedLaws.{bit-least, passing-more}
@@ -33,7 +34,7 @@ passes-requires : tie.Need-passes-requires Inv-loop μ-loop
 passes-requires c κs = search needs
 
 add-count : tie.Need-add-count Inv-loop μ-loop
-add-count c = let t = bit-least (passes ((c .before .before .before .before .before .before .before) .args .test) (getD ((c .before .before .before .before .before .before .before) .args .ink .now) ((c .before .before .before .before .loop) .i) 0) (getD ((c .before .before .before .before .before .before .before) .args .marks .now) ((c .before .before .before .before .loop) .i) 0)) in omega (arith, (c .passes) .ensures, (c .before .before .before .loop-test) .taken)
+add-count c = let t = bit-least (passes ((c .before .before .before .before .before .before .before) .args .test) (ltb 0 (getD ((c .before .before .before .before .before .before .before) .args .ink .now) ((c .before .before .before .before .loop) .i) 0)) (getD ((c .before .before .before .before .before .before .before) .args .marks .now) ((c .before .before .before .before .loop) .i) 0)) in omega (arith, (c .passes) .ensures, (c .before .before .before .loop-test) .taken)
 
 add-i : tie.Need-add-i Inv-loop μ-loop
 add-i c = search needs
@@ -42,7 +43,8 @@ loop-less : tie.Need-loop-less Inv-loop μ-loop
 loop-less c = search needs
 
 loop-again : tie.Need-loop-again Inv-loop μ-loop
-loop-again c = let t = bit-least (passes ((c .before .before .before .before .before .before .before) .args .test) (getD ((c .before .before .before .before .before .before .before) .args .ink .now) ((c .before .before .before .before .loop) .i) 0) (getD ((c .before .before .before .before .before .before .before) .args .marks .now) ((c .before .before .before .before .loop) .i) 0)) in (omega arith, omega (arith, (c .passes) .ensures), passing-more ((c .before .before .before .before .before .before .before) .args .test) ((c .before .before .before .before .before .before .before) .args .ink .now) ((c .before .before .before .before .before .before .before) .args .marks .now) 32 ((c .before .before .before .before .loop) .i) ((c .before .before .before .before .loop) .count) ((c .passes) .result) ((c .before .before .before .loop-test) .taken) ((c .before .before .before .before .loop) .inv .2) ((c .passes) .ensures))
+unfolding isInk
+loop-again c = let t = bit-least (passes ((c .before .before .before .before .before .before .before) .args .test) (ltb 0 (getD ((c .before .before .before .before .before .before .before) .args .ink .now) ((c .before .before .before .before .loop) .i) 0)) (getD ((c .before .before .before .before .before .before .before) .args .marks .now) ((c .before .before .before .before .loop) .i) 0)) in (omega arith, omega (arith, (c .passes) .ensures), passing-more ((c .before .before .before .before .before .before .before) .args .test) ((c .before .before .before .before .before .before .before) .args .ink .now) ((c .before .before .before .before .before .before .before) .args .marks .now) 32 ((c .before .before .before .before .loop) .i) ((c .before .before .before .before .loop) .count) ((c .passes) .result) ((c .before .before .before .loop-test) .taken) ((c .before .before .before .before .loop) .inv .2) ((c .passes) .ensures))
 
 returns : tie.Need-returns Inv-loop μ-loop
 returns c = (c .before .loop) .inv .2 ∙ ap (countIf (isInk (passing ((c .before .before .before .before) .args .test) ((c .before .before .before .before) .args .ink .now) ((c .before .before .before .before) .args .marks .now) 32))) (let l = (c .loop-test) .left in let u = (c .before .loop) .inv .0 in let e : (c .before .loop) .i ≡ 32 = omega arith in e)

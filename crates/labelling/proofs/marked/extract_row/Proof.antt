@@ -20,8 +20,8 @@ loop-holds c = marked-start ((c .before .before) .pre)
 sub-loop : tie.Need-sub-loop Inv-loop μ-loop
 sub-loop c = marked-upto ((c .loop) .inv)
 
-scan-block-requires : tie.Need-scan-block-requires Inv-loop μ-loop
-scan-block-requires c κs = marked-asks ((c .before .before .loop) .inv) ((c .before .before .loop) .x + 32) (omega arith) (omega (arith, (c .before .loop-test) .taken, marked-upto ((c .before .before .loop) .inv)))
+scan-chunk-requires : tie.Need-scan-chunk-requires Inv-loop μ-loop
+scan-chunk-requires c κs = marked-asks ((c .before .before .loop) .inv) ((c .before .before .loop) .x + 32) (omega arith) (omega (arith, (c .before .loop-test) .taken, marked-upto ((c .before .before .loop) .inv)))
 
 add-x : tie.Need-add-x Inv-loop μ-loop
 add-x c = let u = marked-upto ((c .before .before .before .before .before .loop) .inv) in omega (arith, (c .before .before .before .before .loop-test) .taken)
@@ -30,7 +30,7 @@ loop-less : tie.Need-loop-less Inv-loop μ-loop
 loop-less c = omega (arith, (c .before .before .before .before .loop-test) .taken)
 
 loop-again : tie.Need-loop-again Inv-loop μ-loop
-loop-again c = marked-read ((c .before .before .before .before .before .loop) .inv) _ _ _ ((c .before .before .scan-block) .ensures)
+loop-again c = marked-read ((c .before .before .before .before .before .loop) .inv) _ _ _ ((c .before .before .scan-chunk) .ensures)
 
 scan-requires : tie.Need-scan-requires Inv-loop μ-loop
 scan-requires c κs = marked-asks ((c .before .before .loop) .inv) (length ((c .before .before .before .before .before) .args .ink .now)) (marked-upto ((c .before .before .loop) .inv)) (le-refl _)
@@ -70,7 +70,7 @@ extract-row-spec =
     μ-loop
     loop-holds
     sub-loop
-    scan-block-requires
+    scan-chunk-requires
     add-x
     loop-less
     loop-again

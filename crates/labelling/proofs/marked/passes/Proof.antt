@@ -1,4 +1,5 @@
 use borrow.Author.Needs.{needs}
+use lib.Dec.{ltb}
 use Rattle.labelling.specs.declared.marked.Test.the-variants.{First, Second, Neither}
 use Rattle.labelling.proofs.MarkedLaws.{passes-told}
 use Rattle.labelling.proofs.marked.passes.Statement.{statement}
@@ -23,13 +24,13 @@ cast-result-3 : tie.Need-cast-result-3
 cast-result-3 c = search needs
 
 returns : tie.Need-returns
-returns c = passes-told ((c .before .before) .args .test) First ((c .before .before) .args .ink) ((c .before .before) .args .mark) ((c .enum-told) .given .1)
+returns c = passes-told ((c .before .before) .args .test) First (ltb 0 ((c .before .before) .args .ink)) ((c .before .before) .args .mark) ((c .enum-told) .given .1)
 
 returns-2 : tie.Need-returns-2
-returns-2 c = passes-told ((c .before .before) .args .test) Second ((c .before .before) .args .ink) ((c .before .before) .args .mark) ((c .enum-told2) .given .1)
+returns-2 c = passes-told ((c .before .before) .args .test) Second (ltb 0 ((c .before .before) .args .ink)) ((c .before .before) .args .mark) ((c .enum-told2) .given .1)
 
 returns-3 : tie.Need-returns-3
-returns-3 c = passes-told ((c .before .before) .args .test) Neither ((c .before .before) .args .ink) ((c .before .before) .args .mark) ((c .enum-told3) .given .1)
+returns-3 c = passes-told ((c .before .before) .args .test) Neither (ltb 0 ((c .before .before) .args .ink)) ((c .before .before) .args .mark) ((c .enum-told3) .given .1)
 
 pub passes-spec : {M : Type 1} → statement M
 passes-spec =

@@ -2,6 +2,7 @@ use borrow.Author.Needs.{needs}
 use native.Mathlib.Omega.{arith}
 use Prim.Native.Nat.{_-_}
 use lib.Dec.{eqb}
+use Rattle.memory.specs.rules.Masks.{isInk}
 use mathlib.Core.Bool.{not}
 use Rattle.labelling.proofs.MarkedLaws.{MarkedSweep, byte-turn, byte-small, marked-none, marked-inside, marked-mark, marked-fits, marked-more, marked-done}
 use Rattle.labelling.proofs.marked.scan.Statement.{statement}
@@ -62,6 +63,7 @@ loop-less : tie.Need-loop-less Inv-loop μ-loop
 loop-less c = search needs
 
 loop-again : tie.Need-loop-again Inv-loop μ-loop
+unfolding isInk
 loop-again c = marked-more ((c .before .before .before .before .loop) .inv) ((c .before .before .before .loop-test) .taken) ((c .passes) .result) _ ((c .passes) .ensures) (byte-turn (eqb ((c .before .before .before .before .loop) .before) ((c .passes) .result)))
 
 same-length : tie.Need-same-length Inv-loop μ-loop

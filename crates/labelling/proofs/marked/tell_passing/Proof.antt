@@ -3,6 +3,7 @@ use native.Mathlib.Omega.{arith}
 use mathlib.Core.Path.{_≡_, subst}
 use Prim.Native.Nat.{_-_, _≤_}
 use lib.ListN.{length}
+use Rattle.memory.specs.rules.Masks.{isInk}
 use Rattle.labelling.specs.stages.Extraction.{TurnsTold}
 use Rattle.labelling.specs.stages.Marked.{passing}
 use Rattle.labelling.proofs.ToldLaws.{told-none, told-more}
@@ -62,6 +63,7 @@ loop-less : tie.Need-loop-less Inv-loop μ-loop
 loop-less c = search needs
 
 loop-again : tie.Need-loop-again Inv-loop μ-loop
+unfolding isInk
 loop-again c = (omega arith, search needs, told-more ((c .before .before .before .before .before .before .before .loop) .inv .2) (omega arith) _ (passing-turn ((c .before .before .before .before .before .before .before .before .before .before) .args .test) ((c .before .before .before .before .before .before .before .before .before .before) .args .ink .now) ((c .before .before .before .before .before .before .before .before .before .before) .args .marks .now) 33 ((c .before .before .before .before .before .before .before .loop) .i) ((c .before .before .before .passes) .result) ((c .passes2) .result) (omega arith) ((c .before .before .before .passes) .ensures) ((c .passes2) .ensures)))
 
 returns : tie.Need-returns Inv-loop μ-loop

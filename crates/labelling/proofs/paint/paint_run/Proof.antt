@@ -1,31 +1,56 @@
-use borrow.Author.Needs.{needs}
-use native.Mathlib.Omega.{arith}
 use mathlib.Core.Path.{_∙_}
+use native.Mathlib.Omega.{arith}
 use lib.ListN.{length-set}
-use Rattle.labelling.proofs.PaintLaws.{fill-first}
+use Rattle.labelling.proofs.PaintLaws.{stored-first}
+use borrow.Author.Needs.{needs}
 use Rattle.labelling.proofs.paint.paint_run.Statement.{statement}
 use Rattle.labelling.proofs.paint.paint_run.Tie as tie
 
 clear-to-requires : tie.Need-clear-to-requires
-clear-to-requires c κs = let p = (c .before .before) .pre in (p .1, p .2, p .3, p .4)
+clear-to-requires c κs = search needs
 
 mul-labels : tie.Need-mul-labels
-mul-labels c = let p = (c .before .before .before .before .before) .pre in let e = (c .before .before .clear-to) .ensures .filled .len in omega arith
+mul-labels c = search needs
 
 slice-write-labels : tie.Need-slice-write-labels
-slice-write-labels c = let p = (c .before .before .before .before .before) .pre in let e = (c .before .before .clear-to) .ensures .filled .len in omega arith
+slice-write-labels c = search needs
 
-add-fill : tie.Need-add-fill
-add-fill c = let p = (c .before .before .before .before .before .before) .pre in omega arith
+add-rest : tie.Need-add-rest
+add-rest c = search needs
 
-fill-requires : tie.Need-fill-requires
-fill-requires c κs = let p = (c .before .before .before .before .before .before) .pre in let e = (c .before .before .before .clear-to) .ensures .filled .len in (omega arith, simp length-set (omega arith))
+mul-fill-words : tie.Need-mul-fill-words
+mul-fill-words c = search needs
+
+sub-fill-words : tie.Need-sub-fill-words
+sub-fill-words c = search needs
+
+part-fill-words-start : tie.Need-part-fill-words-start
+part-fill-words-start c = search needs
+
+part-fill-words-end : tie.Need-part-fill-words-end
+part-fill-words-end c =
+    let p = (c .before .before .before .before .before) .pre in
+    let k = (c .before .before .clear-to) .ensures .filled .within .len in
+    simp length-set (omega arith)
+
+fill-words-requires : tie.Need-fill-words-requires
+fill-words-requires c κs = search needs
 
 same-length : tie.Need-same-length
-same-length c = (simp length-set at ((c .before .before .fill) .ensures .len)) ∙ (c .before .before .before .before .before .before .clear-to) .ensures .filled .len
+same-length c =
+    let a = (c .before .before .before .before .before .before .before .before .before) .args in
+    let p = (c .before .before .before .before .before .before .before .before .before) .pre in
+    let k = (c .before .before .before .before .before .before .clear-to) .ensures .filled .within .len in
+    let f = stored-first (a .label) (a .start) (a .end) ((c .before .before .before .before .before .before .clear-to) .last .0) ((c .before .before .fill-words) .last .0) (p .0) (omega arith) ((c .before .before .fill-words) .ensures) in
+    f .within .len ∙ k
 
 returns : tie.Need-returns
-returns c = let p = (c .before .before .before .before .before .before .before .before .before) .pre in let e = (c .before .before .before .before .before .before .clear-to) .ensures .filled .len in record { between = (c .before .before .before .before .before .before .clear-to) .last .0; cleared = (c .before .before .before .before .before .before .clear-to) .ensures; filled = fill-first (p .0) (omega arith) ((c .before .before .fill) .ensures) }
+returns c =
+    let a = (c .before .before .before .before .before .before .before .before .before) .args in
+    let p = (c .before .before .before .before .before .before .before .before .before) .pre in
+    let k = (c .before .before .before .before .before .before .clear-to) .ensures .filled .within .len in
+    let f = stored-first (a .label) (a .start) (a .end) ((c .before .before .before .before .before .before .clear-to) .last .0) ((c .before .before .fill-words) .last .0) (p .0) (omega arith) ((c .before .before .fill-words) .ensures) in
+    record { between = (c .before .before .before .before .before .before .clear-to) .last .0; cleared = (c .before .before .before .before .before .before .clear-to) .ensures; filled = f }
 
 pub paint-run-spec : {M : Type 1} → statement M
 paint-run-spec =
@@ -34,7 +59,11 @@ paint-run-spec =
     clear-to-requires
     mul-labels
     slice-write-labels
-    add-fill
-    fill-requires
+    add-rest
+    mul-fill-words
+    sub-fill-words
+    part-fill-words-start
+    part-fill-words-end
+    fill-words-requires
     same-length
     returns)

@@ -11,10 +11,10 @@ use Rattle.labelling.proofs.runs.ink_count.Statement.{statement}
 use Rattle.labelling.proofs.runs.ink_count.Tie as tie
 
 abbrev Inv-loop : tie.InvT-loop
-Inv-loop block count₀ i₀ count i = (i ≤ length block) × (count ≤ i) × (count ≡ countIf (isInk block) i)
+Inv-loop chunk count₀ i₀ count i = (i ≤ length chunk) × (count ≤ i) × (count ≡ countIf (isInk chunk) i)
 
 abbrev μ-loop : tie.MeasureT-loop
-μ-loop block count₀ i₀ count i = length block - i
+μ-loop chunk count₀ i₀ count i = length chunk - i
 
 loop-holds : tie.Need-loop-holds Inv-loop μ-loop
 loop-holds c = (omega arith, omega arith, ink-none _)
@@ -26,7 +26,7 @@ ink-of-requires : tie.Need-ink-of-requires Inv-loop μ-loop
 ink-of-requires c κs = search needs
 
 add-count : tie.Need-add-count Inv-loop μ-loop
-add-count c = let t = turn-small (eqb (getD ((c .before .before .before .before .before) .args .block .now) ((c .before .before .before .loop) .i) 0) 0) in omega (arith, (c .ink-of) .ensures)
+add-count c = let t = turn-small (eqb (getD ((c .before .before .before .before .before) .args .chunk .now) ((c .before .before .before .loop) .i) 0) 0) in omega (arith, (c .ink-of) .ensures)
 
 add-i : tie.Need-add-i Inv-loop μ-loop
 add-i c = search needs
@@ -35,10 +35,10 @@ loop-less : tie.Need-loop-less Inv-loop μ-loop
 loop-less c = search needs
 
 loop-again : tie.Need-loop-again Inv-loop μ-loop
-loop-again c = let t = turn-small (eqb (getD ((c .before .before .before .before .before) .args .block .now) ((c .before .before .before .loop) .i) 0) 0) in (omega arith, omega (arith, (c .ink-of) .ensures), ink-more ((c .before .before .before .before .before) .args .block .now) ((c .before .before .before .loop) .i) ((c .before .before .before .loop) .count) ((c .ink-of) .result) ((c .before .before .before .loop) .inv .2) ((c .ink-of) .ensures))
+loop-again c = let t = turn-small (eqb (getD ((c .before .before .before .before .before) .args .chunk .now) ((c .before .before .before .loop) .i) 0) 0) in (omega arith, omega (arith, (c .ink-of) .ensures), ink-more ((c .before .before .before .before .before) .args .chunk .now) ((c .before .before .before .loop) .i) ((c .before .before .before .loop) .count) ((c .ink-of) .result) ((c .before .before .before .loop) .inv .2) ((c .ink-of) .ensures))
 
 returns : tie.Need-returns Inv-loop μ-loop
-returns c = (c .before .loop) .inv .2 ∙ ap (countIf (isInk ((c .before .before .before) .args .block .now))) (let l = (c .loop-test) .left in let u = (c .before .loop) .inv .0 in let e : (c .before .loop) .i ≡ length ((c .before .before .before) .args .block .now) = omega arith in e)
+returns c = (c .before .loop) .inv .2 ∙ ap (countIf (isInk ((c .before .before .before) .args .chunk .now))) (let l = (c .loop-test) .left in let u = (c .before .loop) .inv .0 in let e : (c .before .loop) .i ≡ length ((c .before .before .before) .args .chunk .now) = omega arith in e)
 
 pub ink-count-spec : {M : Type 1} → statement M
 ink-count-spec =

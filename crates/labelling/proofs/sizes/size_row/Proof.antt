@@ -74,14 +74,14 @@ sub-size-span-2 c = row-start ((c .before .before .before .before .before .befor
 size-span-requires : tie.Need-size-span-requires Inv-loop μ-loop
 size-span-requires c κs = row-asks ((c .before .before .before .before .before .before .before .before .before .before .before) .pre .1) ((c .before .before .before .before .before .before .before .before .before .loop) .inv) ((c .before .before .before .before .before .before .before .before .loop-test) .taken) ((c .before .before .before .before .before .before .wide) .result) ((c .before .before .before .before .before .before .wide) .ensures) ((c .before .before .before .before .before .if1) .left) ((c .before .before .before .wide2) .result) ((c .before .before .before .wide2) .ensures) ((c .before .measure-span) .ensures)
 
-larger-requires : tie.Need-larger-requires Inv-loop μ-loop
-larger-requires c κs = search needs
+max-usize-requires : tie.Need-max-usize-requires Inv-loop μ-loop
+max-usize-requires c κs = search needs
 
 loop-less : tie.Need-loop-less Inv-loop μ-loop
 loop-less c = let s = (c .before .before .before .before .before .measure-span) .ensures .1 in let a = s .some in let b = s .upto in omega (arith, (c .before .before .before .before .before .before .before .before .before .before .before .before .loop-test) .taken)
 
 loop-again : tie.Need-loop-again Inv-loop μ-loop
-loop-again c = row-more ((c .before .before .before .before .before .before .before .before .before .before .before .before .before .before .before) .pre .1) ((c .before .before .before .before .before .before .before .before .before .before .before .before .before .loop) .inv) ((c .before .before .before .before .before .before .before .before .before .before .before .before .loop-test) .taken) ((c .before .before .before .before .before .before .before .before .before .before .wide) .result) ((c .before .before .before .before .before .before .before .before .before .before .wide) .ensures) ((c .before .before .before .before .before .before .before .before .before .if1) .left) ((c .before .before .before .before .before .before .before .wide2) .result) ((c .before .before .before .before .before .before .before .wide2) .ensures) ((c .before .before .before .before .before .measure-span) .ensures) ((c .before .before .before .size-span) .last .0) ((c .larger) .result) ((c .before .before .before .size-span) .ensures) ((c .larger) .ensures)
+loop-again c = row-more ((c .before .before .before .before .before .before .before .before .before .before .before .before .before .before .before) .pre .1) ((c .before .before .before .before .before .before .before .before .before .before .before .before .before .loop) .inv) ((c .before .before .before .before .before .before .before .before .before .before .before .before .loop-test) .taken) ((c .before .before .before .before .before .before .before .before .before .before .wide) .result) ((c .before .before .before .before .before .before .before .before .before .before .wide) .ensures) ((c .before .before .before .before .before .before .before .before .before .if1) .left) ((c .before .before .before .before .before .before .before .wide2) .result) ((c .before .before .before .before .before .before .before .wide2) .ensures) ((c .before .before .before .before .before .measure-span) .ensures) ((c .before .before .before .size-span) .last .0) ((c .max-usize) .result) ((c .before .before .before .size-span) .ensures) ((c .max-usize) .ensures)
 
 same-length-2 : tie.Need-same-length-2 Inv-loop μ-loop
 same-length-2 c = row-long ((c .before .before .before) .pre .1) ((c .before .loop) .inv)
@@ -116,7 +116,7 @@ size-row-spec =
     part-size-span-end
     sub-size-span-2
     size-span-requires
-    larger-requires
+    max-usize-requires
     loop-less
     loop-again
     same-length-2

@@ -25,9 +25,9 @@ shear-entry-requires-2 c κs = let m = c .before in
     let read : toZ w64 (ofZ w64 (m .least-drift .result)) ≡ m .least-drift .result = search needs in
     least-of (p .args .which) (p .args .slope) (p .args .n) _ (p .pre .1) (p .pre .0 .0) (p .pre .0 .1) (read ∙ m .least-drift .ensures) _ (omega (arith, p .pre .0))
 
--- the greater by the test that the code makes
-greater : (a b x y g : ℕ) → a ≡ x → b ≡ y → max x y ≡ g → max a b ≡ g
-greater a b x y g p q e = (λ i. max (p i) (q i)) ∙ e
+-- the max-u32 by the test that the code makes
+max-u32 : (a b x y g : ℕ) → a ≡ x → b ≡ y → max x y ≡ g → max a b ≡ g
+max-u32 a b x y g p q e = (λ i. max (p i) (q i)) ∙ e
 
 returns : tie.Need-returns
 returns c = let l = c .before in
@@ -36,7 +36,7 @@ returns c = let l = c .before in
     let p = m .before in
     let read : toZ w64 (ofZ w64 (m .least-drift .result)) ≡ m .least-drift .result = search needs in
     let e = ends-greatest (p .args .which) (p .args .slope) (p .args .n) _ (p .pre .1) (p .pre .0 .0) (p .pre .0 .1) (read ∙ m .least-drift .ensures) in
-    omega (arith, greater _ _ _ _ _ (f .shear-entry .ensures) (l .shear-entry2 .ensures) e)
+    omega (arith, max-u32 _ _ _ _ _ (f .shear-entry .ensures) (l .shear-entry2 .ensures) e)
 
 returns-2 : tie.Need-returns-2
 returns-2 c = let l = c .before in
@@ -45,7 +45,7 @@ returns-2 c = let l = c .before in
     let p = m .before in
     let read : toZ w64 (ofZ w64 (m .least-drift .result)) ≡ m .least-drift .result = search needs in
     let e = ends-greatest (p .args .which) (p .args .slope) (p .args .n) _ (p .pre .1) (p .pre .0 .0) (p .pre .0 .1) (read ∙ m .least-drift .ensures) in
-    omega (arith, greater _ _ _ _ _ (f .shear-entry .ensures) (l .shear-entry2 .ensures) e)
+    omega (arith, max-u32 _ _ _ _ _ (f .shear-entry .ensures) (l .shear-entry2 .ensures) e)
 
 pub greatest-entry-spec : {M : Type 1} → statement M
 greatest-entry-spec =

@@ -5,7 +5,7 @@ use lib.IntN.{ℤ}
 use lib.Signed.{ltZ}
 use mir.Syntax.{w64}
 use mir.Val.{toZ, ofZ}
-use Rattle.levelling.specs.rules.Shears.{lesserℤ}
+use Rattle.levelling.specs.rules.Shears.{minℤ}
 use Rattle.levelling.proofs.Integers.{lesser-by-test}
 use Rattle.levelling.proofs.shears.least_drift.Statement.{statement}
 use Rattle.levelling.proofs.shears.least_drift.Tie as tie
@@ -20,8 +20,8 @@ drift-of-requires-2 : tie.Need-drift-of-requires-2
 drift-of-requires-2 c κs = search needs
 
 -- by the test that the code makes
-by-test : (a b x y : ℤ) (t : Bool) → ltZ a b ≡ t → a ≡ x → b ≡ y → cond t a b ≡ lesserℤ x y
-by-test a b x y t e p q = lesser-by-test a b t e ∙ (λ i. lesserℤ (p i) (q i))
+by-test : (a b x y : ℤ) (t : Bool) → ltZ a b ≡ t → a ≡ x → b ≡ y → cond t a b ≡ minℤ x y
+by-test a b x y t e p q = lesser-by-test a b t e ∙ (λ i. minℤ (p i) (q i))
 
 returns : tie.Need-returns
 returns c =

@@ -21,12 +21,12 @@ loop-holds c = let a = c .before .before .before .before .args in
 sub-loop : tie.Need-sub-loop Inv-loop μ-loop
 sub-loop c = omega arith
 
-add-move-block : tie.Need-add-move-block Inv-loop μ-loop
-add-move-block c = let q = c .before .before .before .before .before .before in
+add-move-chunk : tie.Need-add-move-chunk Inv-loop μ-loop
+add-move-chunk c = let q = c .before .before .before .before .before .before in
     omega (arith, q .pre .columns)
 
-move-block-requires : tie.Need-move-block-requires Inv-loop μ-loop
-move-block-requires c κs = let q = c .before .before .before .before .before .before .before in
+move-chunk-requires : tie.Need-move-chunk-requires Inv-loop μ-loop
+move-chunk-requires c κs = let q = c .before .before .before .before .before .before .before in
     record {
       columns = omega (arith, q .pre .columns);
       dots = omega (arith, q .pre .dots);
@@ -47,7 +47,7 @@ loop-again c = let g = c .before .before in
     let a = p .before .before .before .before .before .args in (
       omega arith,
       λ page-h done s ly fits e.
-          g .move-block .ensures page-h (orRange done (a .y * a .page-w + a .c) (a .y * a .page-w + a .c + p .loop .i)) s ly
+          g .move-chunk .ensures page-h (orRange done (a .y * a .page-w + a .c) (a .y * a .page-w + a .c + p .loop .i)) s ly
           (fits-again (a .page-w) page-h (a .shear .now) (a .shear-x .now) (a .w) (length (a .shear-x .now)) (a .page .now) (a .out .now) (p .loop .out) fits (p .loop .inv .2))
           (p .loop .inv .1 page-h done s ly fits e)
           ∙ part-joined (a .page-w) page-h (a .shear .now) (a .shear-x .now) (a .w) (length (a .shear-x .now)) (a .fill) (a .page .now) (a .out .now) fits done s (a .y) (a .c) (p .loop .i) 64,
@@ -94,8 +94,8 @@ move-part-spec =
     μ-loop
     loop-holds
     sub-loop
-    add-move-block
-    move-block-requires
+    add-move-chunk
+    move-chunk-requires
     add-i
     loop-less
     loop-again

@@ -3,13 +3,13 @@ use Prim.Native.Nat.{_-_, _<_, _≤_, ℕ}
 use native.Mathlib.Nat.{le-refl}
 use native.Mathlib.Omega.{arith}
 use Rattle.extents.specs.rules.Extents.{runThrough}
-use Rattle.rulings.specs.stages.Sweeps.{widenedLine}
+use Rattle.rulings.specs.stages.Sweeps.{widenedScanline}
 use Rattle.rulings.proofs.ColumnLaws.{short-more}
 use Rattle.rulings.proofs.columns.any_long_run.Statement.{statement}
 use Rattle.rulings.proofs.columns.any_long_run.Tie as tie
 
 abbrev Inv-loop : tie.InvT-loop
-Inv-loop ink g a b run-min o₀ o = (a ≤ o) × (o ≤ b) × ((k i : ℕ) → a ≤ k → k < o → i < g .inner → runThrough (widenedLine g ink k) (g .inner) i < run-min)
+Inv-loop ink g a b run-min o₀ o = (a ≤ o) × (o ≤ b) × ((k i : ℕ) → a ≤ k → k < o → i < g .inner → runThrough (widenedScanline g ink k) (g .inner) i < run-min)
 
 abbrev μ-loop : tie.MeasureT-loop
 μ-loop ink g a b run-min o₀ o = b - o

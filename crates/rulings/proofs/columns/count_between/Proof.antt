@@ -3,6 +3,7 @@ use Prim.Native.Nat.{_-_, _≤_}
 use native.Mathlib.Nat.{le-refl}
 use native.Mathlib.Omega.{arith}
 use lib.ListN.{length, length-set}
+use Rattle.memory.specs.rules.Masks.{isInk}
 use Rattle.rulings.specs.stages.Sweeps.{CountedOn}
 use Rattle.rulings.proofs.ColumnLaws.{counted-on-next, counted-on-none}
 use Rattle.rulings.proofs.columns.count_between.Statement.{statement}
@@ -67,6 +68,7 @@ loop-less : tie.Need-loop-less Inv-loop μ-loop
 loop-less c = omega arith
 
 loop-again : tie.Need-loop-again Inv-loop μ-loop
+unfolding isInk
 loop-again c =
     let a = c .before .before .before .before .before .before .before .before .before .args in
     let l = c .before .before .before .before .before .before .loop in (

@@ -5,7 +5,7 @@ use native.Mathlib.Nat.{le-refl}
 use native.Mathlib.Omega.{arith}
 use borrow.Author.Needs.{needs}
 use lib.ListN.{getD}
-use Rattle.rulings.specs.stages.Sweeps.{widenedLine}
+use Rattle.rulings.specs.stages.Sweeps.{widenedScanline}
 use Rattle.extents.proofs.RunLaws.{behind-le, count-next}
 use Rattle.extents.proofs.ExtentLaws.{bit-times, bit-times-le}
 use Rattle.rulings.proofs.ColumnLaws.{recounted-next, recounted-none}
@@ -29,7 +29,7 @@ add-words c =
     let a = c .before .before .before .before .args in
     let p = c .before .before .before .before .pre in
     let h = p .3 .each (a .o) (le-refl (a .o)) (omega arith) in
-    let b = behind-le (widenedLine (a .g) (a .ink .now) (a .o)) (a .y) in
+    let b = behind-le (widenedScanline (a .g) (a .ink .now) (a .o)) (a .y) in
     let n = p .0 .narrow in
     omega arith
 
@@ -38,7 +38,7 @@ mul-words-2 c =
     let a = c .before .before .before .before .args in
     let p = c .before .before .before .before .pre in
     let h = p .3 .each (a .o) (le-refl (a .o)) (omega arith) in
-    let b = behind-le (widenedLine (a .g) (a .ink .now) (a .o)) (a .y) in
+    let b = behind-le (widenedScanline (a .g) (a .ink .now) (a .o)) (a .y) in
     let n = p .0 .narrow in
     let z = bit-times-le (c .before .is-widened .result) (getD (a .words .now) (a .o) 0 + 1) in
     record { fits = omega arith }
@@ -58,7 +58,7 @@ returns c =
     let p = c .before .before .before .before .pre in
     let h = p .3 .each (a .o) (le-refl (a .o)) (omega arith) in
     recounted-next (a .g) (a .ink .now) (a .o) (a .o) (a .y) _ (a .words .now) (a .words .now) (le-refl (a .o)) (p .4)
-    (bit-times (c .before .is-widened .result) (getD (a .words .now) (a .o) 0 + 1) ∙ ((λ k. cond (c .before .is-widened .ensures k) (h k + 1) 0) ∙ sym (count-next (widenedLine (a .g) (a .ink .now) (a .o)) (a .y))))
+    (bit-times (c .before .is-widened .result) (getD (a .words .now) (a .o) 0 + 1) ∙ ((λ k. cond (c .before .is-widened .ensures k) (h k + 1) 0) ∙ sym (count-next (widenedScanline (a .g) (a .ink .now) (a .o)) (a .y))))
     (recounted-none (a .g) (a .ink .now) (a .o) (a .y) (a .words .now))
 
 pub count-end-spec : {M : Type 1} → statement M

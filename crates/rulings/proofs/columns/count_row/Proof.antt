@@ -2,7 +2,7 @@ use mathlib.Core.Path.{_≡_, subst}
 use Prim.Native.Nat.{_+_, _-_}
 use native.Mathlib.Omega.{arith}
 use borrow.Author.Needs.{needs}
-use Rattle.rulings.specs.stages.Sweeps.{Recounted, widenedLine}
+use Rattle.rulings.specs.stages.Sweeps.{Recounted, widenedScanline}
 use Rattle.extents.proofs.RunLaws.{behind-le}
 use Rattle.rulings.proofs.ColumnLaws.{counted-between, counted-last, recounted-all, recounted-row, row-spot}
 use Rattle.rulings.proofs.columns.count_row.Statement.{statement}
@@ -48,7 +48,7 @@ count-between-requires c κs =
       omega arith,
       omega arith,
       omega (arith, c .before .before .before .before .before .before .before .before .words .given, c .before .before .before .words2 .given, p .6),
-      λ o j k. let e = C .each o j k in let b = behind-le (widenedLine (a .g) (a .ink .now) o) (a .y) in let n = p .0 .narrow in omega arith,
+      λ o j k. let e = C .each o j k in let b = behind-le (widenedScanline (a .g) (a .ink .now) o) (a .y) in let n = p .0 .narrow in omega arith,
     )
 
 same-length : tie.Need-same-length

@@ -3,7 +3,7 @@ use Prim.Native.Nat.{_+_, _-_, _<_, _≤_, ℕ}
 use native.Mathlib.Omega.{arith}
 use Rattle.extents.specs.rules.Extents.{runThrough}
 use Rattle.extents.specs.stages.Scans.{Starts}
-use Rattle.rulings.specs.stages.Sweeps.{widenedLine}
+use Rattle.rulings.specs.stages.Sweeps.{widenedScanline}
 use Rattle.extents.proofs.RunLaws.{starts-zero}
 use Rattle.rulings.proofs.SweepLaws.{back-starts}
 use Rattle.rulings.proofs.ColumnLaws.{short-all, short-to}
@@ -11,13 +11,13 @@ use Rattle.rulings.proofs.columns.has_long_run.Statement.{statement}
 use Rattle.rulings.proofs.columns.has_long_run.Tie as tie
 
 abbrev Inv-loop : tie.InvT-loop
-Inv-loop ink g o run-min inner x₀ x = (x ≤ g .inner) × (Starts (widenedLine g ink o) x) × ((i : ℕ) → i < x → runThrough (widenedLine g ink o) (g .inner) i < run-min)
+Inv-loop ink g o run-min inner x₀ x = (x ≤ g .inner) × (Starts (widenedScanline g ink o) x) × ((i : ℕ) → i < x → runThrough (widenedScanline g ink o) (g .inner) i < run-min)
 
 abbrev μ-loop : tie.MeasureT-loop
 μ-loop ink g o run-min inner x₀ x = g .inner - x
 
 loop-holds : tie.Need-loop-holds Inv-loop μ-loop
-loop-holds c = let a = c .before .args in (omega arith, starts-zero (widenedLine (a .g) (a .ink .now) (a .o)), λ i x. absurd (omega arith))
+loop-holds c = let a = c .before .args in (omega arith, starts-zero (widenedScanline (a .g) (a .ink .now) (a .o)), λ i x. absurd (omega arith))
 
 add-loop : tie.Need-add-loop Inv-loop μ-loop
 add-loop c = let n = c .before .before .pre .0 .narrow in omega arith
@@ -41,8 +41,8 @@ loop-again c =
     let B = c .before .run-start .ensures in
     let s = c .before .run-start .result in (
       let h = B .high in omega arith,
-      back-starts (widenedLine (a .g) (a .ink .now) (a .o)) (l .x) (l .x + a .run-min) s B (c .if1 .left),
-      short-to (widenedLine (a .g) (a .ink .now) (a .o)) (a .g .inner) (l .x) (a .run-min) s (l .inv .1) B (c .if1 .left) (l .inv .2),
+      back-starts (widenedScanline (a .g) (a .ink .now) (a .o)) (l .x) (l .x + a .run-min) s B (c .if1 .left),
+      short-to (widenedScanline (a .g) (a .ink .now) (a .o)) (a .g .inner) (l .x) (a .run-min) s (l .inv .1) B (c .if1 .left) (l .inv .2),
     )
 
 returns-2 : tie.Need-returns-2 Inv-loop μ-loop

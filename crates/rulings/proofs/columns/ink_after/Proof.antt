@@ -14,11 +14,11 @@ Inv-loop ink g i o most end n₀ n = (n ≤ end) × (ahead (planeOf g ink i) o (
 abbrev μ-loop : tie.MeasureT-loop
 μ-loop ink g i o most end n₀ n = end - n
 
-sub-smaller : tie.Need-sub-smaller Inv-loop μ-loop
-sub-smaller c = omega arith
+sub-min-usize : tie.Need-sub-min-usize Inv-loop μ-loop
+sub-min-usize c = omega arith
 
-smaller-requires : tie.Need-smaller-requires Inv-loop μ-loop
-smaller-requires c κs = omega arith
+min-usize-requires : tie.Need-min-usize-requires Inv-loop μ-loop
+min-usize-requires c κs = omega arith
 
 loop-holds : tie.Need-loop-holds Inv-loop μ-loop
 loop-holds c =
@@ -29,16 +29,16 @@ loop-holds c =
     (omega arith, omega arith)
 
 add-is-ink : tie.Need-add-is-ink Inv-loop μ-loop
-add-is-ink c = let e = c .before .before .smaller .ensures in let n = c .before .before .before .before .before .pre .0 .low in omega arith
+add-is-ink c = let e = c .before .before .min-usize .ensures in let n = c .before .before .before .before .before .pre .0 .low in omega arith
 
 is-ink-requires : tie.Need-is-ink-requires Inv-loop μ-loop
-is-ink-requires c κs = let p = c .before .before .before .before .before .pre in let e = c .before .before .smaller .ensures in (p .0, p .1, omega arith)
+is-ink-requires c κs = let p = c .before .before .before .before .before .pre in let e = c .before .before .min-usize .ensures in (p .0, p .1, omega arith)
 
 returns : tie.Need-returns Inv-loop μ-loop
 returns c =
     let a = c .before .before .before .before .before .before .before .args in
     let l = c .before .before .before .loop in
-    let e = c .before .before .before .before .smaller .ensures in
+    let e = c .before .before .before .before .min-usize .ensures in
     ahead-blank (planeOf (a .g) (a .ink .now) (a .i)) (a .o) (a .g .outer - a .o) (l .n) (a .most) (omega arith) (test-off _ _ (c .before .is-ink .ensures) (c .if1 .taken)) (l .inv .1)
 
 add-n : tie.Need-add-n Inv-loop μ-loop
@@ -51,14 +51,14 @@ loop-again : tie.Need-loop-again Inv-loop μ-loop
 loop-again c =
     let a = c .before .before .before .before .before .before .before .args in
     let l = c .before .before .before .loop in
-    let e = c .before .before .before .before .smaller .ensures in
+    let e = c .before .before .before .before .min-usize .ensures in
     (omega arith, ahead-step (planeOf (a .g) (a .ink .now) (a .i)) (a .o) (a .g .outer - a .o) (l .n) (omega arith) (test-on _ _ (c .before .is-ink .ensures) (c .if1 .left)) (l .inv .1))
 
 returns-2 : tie.Need-returns-2 Inv-loop μ-loop
 returns-2 c =
     let a = c .before .before .before .before .before .args in
     let l = c .before .loop in
-    let e = c .before .before .smaller .ensures in
+    let e = c .before .before .min-usize .ensures in
     ahead-ended (planeOf (a .g) (a .ink .now) (a .i)) (a .o) (a .g .outer - a .o) (l .n) (a .most) (omega arith) (omega arith) (λ x y. absurd (omega arith)) (l .inv .1)
 
 pub ink-after-spec : {M : Type 1} → statement M
@@ -67,8 +67,8 @@ ink-after-spec =
     (tie.spec
     Inv-loop
     μ-loop
-    sub-smaller
-    smaller-requires
+    sub-min-usize
+    min-usize-requires
     loop-holds
     add-is-ink
     is-ink-requires

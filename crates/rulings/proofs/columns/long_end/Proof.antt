@@ -13,11 +13,11 @@ abbrev μ-loop : tie.MeasureT-loop
 loop-holds : tie.Need-loop-holds Inv-loop μ-loop
 loop-holds c = (le-refl _, omega arith)
 
-stretch-end-requires : tie.Need-stretch-end-requires Inv-loop μ-loop
-stretch-end-requires c κs = omega arith
+chunk-end-requires : tie.Need-chunk-end-requires Inv-loop μ-loop
+chunk-end-requires c κs = omega arith
 
 any-long-run-requires : tie.Need-any-long-run-requires Inv-loop μ-loop
-any-long-run-requires c κs = let p = c .before .before .before .before .pre in let e = c .stretch-end .ensures in (p .0, omega arith, e .1, p .2, p .3)
+any-long-run-requires c κs = let p = c .before .before .before .before .pre in let e = c .chunk-end .ensures in (p .0, omega arith, e .1, p .2, p .3)
 
 returns : tie.Need-returns Inv-loop μ-loop
 returns c = omega arith
@@ -38,7 +38,7 @@ long-end-spec =
     Inv-loop
     μ-loop
     loop-holds
-    stretch-end-requires
+    chunk-end-requires
     any-long-run-requires
     returns
     loop-less

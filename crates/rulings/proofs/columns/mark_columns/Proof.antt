@@ -5,7 +5,7 @@ use Prim.Native.Nat.{_-_, _≤_}
 use native.Mathlib.Omega.{arith}
 use lib.ListN.{drop, length}
 use Rattle.rulings.specs.stages.Sweeps.{Risen}
-use Rattle.rulings.proofs.ColumnLaws.{risen-all, risen-lines, risen-short, risen-small}
+use Rattle.rulings.proofs.ColumnLaws.{risen-all, risen-scanlines, risen-short, risen-small}
 use Rattle.rulings.proofs.columns.mark_columns.Statement.{statement}
 use Rattle.rulings.proofs.columns.mark_columns.Tie as tie
 
@@ -18,22 +18,22 @@ abbrev μ-loop : tie.MeasureT-loop
 loop-holds : tie.Need-loop-holds Inv-loop μ-loop
 loop-holds c = let a = (c .before .before) .args in (omega arith, risen-short (a .g) (a .ink .now) (a .run-min) (a .thick-max) 0 0 (drop (a .marks) (a .words .now)) (λ o i x y z. absurd (omega arith)), refl, λ e. refl)
 
-mark-stretches-requires : tie.Need-mark-stretches-requires Inv-loop μ-loop
-mark-stretches-requires c κs =
+mark-strips-requires : tie.Need-mark-strips-requires Inv-loop μ-loop
+mark-strips-requires c κs =
     let a = (c .before .before .before .before .before) .args in
     let p = (c .before .before .before .before .before) .pre in
     let l = (c .before .before .loop) in
     (p .0, p .1, omega arith, p .2, risen-small (a .g) (a .ink .now) (a .run-min) (a .thick-max) 0 (l .a) 0 (a .g .inner) 2 (drop (a .marks) (a .words .now)) (drop (a .marks) (l .words)) (l .inv .1) (p .3), p .4, omega (arith, l .inv .2, p .5))
 
 loop-less : tie.Need-loop-less Inv-loop μ-loop
-loop-less c = let e = (c .before .before .before .mark-stretches) .ensures in omega (arith, e .0, e .1)
+loop-less c = let e = (c .before .before .before .mark-strips) .ensures in omega (arith, e .0, e .1)
 
 loop-again : tie.Need-loop-again Inv-loop μ-loop
 loop-again c =
     let a = (c .before .before .before .before .before .before .before .before .before) .args in
     let l = (c .before .before .before .before .before .before .loop) in
-    let e = (c .before .before .before .mark-stretches) .ensures in
-    (e .1, risen-lines (a .g) (a .ink .now) (a .run-min) (a .thick-max) 0 (l .a) ((c .before .before .before .mark-stretches) .result .to) 0 (a .g .inner) (drop (a .marks) (a .words .now)) (drop (a .marks) (l .words)) _ (omega arith) (omega arith) (l .inv .1) (e .2), omega arith, still-both (l .found) ((c .before .before .before .mark-stretches) .result .found) _ (drop (a .marks) (l .words)) _ (l .inv .3) (e .3))
+    let e = (c .before .before .before .mark-strips) .ensures in
+    (e .1, risen-scanlines (a .g) (a .ink .now) (a .run-min) (a .thick-max) 0 (l .a) ((c .before .before .before .mark-strips) .result .to) 0 (a .g .inner) (drop (a .marks) (a .words .now)) (drop (a .marks) (l .words)) _ (omega arith) (omega arith) (l .inv .1) (e .2), omega arith, still-both (l .found) ((c .before .before .before .mark-strips) .result .found) _ (drop (a .marks) (l .words)) _ (l .inv .3) (e .3))
 
 same-length : tie.Need-same-length Inv-loop μ-loop
 same-length c = omega arith
@@ -52,7 +52,7 @@ mark-columns-spec =
     Inv-loop
     μ-loop
     loop-holds
-    mark-stretches-requires
+    mark-strips-requires
     loop-less
     loop-again
     same-length

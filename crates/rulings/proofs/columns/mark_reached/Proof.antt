@@ -6,7 +6,7 @@ use native.Mathlib.Nat.{le-refl}
 use native.Mathlib.Omega.{arith}
 use lib.ListN.{drop, length, take}
 use Rattle.rulings.specs.stages.Sweeps.{Risen}
-use Rattle.rulings.proofs.ColumnLaws.{counted-kept, risen-lines, risen-small, risen-still}
+use Rattle.rulings.proofs.ColumnLaws.{counted-kept, risen-scanlines, risen-small, risen-still}
 use Rattle.rulings.proofs.columns.mark_reached.Statement.{statement}
 use Rattle.rulings.proofs.columns.mark_reached.Tie as tie
 
@@ -50,7 +50,7 @@ loop-again c =
     let l = (c .before .before .before .before .before .loop) in (
       omega arith,
       omega arith,
-      risen-lines (a .g) (a .ink .now) (a .run-min) (a .thick-max) (a .a) (l .o) (l .o + 1) (a .y) (a .y + 1) (drop (a .marks) (a .words .now)) (drop (a .marks) (l .words)) _ (l .inv .0) (omega arith) (l .inv .2) ((c .before .before .mark-place) .ensures .0),
+      risen-scanlines (a .g) (a .ink .now) (a .run-min) (a .thick-max) (a .a) (l .o) (l .o + 1) (a .y) (a .y + 1) (drop (a .marks) (a .words .now)) (drop (a .marks) (l .words)) _ (l .inv .0) (omega arith) (l .inv .2) ((c .before .before .mark-place) .ensures .0),
       (c .before .before .mark-place) .ensures .1 ∙ l .inv .3,
       omega arith,
       still-both (l .found) ((c .before .before .mark-place) .result) _ (drop (a .marks) (l .words)) _ (l .inv .5) ((c .before .before .mark-place) .ensures .2),

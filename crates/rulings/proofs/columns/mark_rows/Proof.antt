@@ -6,7 +6,7 @@ use native.Mathlib.Omega.{arith}
 use borrow.Rule.Slice.PartMut.{putMid}
 use lib.ListN.{drop, length}
 use Rattle.rulings.specs.stages.Sweeps.{Counted, Risen, UpTo}
-use Rattle.extents.proofs.OverLaws.{behind-same, part-filled}
+use Rattle.memory.proofs.StoredLaws.{within-drop, stored-at, stored-filled}
 use Rattle.rulings.proofs.ColumnLaws.{counted-zero, risen-none, risen-places, risen-small}
 use Rattle.rulings.proofs.columns.mark_rows.Statement.{statement}
 use Rattle.rulings.proofs.columns.mark_rows.Tie as tie
@@ -17,36 +17,36 @@ Inv-loop ink words₀ marks g a b run-min thick-max inner found₀ y₀ words fo
 abbrev μ-loop : tie.MeasureT-loop
 μ-loop ink words₀ marks g a b run-min thick-max inner found₀ y₀ words found y = g .inner - y
 
-mul-fill : tie.Need-mul-fill Inv-loop μ-loop
-mul-fill c = omega arith
+mul-fill-words : tie.Need-mul-fill-words Inv-loop μ-loop
+mul-fill-words c = omega arith
 
-sub-fill : tie.Need-sub-fill Inv-loop μ-loop
-sub-fill c = omega arith
+sub-fill-words : tie.Need-sub-fill-words Inv-loop μ-loop
+sub-fill-words c = omega arith
 
-part-fill-start : tie.Need-part-fill-start Inv-loop μ-loop
-part-fill-start c = omega arith
+part-fill-words-start : tie.Need-part-fill-words-start Inv-loop μ-loop
+part-fill-words-start c = omega arith
 
-part-fill-end : tie.Need-part-fill-end Inv-loop μ-loop
-part-fill-end c = omega arith
+part-fill-words-end : tie.Need-part-fill-words-end Inv-loop μ-loop
+part-fill-words-end c = omega arith
 
-fill-requires : tie.Need-fill-requires Inv-loop μ-loop
-fill-requires c κs = omega arith
+fill-words-requires : tie.Need-fill-words-requires Inv-loop μ-loop
+fill-words-requires c κs = omega arith
 
 loop-holds : tie.Need-loop-holds Inv-loop μ-loop
 loop-holds c =
     let a = (c .before .before .before .before .before .before) .args in
     let p = (c .before .before .before .before .before .before) .pre in
-    let s = putMid (a .a) (a .b - a .a) (a .words .now) ((c .before .before .fill) .last .0) in
-    let f = part-filled (a .a) (a .b) 0 (a .words .now) ((c .before .before .fill) .last .0) (omega arith) (omega arith) ((c .before .before .fill) .ensures) in
-    (omega arith, risen-none (a .g) (a .ink .now) (a .run-min) (a .thick-max) (a .a) (a .b) 0 (drop (a .marks) s), counted-zero (a .g) (a .ink .now) (a .a) (a .b) s (f .1), refl, λ e. refl)
+    let s = putMid (a .a) (a .b - a .a) (a .words .now) ((c .before .before .fill-words) .last .0) in
+    let f = stored-filled 0 (a .a) (a .b) (a .words .now) ((c .before .before .fill-words) .last .0) (omega arith) (omega arith) ((c .before .before .fill-words) .ensures) in
+    (omega arith, risen-none (a .g) (a .ink .now) (a .run-min) (a .thick-max) (a .a) (a .b) 0 (drop (a .marks) s), counted-zero (a .g) (a .ink .now) (a .a) (a .b) s (λ o k b. stored-at f o k (omega arith)), refl, λ e. refl)
 
 mark-row-requires : tie.Need-mark-row-requires Inv-loop μ-loop
 mark-row-requires c κs =
     let a = (c .before .before .before .before .before .before .before .before .before) .args in
     let p = (c .before .before .before .before .before .before .before .before .before) .pre in
-    let s = putMid (a .a) (a .b - a .a) (a .words .now) ((c .before .before .before .before .before .fill) .last .0) in
-    let f = part-filled (a .a) (a .b) 0 (a .words .now) ((c .before .before .before .before .before .fill) .last .0) (omega arith) (omega arith) ((c .before .before .before .before .before .fill) .ensures) in
-    let D : drop (a .marks) s ≡ drop (a .marks) (a .words .now) = behind-same (a .b) (a .marks) (a .words .now) s (omega arith) (f .0) (f .2) in
+    let s = putMid (a .a) (a .b - a .a) (a .words .now) ((c .before .before .before .before .before .fill-words) .last .0) in
+    let f = stored-filled 0 (a .a) (a .b) (a .words .now) ((c .before .before .before .before .before .fill-words) .last .0) (omega arith) (omega arith) ((c .before .before .before .before .before .fill-words) .ensures) in
+    let D : drop (a .marks) s ≡ drop (a .marks) (a .words .now) = within-drop (f .within) (a .marks) (omega arith) in
     let l = (c .before .before .loop) in (
       p .0,
       p .1,
@@ -57,7 +57,7 @@ mark-row-requires c κs =
       risen-small (a .g) (a .ink .now) (a .run-min) (a .thick-max) (a .a) (a .b) 0 (l .y) 4 (drop (a .marks) s) (drop (a .marks) (l .words)) (l .inv .1) (subst (λ r. UpTo (a .g) (length (a .ink .now)) r 4) (sym D) (p .5)),
       l .inv .2,
       p .6,
-      omega (arith, l .inv .3, f .0, p .7),
+      omega (arith, l .inv .3, f .within .len, p .7),
     )
 
 add-y : tie.Need-add-y Inv-loop μ-loop
@@ -70,8 +70,8 @@ loop-again : tie.Need-loop-again Inv-loop μ-loop
 loop-again c =
     let a = (c .before .before .before .before .before .before .before .before .before .before .before .before) .args in
     let p = (c .before .before .before .before .before .before .before .before .before .before .before .before) .pre in
-    let s = putMid (a .a) (a .b - a .a) (a .words .now) ((c .before .before .before .before .before .before .before .before .fill) .last .0) in
-    let f = part-filled (a .a) (a .b) 0 (a .words .now) ((c .before .before .before .before .before .before .before .before .fill) .last .0) (omega arith) (omega arith) ((c .before .before .before .before .before .before .before .before .fill) .ensures) in
+    let s = putMid (a .a) (a .b - a .a) (a .words .now) ((c .before .before .before .before .before .before .before .before .fill-words) .last .0) in
+    let f = stored-filled 0 (a .a) (a .b) (a .words .now) ((c .before .before .before .before .before .before .before .before .fill-words) .last .0) (omega arith) (omega arith) ((c .before .before .before .before .before .before .before .before .fill-words) .ensures) in
     let l = (c .before .before .before .before .before .loop) in (
       omega arith,
       risen-places (a .g) (a .ink .now) (a .run-min) (a .thick-max) (a .a) (a .b) 0 (l .y) (l .y + 1) (drop (a .marks) s) (drop (a .marks) (l .words)) _ (l .inv .1) ((c .before .before .mark-row) .ensures .0),
@@ -84,17 +84,17 @@ same-length : tie.Need-same-length Inv-loop μ-loop
 same-length c =
     let a = (c .before .before .before .before .before .before .before .before) .args in
     let p = (c .before .before .before .before .before .before .before .before) .pre in
-    let s = putMid (a .a) (a .b - a .a) (a .words .now) ((c .before .before .before .before .fill) .last .0) in
-    let f = part-filled (a .a) (a .b) 0 (a .words .now) ((c .before .before .before .before .fill) .last .0) (omega arith) (omega arith) ((c .before .before .before .before .fill) .ensures) in
-    (c .before .loop) .inv .3 ∙ f .0
+    let s = putMid (a .a) (a .b - a .a) (a .words .now) ((c .before .before .before .before .fill-words) .last .0) in
+    let f = stored-filled 0 (a .a) (a .b) (a .words .now) ((c .before .before .before .before .fill-words) .last .0) (omega arith) (omega arith) ((c .before .before .before .before .fill-words) .ensures) in
+    (c .before .loop) .inv .3 ∙ f .within .len
 
 returns : tie.Need-returns Inv-loop μ-loop
 returns c =
     let a = (c .before .before .before .before .before .before .before .before) .args in
     let p = (c .before .before .before .before .before .before .before .before) .pre in
-    let s = putMid (a .a) (a .b - a .a) (a .words .now) ((c .before .before .before .before .fill) .last .0) in
-    let f = part-filled (a .a) (a .b) 0 (a .words .now) ((c .before .before .before .before .fill) .last .0) (omega arith) (omega arith) ((c .before .before .before .before .fill) .ensures) in
-    let D : drop (a .marks) s ≡ drop (a .marks) (a .words .now) = behind-same (a .b) (a .marks) (a .words .now) s (omega arith) (f .0) (f .2) in
+    let s = putMid (a .a) (a .b - a .a) (a .words .now) ((c .before .before .before .before .fill-words) .last .0) in
+    let f = stored-filled 0 (a .a) (a .b) (a .words .now) ((c .before .before .before .before .fill-words) .last .0) (omega arith) (omega arith) ((c .before .before .before .before .fill-words) .ensures) in
+    let D : drop (a .marks) s ≡ drop (a .marks) (a .words .now) = within-drop (f .within) (a .marks) (omega arith) in
     let l = (c .before .loop) in
     let e : l .y ≡ a .g .inner = omega arith in
     let M = subst (λ k. Risen (a .g) (a .ink .now) (a .run-min) (a .thick-max) (a .a) (a .b) 0 k (drop (a .marks) s) (drop (a .marks) (l .words))) e (l .inv .1) in
@@ -106,11 +106,11 @@ mark-rows-spec =
     (tie.spec
     Inv-loop
     μ-loop
-    mul-fill
-    sub-fill
-    part-fill-start
-    part-fill-end
-    fill-requires
+    mul-fill-words
+    sub-fill-words
+    part-fill-words-start
+    part-fill-words-end
+    fill-words-requires
     loop-holds
     mark-row-requires
     add-y

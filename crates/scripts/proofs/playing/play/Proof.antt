@@ -18,15 +18,15 @@ abbrev μ-loop : tie.MeasureT-loop
 μ-loop script floats bytes store₀ ink₀ kinds₀ scratch₀ words₀ gray₀ integers₀ numbers₀ log₀ n i₀ store ink kinds scratch words gray integers numbers log i =
     n - i
 
-smaller-requires : tie.Need-smaller-requires Inv-loop μ-loop
-smaller-requires c κs = tt
+min-usize-requires : tie.Need-min-usize-requires Inv-loop μ-loop
+min-usize-requires c κs = tt
 
 loop-holds : tie.Need-loop-holds Inv-loop μ-loop
 loop-holds c =
     let a = c .before .before .before .before .before .before .before .before .before .before .before .before .args in
     let s = scriptOf (a .script .now) (a .floats .now) (a .bytes .now) (length (a .scratch .now)) in
     let m = memory (world (a .store .now) (a .ink .now) (a .kinds .now)) (outputs (a .words .now) (a .gray .now) (a .integers .now) (a .numbers .now)) in
-    (zero-le, omega (arith, c .smaller .ensures), omega (arith, c .smaller .ensures), refl, refl, refl, refl, refl, refl, refl, refl, refl, going-none s m (a .log .now))
+    (zero-le, omega (arith, c .min-usize .ensures), omega (arith, c .min-usize .ensures), refl, refl, refl, refl, refl, refl, refl, refl, refl, going-none s m (a .log .now))
 
 nth-requires : tie.Need-nth-requires Inv-loop μ-loop
 nth-requires c κs = omega (arith, c .before .before .before .before .before .before .before .before .before .loop .inv .2, c .before .before .before .before .before .before .before .before .loop-test .taken)
@@ -113,8 +113,8 @@ returns c =
     let s = scriptOf (a .script .now) (a .floats .now) (a .bytes .now) (length (a .scratch .now)) in
     let m = memory (world (a .store .now) (a .ink .now) (a .kinds .now)) (outputs (a .words .now) (a .gray .now) (a .integers .now) (a .numbers .now)) in
     let v = c .before .loop .inv in
-    let e : c .before .loop .i ≡ c .before .before .smaller .result = omega (arith, v .0, c .loop-test .left) in
-    going-all s m (a .log .now) (c .before .before .smaller .result) (memory (world (c .before .loop .store) (c .before .loop .ink) (c .before .loop .kinds)) (outputs (c .before .loop .words) (c .before .loop .gray) (c .before .loop .integers) (c .before .loop .numbers))) (c .before .loop .log) (length (c .before .loop .scratch)) (c .before .before .smaller .ensures) (v .7)
+    let e : c .before .loop .i ≡ c .before .before .min-usize .result = omega (arith, v .0, c .loop-test .left) in
+    going-all s m (a .log .now) (c .before .before .min-usize .result) (memory (world (c .before .loop .store) (c .before .loop .ink) (c .before .loop .kinds)) (outputs (c .before .loop .words) (c .before .loop .gray) (c .before .loop .integers) (c .before .loop .numbers))) (c .before .loop .log) (length (c .before .loop .scratch)) (c .before .before .min-usize .ensures) (v .7)
     (subst (λ (r : ℕ). Going s m (a .log .now) r (memory (world (c .before .loop .store) (c .before .loop .ink) (c .before .loop .kinds)) (outputs (c .before .loop .words) (c .before .loop .gray) (c .before .loop .integers) (c .before .loop .numbers))) (c .before .loop .log)) e (v .12))
 
 pub play-spec : {M : Type 1} → statement M
@@ -123,7 +123,7 @@ play-spec =
     (tie.spec
     Inv-loop
     μ-loop
-    smaller-requires
+    min-usize-requires
     loop-holds
     nth-requires
     mul-log

@@ -36,8 +36,8 @@ returns c =
 cut-requires-2 : tie.Need-cut-requires-2
 cut-requires-2 c κs = tt
 
-box-of-requires : tie.Need-box-of-requires
-box-of-requires c κs = tt
+box-from-requires : tie.Need-box-from-requires
+box-from-requires c κs = tt
 
 slice-relend-prefix-rect-to-page : tie.Need-slice-relend-prefix-rect-to-page
 slice-relend-prefix-rect-to-page c = search needs
@@ -54,7 +54,7 @@ same-length-2 c = search needs
 returns-2 : tie.Need-returns-2
 returns-2 c =
     let a = c .before .before .before .before .before .before .before .before .before .before .before .before .before .args in
-    read-box (a .call .now) (a .bytes .now) (a .store .now) (a .words .now) (a .gray .now) (a .integers .now) (c .before .before .before .before .before .before .before .word-at .ensures) (c .before .before .before .before .before .before .if1 .left) (c .before .before .before .before .before .if2 .taken) (c .before .before .before .before .cut2 .ensures) (c .before .before .before .box-of .ensures) (c .before .rect-to-page .ensures) (c .before .rect-to-page .kept .1 .1 .0)
+    read-box (a .call .now) (a .bytes .now) (a .store .now) (a .words .now) (a .gray .now) (a .integers .now) (c .before .before .before .before .before .before .before .word-at .ensures) (c .before .before .before .before .before .before .if1 .left) (c .before .before .before .before .before .if2 .taken) (c .before .before .before .before .cut2 .ensures) (c .before .before .before .box-from .ensures) (c .before .rect-to-page .ensures) (c .before .rect-to-page .kept .1 .1 .0)
 
 cut-requires-3 : tie.Need-cut-requires-3
 cut-requires-3 c κs = tt
@@ -113,7 +113,7 @@ read-level-spec =
     same-length
     returns
     cut-requires-2
-    box-of-requires
+    box-from-requires
     slice-relend-prefix-rect-to-page
     slice-aggregate-rect-to-page
     rect-to-page-requires

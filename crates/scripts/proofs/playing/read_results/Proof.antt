@@ -40,8 +40,8 @@ returns-2 c = read-twenty (c .before .before .before .before .before .before .be
 word-at-requires-2 : tie.Need-word-at-requires-2
 word-at-requires-2 c κs = search needs
 
-box-of-requires : tie.Need-box-of-requires
-box-of-requires c κs = search needs
+box-from-requires : tie.Need-box-from-requires
+box-from-requires c κs = search needs
 
 count-dots-requires : tie.Need-count-dots-requires
 count-dots-requires c κs = search needs
@@ -50,7 +50,7 @@ log-answer-requires-2 : tie.Need-log-answer-requires-2
 log-answer-requires-2 c κs = search needs
 
 returns-3 : tie.Need-returns-3
-returns-3 c = read-count (c .before .before .before .before .before .before .before .before .before .before .before .before .before .before .before .args .call .now) (c .before .before .before .before .before .before .before .before .before .before .before .before .before .before .before .args .store .now) (c .before .before .before .before .before .before .before .before .before .before .before .before .before .before .before .args .ink .now) (c .before .before .before .before .before .before .before .before .before .before .before .before .before .before .before .args .kinds .now) (c .before .before .before .before .before .before .before .before .before .before .before .before .before .before .before .args .words .now) (c .before .before .before .before .before .before .before .before .before .before .before .before .before .before .before .args .gray .now) (c .before .before .before .before .before .before .before .before .before .before .before .before .before .before .before .args .numbers .now) (c .before .before .before .before .before .before .before .word-at .ensures) (c .log-answer2 .ensures .0) (c .log-answer2 .ensures .1) (c .before .before .before .before .before .before .if1 .left) (c .before .before .before .before .before .if2 .left) (c .before .before .before .before .if3 .taken) (c .before .before .before .word-at2 .ensures) (c .before .before .box-of .ensures) (c .before .count-dots .ensures)
+returns-3 c = read-count (c .before .before .before .before .before .before .before .before .before .before .before .before .before .before .before .args .call .now) (c .before .before .before .before .before .before .before .before .before .before .before .before .before .before .before .args .store .now) (c .before .before .before .before .before .before .before .before .before .before .before .before .before .before .before .args .ink .now) (c .before .before .before .before .before .before .before .before .before .before .before .before .before .before .before .args .kinds .now) (c .before .before .before .before .before .before .before .before .before .before .before .before .before .before .before .args .words .now) (c .before .before .before .before .before .before .before .before .before .before .before .before .before .before .before .args .gray .now) (c .before .before .before .before .before .before .before .before .before .before .before .before .before .before .before .args .numbers .now) (c .before .before .before .before .before .before .before .word-at .ensures) (c .log-answer2 .ensures .0) (c .log-answer2 .ensures .1) (c .before .before .before .before .before .before .if1 .left) (c .before .before .before .before .before .if2 .left) (c .before .before .before .before .if3 .taken) (c .before .before .before .word-at2 .ensures) (c .before .before .box-from .ensures) (c .before .count-dots .ensures)
 
 cut-requires-2 : tie.Need-cut-requires-2
 cut-requires-2 c κs = search needs
@@ -107,7 +107,7 @@ read-results-spec =
     log-answer-requires
     returns-2
     word-at-requires-2
-    box-of-requires
+    box-from-requires
     count-dots-requires
     log-answer-requires-2
     returns-3

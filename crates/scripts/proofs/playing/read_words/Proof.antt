@@ -24,8 +24,8 @@ returns c =
 word-at-requires-2 : tie.Need-word-at-requires-2
 word-at-requires-2 c κs = tt
 
-box-of-requires : tie.Need-box-of-requires
-box-of-requires c κs = tt
+box-from-requires : tie.Need-box-from-requires
+box-from-requires c κs = tt
 
 read-dots-requires : tie.Need-read-dots-requires
 read-dots-requires c κs = tt
@@ -39,7 +39,7 @@ same-length-2 c = search needs
 returns-2 : tie.Need-returns-2
 returns-2 c =
     let a = c .before .before .before .before .before .before .before .before .before .before .before .before .before .before .before .args in
-    words-dots (a .call .now) (a .out .now) (a .store .now) (a .ink .now) (a .kinds .now) (c .before .before .before .before .before .before .before .before .before .word-at .ensures) (c .log-answer .ensures .0) (c .log-answer .ensures .1) (c .before .before .before .before .before .before .before .before .if1 .left) (c .before .before .before .before .before .before .before .if2 .taken) (c .before .before .before .before .before .before .word-at2 .ensures) (c .before .before .before .before .before .box-of .ensures) (c .before .before .before .read-dots .ensures)
+    words-dots (a .call .now) (a .out .now) (a .store .now) (a .ink .now) (a .kinds .now) (c .before .before .before .before .before .before .before .before .before .word-at .ensures) (c .log-answer .ensures .0) (c .log-answer .ensures .1) (c .before .before .before .before .before .before .before .before .if1 .left) (c .before .before .before .before .before .before .before .if2 .taken) (c .before .before .before .before .before .before .word-at2 .ensures) (c .before .before .before .before .before .box-from .ensures) (c .before .before .before .read-dots .ensures)
 
 read-list-requires : tie.Need-read-list-requires
 read-list-requires c κs = tt
@@ -65,7 +65,7 @@ read-words-spec =
     same-length
     returns
     word-at-requires-2
-    box-of-requires
+    box-from-requires
     read-dots-requires
     log-answer-requires
     same-length-2

@@ -4,7 +4,7 @@ use native.Mathlib.Omega.{arith}
 use borrow.Author.Needs.{needs}
 use Rattle.memory.specs.rules.Words.{over}
 use Rattle.memory.specs.rules.Records.{encoded}
-use Rattle.segmenting.specs.rules.Results.{boxWords}
+use Rattle.memory.specs.rules.Rects.{boxWords}
 use Rattle.segmenting.specs.stages.Held.{unpackedBox, unpackedBoxes}
 use Rattle.segmenting.proofs.BoxLaws.{BoxesWritten, written-length, box-more, unpacked-none, unpacked-more}
 use Rattle.segmenting.proofs.boxes.unpack_boxes.Statement.{statement}
@@ -19,14 +19,17 @@ abbrev μ-loop : tie.MeasureT-loop
 loop-holds : tie.Need-loop-holds Inv-loop μ-loop
 loop-holds c = (omega arith, unpacked-none ((c .before .before) .args .words .now) ((c .before .before) .args .from) ((c .before .before) .args .out .now))
 
-mul-unpacked-box : tie.Need-mul-unpacked-box Inv-loop μ-loop
-mul-unpacked-box c = search needs
+mul-put-box : tie.Need-mul-put-box Inv-loop μ-loop
+mul-put-box c = search needs
 
-add-unpacked-box : tie.Need-add-unpacked-box Inv-loop μ-loop
-add-unpacked-box c = search needs
+mul-packed-box : tie.Need-mul-packed-box Inv-loop μ-loop
+mul-packed-box c = search needs
 
-unpacked-box-requires : tie.Need-unpacked-box-requires Inv-loop μ-loop
-unpacked-box-requires c κs = search needs
+add-packed-box : tie.Need-add-packed-box Inv-loop μ-loop
+add-packed-box c = search needs
+
+packed-box-requires : tie.Need-packed-box-requires Inv-loop μ-loop
+packed-box-requires c κs = search needs
 
 put-box-requires : tie.Need-put-box-requires Inv-loop μ-loop
 put-box-requires c κs = let b = written-length ((c .before .before .before .loop) .inv .1) in omega arith
@@ -38,7 +41,7 @@ loop-less : tie.Need-loop-less Inv-loop μ-loop
 loop-less c = search needs
 
 loop-again : tie.Need-loop-again Inv-loop μ-loop
-loop-again c = (omega arith, subst (λ z. BoxesWritten z ((c .before .before .before .before .before .before .before .before .before) .args .out .now) ((c .before .before .put-box) .last .0) ((c .before .before .before .before .before .before .loop) .k + 1)) (sym (unpacked-more ((c .before .before .before .before .before .before .before .before .before) .args .words .now) ((c .before .before .before .before .before .before .before .before .before) .args .from) ((c .before .before .before .before .before .before .loop) .k))) (box-more ((c .before .before .before .before .before .before .loop) .inv .1) (unpackedBox ((c .before .before .before .before .before .before .before .before .before) .args .words .now) (((c .before .before .before .before .before .before .before .before .before) .args .from) + 2 * (c .before .before .before .before .before .before .loop) .k)) ((c .before .before .before .unpacked-box) .result) ((c .before .before .put-box) .last .0) (omega arith) ((c .before .before .before .unpacked-box) .ensures) ((c .before .before .put-box) .ensures)))
+loop-again c = (omega arith, subst (λ z. BoxesWritten z ((c .before .before .before .before .before .before .before .before .before) .args .out .now) ((c .before .before .put-box) .last .0) ((c .before .before .before .before .before .before .loop) .k + 1)) (sym (unpacked-more ((c .before .before .before .before .before .before .before .before .before) .args .words .now) ((c .before .before .before .before .before .before .before .before .before) .args .from) ((c .before .before .before .before .before .before .loop) .k))) (box-more ((c .before .before .before .before .before .before .loop) .inv .1) (unpackedBox ((c .before .before .before .before .before .before .before .before .before) .args .words .now) (((c .before .before .before .before .before .before .before .before .before) .args .from) + 2 * (c .before .before .before .before .before .before .loop) .k)) ((c .before .before .before .packed-box) .result) ((c .before .before .put-box) .last .0) (omega arith) ((c .before .before .before .packed-box) .ensures) ((c .before .before .put-box) .ensures)))
 
 same-length : tie.Need-same-length Inv-loop μ-loop
 same-length c = written-length ((c .before .loop) .inv .1)
@@ -53,9 +56,10 @@ unpack-boxes-spec =
     Inv-loop
     μ-loop
     loop-holds
-    mul-unpacked-box
-    add-unpacked-box
-    unpacked-box-requires
+    mul-put-box
+    mul-packed-box
+    add-packed-box
+    packed-box-requires
     put-box-requires
     add-k
     loop-less

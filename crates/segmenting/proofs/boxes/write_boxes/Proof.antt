@@ -6,7 +6,7 @@ use borrow.Author.Needs.{needs}
 use lib.ListN.{length}
 use Rattle.memory.specs.rules.Words.{over}
 use Rattle.memory.specs.rules.Records.{encoded}
-use Rattle.segmenting.specs.rules.Results.{boxWords}
+use Rattle.memory.specs.rules.Rects.{boxWords}
 use Rattle.segmenting.specs.stages.Held.{heldBox, heldBoxes}
 use Rattle.segmenting.proofs.BoxLaws.{BoxesWritten, written-length, box-more, boxes-none, boxes-more, boxes-same, boxes-below}
 use Rattle.segmenting.proofs.boxes.write_boxes.Statement.{statement}
@@ -30,8 +30,20 @@ mul-if1 c = search needs
 shared-slice-read-if1 : tie.Need-shared-slice-read-if1 Inv-loop μ-loop
 shared-slice-read-if1 c = search needs
 
-held-box-requires : tie.Need-held-box-requires Inv-loop μ-loop
-held-box-requires c κs = search needs
+mul-put-box : tie.Need-mul-put-box Inv-loop μ-loop
+mul-put-box c = search needs
+
+mul-box-at : tie.Need-mul-box-at Inv-loop μ-loop
+mul-box-at c = search needs
+
+add-box-at : tie.Need-add-box-at Inv-loop μ-loop
+add-box-at c = search needs
+
+add-box-at-2 : tie.Need-add-box-at-2 Inv-loop μ-loop
+add-box-at-2 c = search needs
+
+box-at-requires : tie.Need-box-at-requires Inv-loop μ-loop
+box-at-requires c κs = search needs
 
 put-box-requires : tie.Need-put-box-requires Inv-loop μ-loop
 put-box-requires c κs = let a = boxes-below ((c .before .before .before .before .before .before .before .before) .args .words .now) ((c .before .before .before .before .before .before .before .before) .args .kinds) ((c .before .before .before .before .before .before .before .before) .args .kind) ((c .before .before .before .before .before .before .before .before) .args .sizes) ((c .before .before .before .before .before .loop) .k) ((c .before .before .before .before .before .before .before .before) .args .count) (omega arith) ((c .before .before .if1) .taken) in let n = (c .before .before .before .before .before .loop) .inv .1 .count in let p = (c .before .before .before .before .before .before .before .before) .pre .2 in let b = written-length ((c .before .before .before .before .before .loop) .inv .1) in omega arith
@@ -64,7 +76,11 @@ write-boxes-spec =
     add-if1
     mul-if1
     shared-slice-read-if1
-    held-box-requires
+    mul-put-box
+    mul-box-at
+    add-box-at
+    add-box-at-2
+    box-at-requires
     put-box-requires
     add-n
     add-k

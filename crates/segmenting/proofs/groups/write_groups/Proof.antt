@@ -7,6 +7,9 @@ use Rattle.segmenting.proofs.ResultLaws.{blocks-ask, found-is, columns-
 use Rattle.segmenting.proofs.groups.write_groups.Statement.{statement}
 use Rattle.segmenting.proofs.groups.write_groups.Tie as tie
 
+cast-w : tie.Need-cast-w
+cast-w c = search needs
+
 mul-at : tie.Need-mul-at
 mul-at c = search needs
 
@@ -33,18 +36,18 @@ part-blocks-end c = search needs
 
 blocks-requires : tie.Need-blocks-requires
 blocks-requires c κs =
-    let a = c .before .before .before .before .args in
-    let G = c .before .before .before .before .pre .2 in
-    let k = part-length (linesAt (a .w) (a .capacity)) (a .results .now) in let e = G .count in let f = G .few in let r = G .room in
+    let a = c .before .before .before .before .before .before .before .args in
+    let G = c .before .before .before .before .before .before .before .pre .2 in
+    let k = part-length (linesAt (a .plan .width) (a .plan .capacity)) (a .results .now) in let e = G .count in let f = G .few in let r = G .room in
     (blocks-ask G, omega arith, omega arith)
 
 columns-requires : tie.Need-columns-requires
 columns-requires c κs =
-    let a = c .before .before .before .before .before .before .before .before .before .before .before .args in
-    let G = c .before .before .before .before .before .before .before .before .before .before .before .pre .2 in
+    let a = c .before .before .before .before .before .before .before .before .before .before .before .before .before .before .args in
+    let G = c .before .before .before .before .before .before .before .before .before .before .before .before .before .before .pre .2 in
     let b = c .before .before .before .before .before .before .blocks2 in
     let r = G .room in let e = G .count in let f = G .few in let k = G .capacity in
-    ((a .height, columns-ask G (a .sheet) (a .unit) (b .last .0) (b .result) (b .ensures .0) (b .ensures .1) _ refl (omega arith)), omega arith, omega arith, search needs, search needs, omega arith)
+    ((a .plan .height, columns-ask G (a .sheet) (a .unit) (b .last .0) (b .result) (b .ensures .0) (b .ensures .1) _ refl (omega arith)), omega arith, omega arith, search needs, search needs, omega arith)
 
 same-length : tie.Need-same-length
 same-length c = search needs
@@ -55,7 +58,7 @@ same-length-2 c = search needs
 returns : tie.Need-returns
 returns c =
     λ ls before G.
-    let a = c .before .before .before .before .before .before .before .before .before .before .before .before .before .before .before .before .args in
+    let a = c .before .before .before .before .before .before .before .before .before .before .before .before .before .before .before .before .before .before .before .args in
     let b = c .before .before .before .before .before .before .before .before .before .before .before .blocks2 in
     let d = c .before .before .before .before .columns in
     let L = groups-left G (a .sheet) (a .unit) (b .last .0) (b .result) (b .ensures .0) (b .ensures .1) _ refl (omega arith) (d .last .0) (d .result) (d .ensures .0) (d .ensures .1) in
@@ -65,6 +68,7 @@ pub write-groups-spec : {M : Type 1} → statement M
 write-groups-spec =
     tie.close
     (tie.spec
+    cast-w
     mul-at
     mul-at-2
     add-at

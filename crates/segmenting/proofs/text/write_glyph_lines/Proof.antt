@@ -12,23 +12,8 @@ use Rattle.segmenting.proofs.text.write_glyph_lines.Tie as tie
 order-labels-requires : tie.Need-order-labels-requires
 order-labels-requires c κs = search needs
 
-mul-order : tie.Need-mul-order
-mul-order c = search needs
-
-add-order : tie.Need-add-order
-add-order c = search needs
-
-mul-sizes : tie.Need-mul-sizes
-mul-sizes c = search needs
-
-add-sizes : tie.Need-add-sizes
-add-sizes c = search needs
-
-mul-kinds : tie.Need-mul-kinds
-mul-kinds c = search needs
-
-add-kinds : tie.Need-add-kinds
-add-kinds c = search needs
+cast-w : tie.Need-cast-w
+cast-w c = search needs
 
 mul-glyphs-at : tie.Need-mul-glyphs-at
 mul-glyphs-at c = search needs
@@ -42,12 +27,6 @@ add-glyphs-at c = search needs
 mul-write-glyphs : tie.Need-mul-write-glyphs
 mul-write-glyphs c = search needs
 
-add-write-glyphs : tie.Need-add-write-glyphs
-add-write-glyphs c = search needs
-
-mul-write-glyphs-2 : tie.Need-mul-write-glyphs-2
-mul-write-glyphs-2 c = search needs
-
 sub-write-glyphs : tie.Need-sub-write-glyphs
 sub-write-glyphs c = search needs
 
@@ -59,10 +38,11 @@ part-write-glyphs-end c = search needs
 
 write-glyphs-requires : tie.Need-write-glyphs-requires
 write-glyphs-requires c κs =
-    let a = c .before .before .before .before .before .before .before .before .args in
-    let q = c .before .before .before .before .before .before .before .before .pre in
-    let L = c .before .before .before .before .order-labels .ensures _ _ _ _ _ _ _ (q .5) (q .6) in
-    text-glyphs (q .6) L (q .4) (a .results .now) refl
+    let a = c .before .before .before .before .before .before .before .before .before .before .args in
+    let q = c .before .before .before .before .before .before .before .before .before .before .pre in
+    let L = c .before .before .before .before .before .before .order-labels .ensures _ _ _ _ _ _ _ (q .5) (q .6) in
+    let K = q .7 in
+    rw (K .sizes-is, K .kinds-is, K .vertical-is) (text-glyphs (q .6) L (q .4) (a .results .now) refl)
 
 mul-lines-at : tie.Need-mul-lines-at
 mul-lines-at c = search needs
@@ -74,27 +54,27 @@ add-lines-at : tie.Need-add-lines-at
 add-lines-at c = search needs
 
 line-places-requires : tie.Need-line-places-requires
-line-places-requires c κs = let q = c .before .before .before .before .before .before .before .before .before .before .before .pre in omega (arith, q .6 .room, q .6 .high, c .before .before .before .before .before .before .before .before .before .before .before .good)
+line-places-requires c κs = let q = c .before .before .before .before .before .before .before .before .before .before .before .before .before .before .pre in let K = q .7 in (omega (arith, q .6 .room, q .6 .high, c .before .before .before .before .before .before .before .before .before .before .before .before .before .before .good), K)
 
 mul-write-lines : tie.Need-mul-write-lines
-mul-write-lines c = let q = c .before .before .before .before .before .before .before .before .before .before .before .before .before .pre in omega (arith, q .6 .results-room, c .before .before .before .before .before .before .before .before .before .before .before .before .before .good)
+mul-write-lines c = let q = c .before .before .before .before .before .before .before .before .before .before .before .before .before .before .before .before .pre in omega (arith, q .6 .results-room, c .before .before .before .before .before .before .before .before .before .before .before .before .before .before .before .before .good)
 
 sub-write-lines : tie.Need-sub-write-lines
-sub-write-lines c = search needs
+sub-write-lines c = let q = c .before .before .before .before .before .before .before .before .before .before .before .before .before .before .before .before .pre in omega (arith, q .6 .results-room, c .before .before .before .before .results .given .1)
 
 part-write-lines-start : tie.Need-part-write-lines-start
-part-write-lines-start c = search needs
+part-write-lines-start c = let q = c .before .before .before .before .before .before .before .before .before .before .before .before .before .before .before .before .pre in omega (arith, q .6 .results-room, c .before .before .before .before .results .given .1)
 
 part-write-lines-end : tie.Need-part-write-lines-end
 part-write-lines-end c = search needs
 
 write-lines-requires : tie.Need-write-lines-requires
 write-lines-requires c κs =
-    let a = c .before .before .before .before .before .before .before .before .before .before .before .before .before .before .args in
-    let q = c .before .before .before .before .before .before .before .before .before .before .before .before .before .before .pre in
-    let L = c .before .before .before .before .before .before .before .before .before .before .order-labels .ensures _ _ _ _ _ _ _ (q .5) (q .6) in
-    let one = putMid (glyphRecordsAt (a .w) (a .capacity)) (length (a .results .now) - glyphRecordsAt (a .w) (a .capacity)) (a .results .now) (c .before .before .before .before .before .write-glyphs .last .1 .1 .1 .1 .1 .0) in
-    text-lines (q .6) L (q .4) (q .5) (c .before .before .line-places .result) (c .before .before .line-places .ensures) one (c .before .before .before .before .results .given .1)
+    let a = c .before .before .before .before .before .before .before .before .before .before .before .before .before .before .before .before .before .args in
+    let q = c .before .before .before .before .before .before .before .before .before .before .before .before .before .before .before .before .before .pre in
+    let L = c .before .before .before .before .before .before .before .before .before .before .before .before .before .order-labels .ensures _ _ _ _ _ _ _ (q .5) (q .6) in
+    let one = putMid (glyphRecordsAt (a .plan .width) (a .plan .capacity)) (length (a .results .now) - glyphRecordsAt (a .plan .width) (a .plan .capacity)) (a .results .now) (c .before .before .before .before .before .before .write-glyphs .last .1 .1 .1 .1 .1 .0) in
+    text-lines (q .6) L (q .4) (q .5) (c .before .before .line-places .result) (c .before .before .line-places .ensures) one (c .before .before .before .before .before .results .given .1)
 
 same-length : tie.Need-same-length
 same-length c = search needs
@@ -105,29 +85,23 @@ same-length-2 c = search needs
 returns : tie.Need-returns
 returns c =
     λ cs ks labels rs d e H.
-    (let a = c .before .before .before .before .before .before .before .before .before .before .before .before .before .before .before .before .before .before .before .args in
-    let L = c .before .before .before .before .before .before .before .before .before .before .before .before .before .before .before .order-labels .ensures cs ks labels rs _ _ _ e H in
-    let one = putMid (glyphRecordsAt (a .w) (a .capacity)) (length (a .results .now) - glyphRecordsAt (a .w) (a .capacity)) (a .results .now) (c .before .before .before .before .before .before .before .before .before .before .write-glyphs .last .1 .1 .1 .1 .1 .0) in
+    (let a = c .before .before .before .before .before .before .before .before .before .before .before .before .before .before .before .before .before .before .before .before .before .before .args in
+    let K = c .before .before .before .before .before .before .before .before .before .before .before .before .before .before .before .before .before .before .before .before .before .before .pre .7 in
+    let L = c .before .before .before .before .before .before .before .before .before .before .before .before .before .before .before .before .before .before .order-labels .ensures cs ks labels rs _ _ _ e H in
+    let one = putMid (glyphRecordsAt (a .plan .width) (a .plan .capacity)) (length (a .results .now) - glyphRecordsAt (a .plan .width) (a .plan .capacity)) (a .results .now) (c .before .before .before .before .before .before .before .before .before .before .before .write-glyphs .last .1 .1 .1 .1 .1 .0) in
     let W = c .before .before .before .before .write-lines .ensures in
-    (text-found H L d (a .results .now) (c .before .before .before .before .before .before .before .before .before .before .write-glyphs .ensures), W .0 .len ∙ L .kept .len, text-left H L d (a .results .now) (c .before .before .before .before .before .before .before .before .before .before .write-glyphs .ensures) (c .before .before .before .before .before .before .before .line-places .result) (c .before .before .before .before .before .before .before .line-places .ensures) one _ refl (W .1)))
+    (text-found H L d (a .results .now) (rw (K .sizes-is, K .kinds-is, K .vertical-is) at (c .before .before .before .before .before .before .before .before .before .before .before .write-glyphs .ensures)), W .0 .len ∙ L .kept .len, text-left H L d (a .results .now) (rw (K .sizes-is, K .kinds-is, K .vertical-is) at (c .before .before .before .before .before .before .before .before .before .before .before .write-glyphs .ensures)) (c .before .before .before .before .before .before .before .line-places .result) (c .before .before .before .before .before .before .before .line-places .ensures) one _ refl (W .1)))
 
 pub write-glyph-lines-spec : {M : Type 1} → statement M
 write-glyph-lines-spec =
     tie.close
     (tie.spec
     order-labels-requires
-    mul-order
-    add-order
-    mul-sizes
-    add-sizes
-    mul-kinds
-    add-kinds
+    cast-w
     mul-glyphs-at
     mul-glyphs-at-2
     add-glyphs-at
     mul-write-glyphs
-    add-write-glyphs
-    mul-write-glyphs-2
     sub-write-glyphs
     part-write-glyphs-start
     part-write-glyphs-end

@@ -26,10 +26,10 @@ same-length : tie.Need-same-length
 same-length c = search needs
 
 returns : tie.Need-returns
-returns c = rw (lt-ltb (c .before .args .components) (c .before .args .number) (c .if1 .taken)) refl
+returns c = rw (lt-ltb (c .before .args .newest) (c .before .args .number) (c .if1 .taken)) refl
 
 returns-2 : tie.Need-returns-2
-returns-2 c = rw (le-ltb (c .before .args .components) (c .before .args .number) (c .if1 .left)) refl
+returns-2 c = rw (le-ltb (c .before .args .newest) (c .before .args .number) (c .if1 .left)) refl
 
 pub mark-first-spec : {M : Type 1} → statement M
 mark-first-spec =

@@ -1,68 +1,107 @@
 use borrow.Author.Needs.{needs}
-use mathlib.Core.Path.{refl, ap, _∙_}
-use Prim.Native.Nat.{max}
+use mathlib.Core.Path.{refl}
 use native.Mathlib.Omega.{arith}
-use Rattle.smoothing.proofs.PartWalkLaws.{part-room, part-number, part-kind-room, part-glyph, part-other, part-pass}
+use Rattle.smoothing.proofs.PageWalkLaws.{row-parts, run-room, other-pass, glyph-at}
 use Rattle.smoothing.proofs.smooth.smooth_run.Statement.{statement}
 use Rattle.smoothing.proofs.smooth.smooth_run.Tie as tie
 
-add-wide : tie.Need-add-wide
-add-wide c = search needs
+mul-from : tie.Need-mul-from
+mul-from c = search needs
 
-mul-wide : tie.Need-mul-wide
-mul-wide c = let p = c .before .pre in let a = part-room (p .5) .1 in let d = part-room (p .5) .5 in let l = p .7 in omega arith
+mul-to : tie.Need-mul-to
+mul-to c = search needs
 
-slice-read-wide : tie.Need-slice-read-wide
-slice-read-wide c = let p = c .before .before .pre in let a = part-room (p .5) .1 in let d = part-room (p .5) .2 in let e = part-room (p .5) .3 in let f = part-room (p .5) .4 in let l = p .7 in omega arith
+add-numbers : tie.Need-add-numbers
+add-numbers c = search needs
 
-wide-requires : tie.Need-wide-requires
-wide-requires c κs = search needs
+add-numbers-end : tie.Need-add-numbers-end
+add-numbers-end c = search needs
 
-add-if1 : tie.Need-add-if1
-add-if1 c = let p = c .before .before .before .pre in let h = part-kind-room (p .5) (p .7) (c .wide .result) (c .wide .ensures ∙ part-number (p .5) (p .7)) .0 in search needs
+mul-glyph-run : tie.Need-mul-glyph-run
+mul-glyph-run c = search needs
 
-sub-if1 : tie.Need-sub-if1
-sub-if1 c = search needs
+sub-glyph-run : tie.Need-sub-glyph-run
+sub-glyph-run c = search needs
 
-mul-if1 : tie.Need-mul-if1
-mul-if1 c = let p = c .before .before .before .pre in let h = part-kind-room (p .5) (p .7) (c .wide .result) (c .wide .ensures ∙ part-number (p .5) (p .7)) .1 in search needs
+part-glyph-run-start : tie.Need-part-glyph-run-start
+part-glyph-run-start c = search needs
 
-slice-read-if1 : tie.Need-slice-read-if1
-slice-read-if1 c = let p = c .before .before .before .before .pre in part-kind-room (p .5) (p .7) (c .before .wide .result) (c .before .wide .ensures ∙ part-number (p .5) (p .7)) .1
+part-glyph-run-end : tie.Need-part-glyph-run-end
+part-glyph-run-end c = search needs
 
-smooth-glyph-requires : tie.Need-smooth-glyph-requires
-smooth-glyph-requires c κs = let p = c .before .before .before .before .before .before .pre in (p .0, p .1, p .2, p .3, p .4, p .5, p .6, p .7, p .8, c .before .before .before .wide .ensures, part-glyph (p .5) (p .7) (c .before .before .before .wide .result) (c .before .before .before .wide .ensures ∙ part-number (p .5) (p .7)) (c .before .if1 .taken))
+mul-glyph-run-2 : tie.Need-mul-glyph-run-2
+mul-glyph-run-2 c = search needs
+
+sub-glyph-run-2 : tie.Need-sub-glyph-run-2
+sub-glyph-run-2 c = search needs
+
+part-glyph-run-start-2 : tie.Need-part-glyph-run-start-2
+part-glyph-run-start-2 c = search needs
+
+part-glyph-run-end-2 : tie.Need-part-glyph-run-end-2
+part-glyph-run-end-2 c = search needs
+
+mul-glyph-run-3 : tie.Need-mul-glyph-run-3
+mul-glyph-run-3 c = search needs
+
+sub-glyph-run-3 : tie.Need-sub-glyph-run-3
+sub-glyph-run-3 c = search needs
+
+part-glyph-run-start-3 : tie.Need-part-glyph-run-start-3
+part-glyph-run-start-3 c = search needs
+
+part-glyph-run-end-3 : tie.Need-part-glyph-run-end-3
+part-glyph-run-end-3 c = search needs
+
+sub-glyph-run-4 : tie.Need-sub-glyph-run-4
+sub-glyph-run-4 c = search needs
+
+glyph-run-requires : tie.Need-glyph-run-requires
+glyph-run-requires c κs = let p = c .before .before .before .before .before .before .before .before .pre in (row-parts (p .2) (p .3), run-room (p .2) (p .3) (p .4) (p .5))
+
+add-t33 : tie.Need-add-t33
+add-t33 c = search needs
 
 same-length : tie.Need-same-length
 same-length c = search needs
 
 returns : tie.Need-returns
-returns c = (c .before .before .smooth-glyph .ensures .0, λ g front first y eg W ly l here. c .before .before .smooth-glyph .ensures .1 g front first y eg W ly l here (c .before .before .before .before .before .before .wide .ensures) (part-glyph W l (c .before .before .before .before .before .before .wide .result) (c .before .before .before .before .before .before .wide .ensures ∙ part-number W l) (c .before .before .before .before .if1 .taken)))
+returns c = let p = c .before .before .before .before .before .before .before .before .before .before .before .before .pre in (refl, λ g y W R. other-pass W R (p .4) (p .5) (c .before .before .before .glyph-run .ensures) (c .before .if1 .taken))
 
-add-t9 : tie.Need-add-t9
-add-t9 c = search needs
+smooth-glyph-requires : tie.Need-smooth-glyph-requires
+smooth-glyph-requires c κs = let p = c .before .before .before .before .before .before .before .before .before .before .before .before .pre in (p .0, p .1, p .2, glyph-at (p .2) (p .3) (p .4) (p .5) (c .before .before .before .glyph-run .ensures) (let n = c .before .if1 .left in omega arith))
 
-larger-requires : tie.Need-larger-requires
-larger-requires c κs = search needs
+same-length-2 : tie.Need-same-length-2
+same-length-2 c = search needs
 
 returns-2 : tie.Need-returns-2
-returns-2 c = (refl, λ g front first y eg W ly l here. part-pass W l (c .larger .result) (c .larger .ensures ∙ ap (max (c .before .before .before .before .before .before .args .walk .components)) (c .before .before .before .wide .ensures ∙ part-number W l)) (part-other W l (c .before .before .before .wide .result) (c .before .before .before .wide .ensures ∙ part-number W l) (c .before .if1 .left)))
+returns-2 c = let p = c .before .before .before .before .before .before .before .before .before .before .before .before .before .before .before .pre in (c .before .before .smooth-glyph .ensures .0, λ g y W R. c .before .before .smooth-glyph .ensures .1 g y W (glyph-at W R (p .4) (p .5) (c .before .before .before .before .before .before .glyph-run .ensures) (let n = c .before .before .before .before .if1 .left in omega arith)))
 
 pub smooth-run-spec : {M : Type 1} → statement M
 smooth-run-spec =
     tie.close
     (tie.spec
-    add-wide
-    mul-wide
-    slice-read-wide
-    wide-requires
-    add-if1
-    sub-if1
-    mul-if1
-    slice-read-if1
-    smooth-glyph-requires
+    mul-from
+    mul-to
+    add-numbers
+    add-numbers-end
+    mul-glyph-run
+    sub-glyph-run
+    part-glyph-run-start
+    part-glyph-run-end
+    mul-glyph-run-2
+    sub-glyph-run-2
+    part-glyph-run-start-2
+    part-glyph-run-end-2
+    mul-glyph-run-3
+    sub-glyph-run-3
+    part-glyph-run-start-3
+    part-glyph-run-end-3
+    sub-glyph-run-4
+    glyph-run-requires
+    add-t33
     same-length
     returns
-    add-t9
-    larger-requires
+    smooth-glyph-requires
+    same-length-2
     returns-2)

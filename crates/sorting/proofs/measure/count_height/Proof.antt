@@ -20,7 +20,7 @@ rect-requires : tie.Need-rect-requires
 rect-requires c κs = search needs
 
 height-requires : tie.Need-height-requires
-height-requires c κs = let e = (c .rect) .ensures in let a = ap (λ (r : Rect). r .y0) e in let b = ap (λ (r : Rect). r .y1) e in let d = (c .before .before .before) .pre .0 .high in let f = (c .before .before .before) .pre .0 .rows in let g = (c .before .before .before) .pre .2 in (omega arith, omega arith)
+height-requires c κs = let e = (c .rect) .ensures in let a = ap (λ (r : Rect). r .y0) e in let b = ap (λ (r : Rect). r .y1) e in let d = (c .before .before .before) .pre .0 .bottom in let f = (c .before .before .before) .pre .0 .rows in let g = (c .before .before .before) .pre .2 in (omega arith, omega arith)
 
 cast-at : tie.Need-cast-at
 cast-at c = search needs
@@ -32,7 +32,7 @@ mul-words : tie.Need-mul-words
 mul-words c = search needs
 
 slice-read-words : tie.Need-slice-read-words
-slice-read-words c = let e = (c .before .height) .ensures ∙ ap height ((c .before .before .rect) .ensures) in let b = (c .before .before .before .before .before) .pre .0 .high in let d = (c .before .before .before .before .before) .pre .0 .rows in let r = (c .before .before .before .before .before) .pre .1 in omega arith
+slice-read-words c = let e = (c .before .height) .ensures ∙ ap height ((c .before .before .rect) .ensures) in let b = (c .before .before .before .before .before) .pre .0 .bottom in let d = (c .before .before .before .before .before) .pre .0 .rows in let r = (c .before .before .before .before .before) .pre .1 in omega arith
 
 add-words : tie.Need-add-words
 add-words c = let e = (c .before .height) .ensures ∙ ap height ((c .before .before .rect) .ensures) in let a = (c .before .before .before .before .before) .pre .3 in let z = ap (λ (i : ℕ). getD ((c .before .before .before .before .before) .args .words .now) ((c .before .before .before .before .before) .args .heights + i) 0) e in let o = bit-le ((c .before .before .before .is-measurable) .result) in omega arith
@@ -41,7 +41,7 @@ mul-words-2 : tie.Need-mul-words-2
 mul-words-2 c = search needs
 
 slice-write-words : tie.Need-slice-write-words
-slice-write-words c = let e = (c .before .height) .ensures ∙ ap height ((c .before .before .rect) .ensures) in let b = (c .before .before .before .before .before) .pre .0 .high in let d = (c .before .before .before .before .before) .pre .0 .rows in let r = (c .before .before .before .before .before) .pre .1 in omega arith
+slice-write-words c = let e = (c .before .height) .ensures ∙ ap height ((c .before .before .rect) .ensures) in let b = (c .before .before .before .before .before) .pre .0 .bottom in let d = (c .before .before .before .before .before) .pre .0 .rows in let r = (c .before .before .before .before .before) .pre .1 in omega arith
 
 same-length : tie.Need-same-length
 same-length c = search needs

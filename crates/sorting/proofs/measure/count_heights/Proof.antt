@@ -4,7 +4,9 @@ use mathlib.Core.Path.{_≡_, sym, _∙_, subst}
 use Rattle.sorting.specs.rules.Units.{measurable}
 use Rattle.memory.specs.rules.Rects.{height}
 use Rattle.labelling.specs.rules.Components.{boxOf}
-use Rattle.sorting.specs.stages.Measures.{HeightsCounted, BoxInside}
+use Rattle.memory.specs.stages.Boxes.{Inside}
+use Rattle.labelling.specs.declared.component.Component.{Component}
+use Rattle.sorting.specs.stages.Measures.{HeightsCounted}
 use Rattle.sorting.proofs.HeightLaws.{counted-none, counted-same, counted-few, counted-more, one-at-most}
 use Rattle.sorting.proofs.measure.count_heights.Statement.{statement}
 use Rattle.sorting.proofs.measure.count_heights.Tie as tie
@@ -25,8 +27,8 @@ count-height-requires : tie.Need-count-height-requires Inv-loop μ-loop
 count-height-requires c κs = let a = (c .before .before .before .before .before .before) .args in let H = (c .before .before .before .before .loop) .inv .1 in let r = (c .before .before .before .before .before .before) .pre .0 .room in let m = (c .before .before .before .before .before .before) .pre .1 in let n = (c .before .before .before .before .before .before) .pre .2 in let g = (c .before .before .before .before .before .before) .pre .3 in
     let e = (c .before .component-at) .ensures ∙ counted-same (a .sheet) (a .w) (a .h) (a .words .now) (a .sizes) H m ((c .before .before .before .before .loop) .k) in
     let b = (c .before .before .before .before .before .before) .pre .0 .inside ((c .before .before .before .before .loop) .k) (omega arith) in
-    let B : BoxInside (a .w) (a .h) ((c .before .component-at) .result) = subst (BoxInside (a .w) (a .h)) (sym e) b in
-    let f = counted-few (a .sheet) (a .w) (a .h) (a .words .now) (a .sizes) H m .1 (height (boxOf ((c .before .component-at) .result))) (let x = B .high in let y = B .rows in omega arith) in
+    let B : Inside (a .w) (a .h) (boxOf ((c .before .component-at) .result)) = subst (λ (z : Component). Inside (a .w) (a .h) (boxOf z)) (sym e) b in
+    let f = counted-few (a .sheet) (a .w) (a .h) (a .words .now) (a .sizes) H m .1 (height (boxOf ((c .before .component-at) .result))) (let x = B .bottom in let y = B .rows in omega arith) in
     let l = H .within .len in
     (B, omega arith, omega arith, omega arith)
 

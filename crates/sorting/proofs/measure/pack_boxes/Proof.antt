@@ -3,8 +3,9 @@ use Prim.Native.Nat.{_+_, _-_, _*_, _≤_, zero-le}
 use mathlib.Core.Path.{_≡_, refl, ap, _∙_}
 use Rattle.labelling.specs.declared.component.Component.{Component}
 use lib.ListN.{length-set}
-use Rattle.sorting.specs.stages.Measures.{Stored, boxWord}
-use Rattle.sorting.proofs.StoredLaws.{stored-none, stored-more, stored-count}
+use Rattle.memory.specs.stages.Stored.{Stored}
+use Rattle.sorting.specs.stages.Measures.{boxWord}
+use Rattle.memory.proofs.StoredLaws.{stored-none, stored-more, stored-count}
 use Rattle.sorting.proofs.SizedLaws.{sized-past, box-word-first, box-word-second}
 use Rattle.sorting.proofs.measure.pack_boxes.Statement.{statement}
 use Rattle.sorting.proofs.measure.pack_boxes.Tie as tie
@@ -28,10 +29,10 @@ add-at : tie.Need-add-at Inv-loop μ-loop
 add-at c = let p = (c .before .before .before .before .before) .pre .0 .room in let q = (c .before .before .before .before .before) .pre .1 in omega arith
 
 mul-words : tie.Need-mul-words Inv-loop μ-loop
-mul-words c = let a = (c .before .before .before .before .before .before) .args in let e = (c .before .component-at) .ensures ∙ sized-past ((c .before .before .before .before .loop) .inv .1 .within) (a .sizes) ((c .before .before .before .before .loop) .k) (omega (arith, (c .before .before .before .before .before .before) .pre .1)) in let b = (c .before .before .before .before .before .before) .pre .0 .inside ((c .before .before .before .before .loop) .k) (omega arith) in let x = ap (λ (z : Component). z .x1) e in let y = b .wide in omega arith
+mul-words c = let a = (c .before .before .before .before .before .before) .args in let e = (c .before .component-at) .ensures ∙ sized-past ((c .before .before .before .before .loop) .inv .1 .within) (a .sizes) ((c .before .before .before .before .loop) .k) (omega (arith, (c .before .before .before .before .before .before) .pre .1)) in let b = (c .before .before .before .before .before .before) .pre .0 .inside ((c .before .before .before .before .loop) .k) (omega arith) in let x = ap (λ (z : Component). z .x1) e in let y = b .right in omega arith
 
 add-words : tie.Need-add-words Inv-loop μ-loop
-add-words c = let a = (c .before .before .before .before .before .before .before) .args in let e = (c .before .before .component-at) .ensures ∙ sized-past ((c .before .before .before .before .before .loop) .inv .1 .within) (a .sizes) ((c .before .before .before .before .before .loop) .k) (omega (arith, (c .before .before .before .before .before .before .before) .pre .1)) in let b = (c .before .before .before .before .before .before .before) .pre .0 .inside ((c .before .before .before .before .before .loop) .k) (omega arith) in let x = ap (λ (z : Component). z .x1) e in let v = ap (λ (z : Component). z .x0) e in let y = b .wide in let u = b .columns in omega arith
+add-words c = let a = (c .before .before .before .before .before .before .before) .args in let e = (c .before .before .component-at) .ensures ∙ sized-past ((c .before .before .before .before .before .loop) .inv .1 .within) (a .sizes) ((c .before .before .before .before .before .loop) .k) (omega (arith, (c .before .before .before .before .before .before .before) .pre .1)) in let b = (c .before .before .before .before .before .before .before) .pre .0 .inside ((c .before .before .before .before .before .loop) .k) (omega arith) in let x = ap (λ (z : Component). z .x1) e in let v = ap (λ (z : Component). z .x0) e in let y = b .right in let u = b .columns in omega arith
 
 mul-words-2 : tie.Need-mul-words-2 Inv-loop μ-loop
 mul-words-2 c = omega arith
@@ -40,10 +41,10 @@ slice-write-words : tie.Need-slice-write-words Inv-loop μ-loop
 slice-write-words c = let p = (c .before .before .before .before .before .before .before) .pre .0 .room in let q = (c .before .before .before .before .before .before .before) .pre .1 in let l = (c .before .before .before .before .before .loop) .inv .1 .within .len in omega arith
 
 mul-words-3 : tie.Need-mul-words-3 Inv-loop μ-loop
-mul-words-3 c = let a = (c .before .before .before .before .before .before .before .before) .args in let e = (c .before .before .before .component-at) .ensures ∙ sized-past ((c .before .before .before .before .before .before .loop) .inv .1 .within) (a .sizes) ((c .before .before .before .before .before .before .loop) .k) (omega (arith, (c .before .before .before .before .before .before .before .before) .pre .1)) in let b = (c .before .before .before .before .before .before .before .before) .pre .0 .inside ((c .before .before .before .before .before .before .loop) .k) (omega arith) in let x = ap (λ (z : Component). z .y1) e in let y = b .high in omega arith
+mul-words-3 c = let a = (c .before .before .before .before .before .before .before .before) .args in let e = (c .before .before .before .component-at) .ensures ∙ sized-past ((c .before .before .before .before .before .before .loop) .inv .1 .within) (a .sizes) ((c .before .before .before .before .before .before .loop) .k) (omega (arith, (c .before .before .before .before .before .before .before .before) .pre .1)) in let b = (c .before .before .before .before .before .before .before .before) .pre .0 .inside ((c .before .before .before .before .before .before .loop) .k) (omega arith) in let x = ap (λ (z : Component). z .y1) e in let y = b .bottom in omega arith
 
 add-words-2 : tie.Need-add-words-2 Inv-loop μ-loop
-add-words-2 c = let a = (c .before .before .before .before .before .before .before .before .before) .args in let e = (c .before .before .before .before .component-at) .ensures ∙ sized-past ((c .before .before .before .before .before .before .before .loop) .inv .1 .within) (a .sizes) ((c .before .before .before .before .before .before .before .loop) .k) (omega (arith, (c .before .before .before .before .before .before .before .before .before) .pre .1)) in let b = (c .before .before .before .before .before .before .before .before .before) .pre .0 .inside ((c .before .before .before .before .before .before .before .loop) .k) (omega arith) in let x = ap (λ (z : Component). z .y1) e in let v = ap (λ (z : Component). z .y0) e in let y = b .high in let u = b .rows in omega arith
+add-words-2 c = let a = (c .before .before .before .before .before .before .before .before .before) .args in let e = (c .before .before .before .before .component-at) .ensures ∙ sized-past ((c .before .before .before .before .before .before .before .loop) .inv .1 .within) (a .sizes) ((c .before .before .before .before .before .before .before .loop) .k) (omega (arith, (c .before .before .before .before .before .before .before .before .before) .pre .1)) in let b = (c .before .before .before .before .before .before .before .before .before) .pre .0 .inside ((c .before .before .before .before .before .before .before .loop) .k) (omega arith) in let x = ap (λ (z : Component). z .y1) e in let v = ap (λ (z : Component). z .y0) e in let y = b .bottom in let u = b .rows in omega arith
 
 add-words-3 : tie.Need-add-words-3 Inv-loop μ-loop
 add-words-3 c = let p = (c .before .before .before .before .before .before .before .before .before) .pre .0 .room in let q = (c .before .before .before .before .before .before .before .before .before) .pre .1 in omega arith

@@ -7,14 +7,11 @@ use borrow.Author.Needs.{needs}
 use Rattle.sorting.proofs.sort.counters_at.Statement.{statement}
 use Rattle.sorting.proofs.sort.counters_at.Tie as tie
 
-mul-end : tie.Need-mul-end
-mul-end c = search needs
+cast-w : tie.Need-cast-w
+cast-w c = search needs
 
-mul-end-2 : tie.Need-mul-end-2
-mul-end-2 c = search needs
-
-add-end : tie.Need-add-end
-add-end c = search needs
+cast-h : tie.Need-cast-h
+cast-h c = search needs
 
 mul-at : tie.Need-mul-at
 mul-at c = search needs
@@ -33,10 +30,10 @@ add-if1-2 c = search needs
 
 returns : tie.Need-returns
 returns c =
-    let a = (c .before) .args in
-    let end = 3 * (a .width * a .height) + 64 in
-    let x : 3 * a .runs + 2 * a .width ≤ end = leb-true _ _ (and-left (leb (3 * a .runs + 2 * a .width) end) (leb (3 * a .runs + 2 * a .height) end) ((c .if1) .taken)) in
-    let y : 3 * a .runs + 2 * a .height ≤ end = leb-true _ _ (and-right (leb (3 * a .runs + 2 * a .width) end) (leb (3 * a .runs + 2 * a .height) end) ((c .if1) .taken)) in
+    let a = (c .before .before .before) .args in
+    let end = a .plan .marks in
+    let x : 3 * a .runs + 2 * a .plan .width ≤ end = leb-true _ _ (and-left (leb (3 * a .runs + 2 * a .plan .width) end) (leb (3 * a .runs + 2 * a .plan .height) end) ((c .if1) .taken)) in
+    let y : 3 * a .runs + 2 * a .plan .height ≤ end = leb-true _ _ (and-right (leb (3 * a .runs + 2 * a .plan .width) end) (leb (3 * a .runs + 2 * a .plan .height) end) ((c .if1) .taken)) in
     (x, y)
 
 returns-2 : tie.Need-returns-2
@@ -46,9 +43,8 @@ pub counters-at-spec : {M : Type 1} → statement M
 counters-at-spec =
     tie.close
     (tie.spec
-    mul-end
-    mul-end-2
-    add-end
+    cast-w
+    cast-h
     mul-at
     mul-if1
     add-if1

@@ -4,14 +4,8 @@ use borrow.Author.Needs.{needs}
 use Rattle.sorting.proofs.sort.cut_ink.Statement.{statement}
 use Rattle.sorting.proofs.sort.cut_ink.Tie as tie
 
-mul-marks : tie.Need-mul-marks
-mul-marks c = search needs
-
-mul-marks-2 : tie.Need-mul-marks-2
-mul-marks-2 c = search needs
-
-add-marks : tie.Need-add-marks
-add-marks c = search needs
+sub-behind : tie.Need-sub-behind
+sub-behind c = search needs
 
 mul-thin-rulings : tie.Need-mul-thin-rulings
 mul-thin-rulings c = search needs
@@ -25,9 +19,6 @@ part-thin-rulings-start c = search needs
 part-thin-rulings-end : tie.Need-part-thin-rulings-end
 part-thin-rulings-end c = search needs
 
-sub-thin-rulings-2 : tie.Need-sub-thin-rulings-2
-sub-thin-rulings-2 c = search needs
-
 thin-rulings-requires : tie.Need-thin-rulings-requires
 thin-rulings-requires c κs = search needs
 
@@ -36,22 +27,20 @@ same-length c = search needs
 
 returns : tie.Need-returns
 returns c =
-    let a = (c .before .before .before .before .before .before) .args in
-    let p = (c .before .before .before .before .before .before) .pre .1 in
-    ink-cut (a .at) (a .words .now) ((c .before .before .thin-rulings) .last .1 .1 .1 .1 .1 .0) ((c .before .before .before .before .before .before) .pre .0) (let x = p .plane .room in let y = p .before in omega arith) ((c .before .before .thin-rulings) .ensures)
+    let a = (c .before .before .before .before .before .before .before) .args in
+    let p = (c .before .before .before .before .before .before .before) .pre .1 in
+    let Q = (c .before .before .before .before .before .before .before) .pre .2 in
+    ink-cut (a .at) (a .words .now) ((c .before .before .thin-rulings) .last .1 .1 .1 .1 .1 .0) (Q .marks-is) ((c .before .before .before .before .before .before .before) .pre .0) (let x = p .plane .room in let y = p .before in omega arith) ((c .before .before .thin-rulings) .ensures)
 
 pub cut-ink-spec : {M : Type 1} → statement M
 cut-ink-spec =
     tie.close
     (tie.spec
-    mul-marks
-    mul-marks-2
-    add-marks
+    sub-behind
     mul-thin-rulings
     sub-thin-rulings
     part-thin-rulings-start
     part-thin-rulings-end
-    sub-thin-rulings-2
     thin-rulings-requires
     same-length
     returns)

@@ -21,32 +21,20 @@ word-at-requires-3 c κs = search needs
 word-at-requires-4 : tie.Need-word-at-requires-4
 word-at-requires-4 c κs = search needs
 
-cast-capacity : tie.Need-cast-capacity
-cast-capacity c = search needs
-
-cast-start : tie.Need-cast-start
-cast-start c = search needs
-
-add-start : tie.Need-add-start
-add-start c = search needs
-
-cast-start-2 : tie.Need-cast-start-2
-cast-start-2 c = search needs
-
-add-start-2 : tie.Need-add-start-2
-add-start-2 c = search needs
+lists-at-requires : tie.Need-lists-at-requires
+lists-at-requires c κs = search needs
 
 segment-parts-requires : tie.Need-segment-parts-requires
 segment-parts-requires c κs =
-    let a = c .before .before .before .before .before .before .before .before .before .before .before .before .before .before .before .args in
-    let S = segmentable (a .sheet) (a .store .now) (a .ink .now) (length (a .kinds .now)) (length (a .scratch .now)) (c .before .before .before .before .before .before .before .before .before .before .before .before .before .before .before .pre) in
-    let p = plane-room (a .sheet) (a .store .now) (a .ink .now) _ _ S (c .before .before .before .before .before .before .before .before .before .word-at .result) (c .before .before .before .before .before .before .before .word-at2 .result) (c .before .before .before .before .before .word-at3 .result) (c .before .before .before .word-at4 .result) (c .before .before .before .before .before .before .before .before .before .word-at .ensures) (c .before .before .before .before .before .before .before .word-at2 .ensures) (c .before .before .before .before .before .word-at3 .ensures) (c .before .before .before .word-at4 .ensures) in
-    (segment-room (a .sheet) (a .store .now) (a .ink .now) _ _ S (c .before .before .before .before .before .before .before .before .before .word-at .result) (c .before .before .before .before .before .before .before .word-at2 .result) (c .before .before .before .before .before .word-at3 .result) (c .before .before .before .word-at4 .result) (c .before .before .before .before .before .before .before .before .before .word-at .ensures) (c .before .before .before .before .before .before .before .word-at2 .ensures) (c .before .before .before .before .before .word-at3 .ensures) (c .before .before .before .word-at4 .ensures) (a .scratch .now) refl, (p .0, p .2, start-fits (a .sheet) (a .store .now) (a .ink .now) _ _ S (c .before .before .before .before .before .before .before .before .before .word-at .result) (c .before .before .before .before .before .before .before .word-at2 .result) (c .before .before .before .before .before .word-at3 .result) (c .before .before .before .word-at4 .result) (c .before .before .before .before .before .before .before .before .before .word-at .ensures) (c .before .before .before .before .before .before .before .word-at2 .ensures) (c .before .before .before .before .before .word-at3 .ensures) (c .before .before .before .word-at4 .ensures) .2))
+    let a = c .before .before .before .before .before .before .before .before .before .before .before .before .before .before .before .before .args in
+    let S = segmentable (a .sheet) (a .store .now) (a .ink .now) (length (a .kinds .now)) (length (a .scratch .now)) (c .before .before .before .before .before .before .before .before .before .before .before .before .before .before .before .before .pre) in
+    let p = plane-room (a .sheet) (a .store .now) (a .ink .now) _ _ S (c .before .before .before .before .before .before .before .before .before .before .word-at .result) (c .before .before .before .before .before .before .before .before .word-at2 .result) (c .before .before .before .before .before .before .word-at3 .result) (c .before .before .before .before .word-at4 .result) (c .before .before .before .before .before .before .before .before .before .before .word-at .ensures) (c .before .before .before .before .before .before .before .before .word-at2 .ensures) (c .before .before .before .before .before .before .word-at3 .ensures) (c .before .before .before .before .word-at4 .ensures) (c .before .before .before .lists-at .result) (c .before .before .before .lists-at .ensures) in
+    (segment-room (a .sheet) (a .store .now) (a .ink .now) _ _ S (c .before .before .before .before .before .before .before .before .before .before .word-at .result) (c .before .before .before .before .before .before .before .before .word-at2 .result) (c .before .before .before .before .before .before .word-at3 .result) (c .before .before .before .before .word-at4 .result) (c .before .before .before .before .before .before .before .before .before .before .word-at .ensures) (c .before .before .before .before .before .before .before .before .word-at2 .ensures) (c .before .before .before .before .before .before .word-at3 .ensures) (c .before .before .before .before .word-at4 .ensures) (c .before .before .before .lists-at .result) (c .before .before .before .lists-at .ensures) (a .scratch .now) refl, (p .0, p .2, start-fits (a .sheet) (a .store .now) (a .ink .now) _ _ S (c .before .before .before .before .before .before .before .before .before .before .word-at .result) (c .before .before .before .before .before .before .before .before .word-at2 .result) (c .before .before .before .before .before .before .word-at3 .result) (c .before .before .before .before .word-at4 .result) (c .before .before .before .before .before .before .before .before .before .before .word-at .ensures) (c .before .before .before .before .before .before .before .before .word-at2 .ensures) (c .before .before .before .before .before .before .word-at3 .ensures) (c .before .before .before .before .word-at4 .ensures) (c .before .before .before .lists-at .result) (c .before .before .before .lists-at .ensures)))
 
 tell-requires : tie.Need-tell-requires
 tell-requires c κs =
-    let a = c .before .before .before .before .before .before .before .before .before .before .before .before .before .before .before .before .before .before .before .before .before .before .before .args in
-    let l = segmentable (a .sheet) (a .store .now) (a .ink .now) (length (a .kinds .now)) (length (a .scratch .now)) (c .before .before .before .before .before .before .before .before .before .before .before .before .before .before .before .before .before .before .before .before .before .before .before .pre) .words in
+    let a = c .before .before .before .before .before .before .before .before .before .before .before .before .before .before .before .before .before .before .before .before .before .before .before .before .args in
+    let l = segmentable (a .sheet) (a .store .now) (a .ink .now) (length (a .kinds .now)) (length (a .scratch .now)) (c .before .before .before .before .before .before .before .before .before .before .before .before .before .before .before .before .before .before .before .before .before .before .before .before .pre) .words in
     let k : length (c .before .before .before .before .before .before .before .segment-parts .last .1 .1 .1 .1 .1 .0) ≡ length (a .store .now) = c .before .before .before .before .before .before .before .segment-parts .kept .1 .1 .1 .1 .1 .0 in
     omega (arith, l, k)
 
@@ -61,11 +49,11 @@ same-length-3 c = search needs
 
 returns : tie.Need-returns
 returns c =
-    let a = c .before .before .before .before .before .before .before .before .before .before .before .before .before .before .before .before .before .before .before .before .before .before .before .before .before .before .args in
+    let a = c .before .before .before .before .before .before .before .before .before .before .before .before .before .before .before .before .before .before .before .before .before .before .before .before .before .before .before .args in
     let g = c .before .before .before .before .before .before .before .before .before .before .segment-parts in
     let t = c .before .before .tell in (
-      page-done (a .sheet) (a .store .now) (a .ink .now) (a .kinds .now) (length (a .scratch .now)) (c .before .before .before .before .before .before .before .before .before .before .before .before .before .before .before .before .before .before .before .before .before .before .before .before .before .before .pre) (c .before .before .before .before .before .before .before .before .before .before .before .before .before .before .before .before .before .before .before .before .word-at .result) (c .before .before .before .before .before .before .before .before .before .before .before .before .before .before .before .before .before .before .word-at2 .result) (c .before .before .before .before .before .before .before .before .before .before .before .before .before .before .before .before .word-at3 .result) (c .before .before .before .before .before .before .before .before .before .before .before .before .before .before .word-at4 .result) (c .before .before .before .before .before .before .before .before .before .before .before .before .before .before .before .before .before .before .before .before .word-at .ensures) (c .before .before .before .before .before .before .before .before .before .before .before .before .before .before .before .before .before .before .word-at2 .ensures) (c .before .before .before .before .before .before .before .before .before .before .before .before .before .before .before .before .word-at3 .ensures) (c .before .before .before .before .before .before .before .before .before .before .before .before .before .before .word-at4 .ensures) (g .result) (outcomeNumber (t .result)) (g .last .1 .1 .1 .1 .1 .0) (g .last .1 .1 .1 .1 .1 .1 .1 .0) (t .last .1 .0) (g .ensures .0) (g .ensures .1) (t .ensures .0) (t .ensures .1),
-      past-kept (a .sheet) (a .store .now) (a .ink .now) (a .kinds .now) (length (a .scratch .now)) (c .before .before .before .before .before .before .before .before .before .before .before .before .before .before .before .before .before .before .before .before .before .before .before .before .before .before .pre) (c .before .before .before .before .before .before .before .before .before .before .before .before .before .before .before .before .before .before .before .before .word-at .result) (c .before .before .before .before .before .before .before .before .before .before .before .before .before .before .before .before .before .before .word-at2 .result) (c .before .before .before .before .before .before .before .before .before .before .before .before .before .before .before .before .word-at3 .result) (c .before .before .before .before .before .before .before .before .before .before .before .before .before .before .word-at4 .result) (c .before .before .before .before .before .before .before .before .before .before .before .before .before .before .before .before .before .before .before .before .word-at .ensures) (c .before .before .before .before .before .before .before .before .before .before .before .before .before .before .before .before .before .before .word-at2 .ensures) (c .before .before .before .before .before .before .before .before .before .before .before .before .before .before .before .before .word-at3 .ensures) (c .before .before .before .before .before .before .before .before .before .before .before .before .before .before .word-at4 .ensures) (a .scratch .now) (g .last .1 .1 .1 .1 .1 .1 .1 .1 .0) (g .ensures .2),
+      page-done (a .sheet) (a .store .now) (a .ink .now) (a .kinds .now) (length (a .scratch .now)) (c .before .before .before .before .before .before .before .before .before .before .before .before .before .before .before .before .before .before .before .before .before .before .before .before .before .before .before .pre) (c .before .before .before .before .before .before .before .before .before .before .before .before .before .before .before .before .before .before .before .before .before .word-at .result) (c .before .before .before .before .before .before .before .before .before .before .before .before .before .before .before .before .before .before .before .word-at2 .result) (c .before .before .before .before .before .before .before .before .before .before .before .before .before .before .before .before .before .word-at3 .result) (c .before .before .before .before .before .before .before .before .before .before .before .before .before .before .before .word-at4 .result) (c .before .before .before .before .before .before .before .before .before .before .before .before .before .before .before .before .before .before .before .before .before .word-at .ensures) (c .before .before .before .before .before .before .before .before .before .before .before .before .before .before .before .before .before .before .before .word-at2 .ensures) (c .before .before .before .before .before .before .before .before .before .before .before .before .before .before .before .before .before .word-at3 .ensures) (c .before .before .before .before .before .before .before .before .before .before .before .before .before .before .before .word-at4 .ensures) (c .before .before .before .before .before .before .before .before .before .before .before .before .before .before .lists-at .result) (c .before .before .before .before .before .before .before .before .before .before .before .before .before .before .lists-at .ensures) (g .result) (outcomeNumber (t .result)) (g .last .1 .1 .1 .1 .1 .0) (g .last .1 .1 .1 .1 .1 .1 .1 .0) (t .last .1 .0) (g .ensures .0) (g .ensures .1) (t .ensures .0) (t .ensures .1),
+      past-kept (a .sheet) (a .store .now) (a .ink .now) (a .kinds .now) (length (a .scratch .now)) (c .before .before .before .before .before .before .before .before .before .before .before .before .before .before .before .before .before .before .before .before .before .before .before .before .before .before .before .pre) (c .before .before .before .before .before .before .before .before .before .before .before .before .before .before .before .before .before .before .before .before .before .word-at .result) (c .before .before .before .before .before .before .before .before .before .before .before .before .before .before .before .before .before .before .before .word-at2 .result) (c .before .before .before .before .before .before .before .before .before .before .before .before .before .before .before .before .before .word-at3 .result) (c .before .before .before .before .before .before .before .before .before .before .before .before .before .before .before .word-at4 .result) (c .before .before .before .before .before .before .before .before .before .before .before .before .before .before .before .before .before .before .before .before .before .word-at .ensures) (c .before .before .before .before .before .before .before .before .before .before .before .before .before .before .before .before .before .before .before .word-at2 .ensures) (c .before .before .before .before .before .before .before .before .before .before .before .before .before .before .before .before .before .word-at3 .ensures) (c .before .before .before .before .before .before .before .before .before .before .before .before .before .before .before .word-at4 .ensures) (c .before .before .before .before .before .before .before .before .before .before .before .before .before .before .lists-at .result) (c .before .before .before .before .before .before .before .before .before .before .before .before .before .before .lists-at .ensures) (a .scratch .now) (g .last .1 .1 .1 .1 .1 .1 .1 .1 .0) (g .ensures .2),
     )
 
 pub segment-held-spec : {M : Type 1} → statement M
@@ -76,11 +64,7 @@ segment-held-spec =
     word-at-requires-2
     word-at-requires-3
     word-at-requires-4
-    cast-capacity
-    cast-start
-    add-start
-    cast-start-2
-    add-start-2
+    lists-at-requires
     segment-parts-requires
     tell-requires
     same-length

@@ -22,8 +22,7 @@ frame-size-requires c κs =
     (level-sides (leafOf (c .before .before .before .before .before .before .before .args .mask .now) (c .before .before .before .before .before .before .before .args .width) (c .before .before .before .before .before .before .before .args .height) (c .before .before .before .before .before .before .before .args .skew) (c .before .before .before .before .before .before .before .args .slope) (c .before .before .before .before .before .before .before .args .sheet) (c .before .before .before .before .before .before .before .args .capacity)) (c .before .before .before .before .before .before .before .args .store .now) (c .before .before .before .before .before .before .before .args .ink .now) _ (c .before .before .before .judge-leaf .ensures) (c .before .before .if1 .left) _ _ (c .before .applied .ensures) (c .applied2 .ensures), level-within (leafOf (c .before .before .before .before .before .before .before .args .mask .now) (c .before .before .before .before .before .before .before .args .width) (c .before .before .before .before .before .before .before .args .height) (c .before .before .before .before .before .before .before .args .skew) (c .before .before .before .before .before .before .before .args .slope) (c .before .before .before .before .before .before .before .args .sheet) (c .before .before .before .before .before .before .before .args .capacity)) (c .before .before .before .before .before .before .before .args .store .now) (c .before .before .before .before .before .before .before .args .ink .now) _ (c .before .before .before .judge-leaf .ensures) (c .before .before .if1 .left) _ _ (c .before .applied .ensures) (c .applied2 .ensures))
 
 judge-place-requires : tie.Need-judge-place-requires
-judge-place-requires c κs =
-    (level-sides (leafOf (c .before .before .before .before .before .before .before .before .before .args .mask .now) (c .before .before .before .before .before .before .before .before .before .args .width) (c .before .before .before .before .before .before .before .before .before .args .height) (c .before .before .before .before .before .before .before .before .before .args .skew) (c .before .before .before .before .before .before .before .before .before .args .slope) (c .before .before .before .before .before .before .before .before .before .args .sheet) (c .before .before .before .before .before .before .before .before .before .args .capacity)) (c .before .before .before .before .before .before .before .before .before .args .store .now) (c .before .before .before .before .before .before .before .before .before .args .ink .now) _ (c .before .before .before .before .before .judge-leaf .ensures) (c .before .before .before .before .if1 .left) _ _ (c .before .before .before .applied .ensures) (c .before .before .applied2 .ensures) .w-fits, c .before .frame-size .ensures .1 .0, c .before .frame-size .ensures .1 .1, level-few (leafOf (c .before .before .before .before .before .before .before .before .before .args .mask .now) (c .before .before .before .before .before .before .before .before .before .args .width) (c .before .before .before .before .before .before .before .before .before .args .height) (c .before .before .before .before .before .before .before .before .before .args .skew) (c .before .before .before .before .before .before .before .before .before .args .slope) (c .before .before .before .before .before .before .before .before .before .args .sheet) (c .before .before .before .before .before .before .before .before .before .args .capacity)) (c .before .before .before .before .before .before .before .before .before .args .store .now) (c .before .before .before .before .before .before .before .before .before .args .ink .now) _ (c .before .before .before .before .before .judge-leaf .ensures) (c .before .before .before .before .if1 .left) _ _ (c .before .before .before .applied .ensures) (c .before .before .applied2 .ensures))
+judge-place-requires c κs = search needs
 
 same-length : tie.Need-same-length
 same-length c = search needs

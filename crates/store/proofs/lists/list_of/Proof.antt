@@ -1,38 +1,36 @@
+-- `store::lists::list_of` meets its contract. Assumes nothing.
 use mathlib.Core.Path.{ap}
 use Prim.Native.Nat.{_*_}
 use native.Mathlib.Omega.{arith}
 use Rattle.store.specs.stages.Areas.{whichOf}
-use Rattle.store.proofs.TellLaws.{list-word, list-end, list-part}
+use Rattle.store.proofs.TellLaws.{list-end, list-part}
 use borrow.Author.Needs.{needs}
 use Rattle.store.proofs.lists.list_of.Statement.{statement}
 use Rattle.store.proofs.lists.list_of.Tie as tie
 
-area-of-requires : tie.Need-area-of-requires
-area-of-requires c κs = search needs
-
-mul-wide : tie.Need-mul-wide
-mul-wide c = let r = list-word (c .before .before .args .store .now) (c .before .before .pre) (whichOf (c .before .before .args .which)) (c .area-of .result .at) (c .area-of .result .width) (c .area-of .result .word) (c .area-of .ensures .0) (c .area-of .ensures .1) (c .area-of .ensures .2) in omega arith
-
-shared-slice-read-wide : tie.Need-shared-slice-read-wide
-shared-slice-read-wide c = list-word (c .before .before .before .args .store .now) (c .before .before .before .pre) (whichOf (c .before .before .before .args .which)) (c .before .area-of .result .at) (c .before .area-of .result .width) (c .before .area-of .result .word) (c .before .area-of .ensures .0) (c .before .area-of .ensures .1) (c .before .area-of .ensures .2)
+list-at-requires : tie.Need-list-at-requires
+list-at-requires c κs = search needs
 
 wide-requires : tie.Need-wide-requires
 wide-requires c κs = search needs
 
 mul-end : tie.Need-mul-end
 mul-end c =
-    let r = list-end (c .before .before .before .before .before .args .store .now) (c .before .before .before .before .before .pre) (whichOf (c .before .before .before .before .before .args .which)) (c .before .before .before .area-of .result .at) (c .before .before .before .area-of .result .width) (c .before .before .before .area-of .result .word) (c .before .before .before .area-of .ensures .0) (c .before .before .before .area-of .ensures .1) (c .before .before .before .area-of .ensures .2) in
-    let e = ap (λ n. n * c .before .before .before .area-of .result .width) (c .before .wide .ensures) in
-    omega arith
+    let r = list-end (c .before .before .before .before .args .store .now) (c .before .before .before .before .pre) (whichOf (c .before .before .before .before .args .which)) (c .before .before .list-at .result) (c .before .before .list-at .ensures) in
+    let e = ap (λ n. n * c .before .before .list-at .result .width) (c .before .wide .ensures) in
+    omega (arith, r, e)
 
 add-end : tie.Need-add-end
 add-end c =
-    let r = list-end (c .before .before .before .before .before .args .store .now) (c .before .before .before .before .before .pre) (whichOf (c .before .before .before .before .before .args .which)) (c .before .before .before .area-of .result .at) (c .before .before .before .area-of .result .width) (c .before .before .before .area-of .result .word) (c .before .before .before .area-of .ensures .0) (c .before .before .before .area-of .ensures .1) (c .before .before .before .area-of .ensures .2) in
-    let e = ap (λ n. n * c .before .before .before .area-of .result .width) (c .before .wide .ensures) in
-    omega arith
+    let r = list-end (c .before .before .before .before .args .store .now) (c .before .before .before .before .pre) (whichOf (c .before .before .before .before .args .which)) (c .before .before .list-at .result) (c .before .before .list-at .ensures) in
+    let e = ap (λ n. n * c .before .before .list-at .result .width) (c .before .wide .ensures) in
+    omega (arith, r, e)
 
 mul-result : tie.Need-mul-result
-mul-result c = let r = list-end (c .before .before .before .before .before .args .store .now) (c .before .before .before .before .before .pre) (whichOf (c .before .before .before .before .before .args .which)) (c .before .before .before .area-of .result .at) (c .before .before .before .area-of .result .width) (c .before .before .before .area-of .result .word) (c .before .before .before .area-of .ensures .0) (c .before .before .before .area-of .ensures .1) (c .before .before .before .area-of .ensures .2) in omega arith
+mul-result c =
+    let r = list-end (c .before .before .before .before .args .store .now) (c .before .before .before .before .pre) (whichOf (c .before .before .before .before .args .which)) (c .before .before .list-at .result) (c .before .before .list-at .ensures) in
+    let e = ap (λ n. n * c .before .before .list-at .result .width) (c .before .wide .ensures) in
+    omega (arith, r, e)
 
 sub-result : tie.Need-sub-result
 sub-result c = search needs
@@ -42,20 +40,18 @@ part-result-start c = search needs
 
 part-result-end : tie.Need-part-result-end
 part-result-end c =
-    let r = list-end (c .before .before .before .before .before .args .store .now) (c .before .before .before .before .before .pre) (whichOf (c .before .before .before .before .before .args .which)) (c .before .before .before .area-of .result .at) (c .before .before .before .area-of .result .width) (c .before .before .before .area-of .result .word) (c .before .before .before .area-of .ensures .0) (c .before .before .before .area-of .ensures .1) (c .before .before .before .area-of .ensures .2) in
-    let e = ap (λ n. n * c .before .before .before .area-of .result .width) (c .before .wide .ensures) in
-    omega arith
+    let r = list-end (c .before .before .before .before .args .store .now) (c .before .before .before .before .pre) (whichOf (c .before .before .before .before .args .which)) (c .before .before .list-at .result) (c .before .before .list-at .ensures) in
+    let e = ap (λ n. n * c .before .before .list-at .result .width) (c .before .wide .ensures) in
+    omega (arith, r, e)
 
 returns : tie.Need-returns
-returns c = list-part (c .before .before .before .before .before .before .args .store .now) (c .before .before .before .before .before .before .pre) (whichOf (c .before .before .before .before .before .before .args .which)) (c .before .before .before .before .area-of .result .at) (c .before .before .before .before .area-of .result .width) (c .before .before .before .before .area-of .result .word) (c .before .before .before .before .area-of .ensures .0) (c .before .before .before .before .area-of .ensures .1) (c .before .before .before .before .area-of .ensures .2) (c .before .before .wide .result) (c .before .before .wide .ensures)
+returns c = list-part (c .before .before .before .before .before .args .store .now) (c .before .before .before .before .before .pre) (whichOf (c .before .before .before .before .before .args .which)) (c .before .before .before .list-at .result) (c .before .before .before .list-at .ensures) (c .before .before .wide .result) (c .before .before .wide .ensures)
 
 pub list-of-spec : {M : Type 1} → statement M
 list-of-spec =
     tie.close
     (tie.spec
-    area-of-requires
-    mul-wide
-    shared-slice-read-wide
+    list-at-requires
     wide-requires
     mul-end
     add-end

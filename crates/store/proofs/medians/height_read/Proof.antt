@@ -11,26 +11,8 @@ shared-slice-read-n c = search needs
 cast-n : tie.Need-cast-n
 cast-n c = search needs
 
-lines-start-requires : tie.Need-lines-start-requires
-lines-start-requires c κs = search needs
-
-mul-end : tie.Need-mul-end
-mul-end c = search needs
-
-add-end : tie.Need-add-end
-add-end c = search needs
-
-mul-median-glyph-height : tie.Need-mul-median-glyph-height
-mul-median-glyph-height c = search needs
-
-sub-median-glyph-height : tie.Need-sub-median-glyph-height
-sub-median-glyph-height c = search needs
-
-part-median-glyph-height-start : tie.Need-part-median-glyph-height-start
-part-median-glyph-height-start c = search needs
-
-part-median-glyph-height-end : tie.Need-part-median-glyph-height-end
-part-median-glyph-height-end c = search needs
+list-of-requires : tie.Need-list-of-requires
+list-of-requires c κs = c .before .before .pre .lists
 
 shared-slice-read-median-glyph-height : tie.Need-shared-slice-read-median-glyph-height
 shared-slice-read-median-glyph-height c = search needs
@@ -40,11 +22,11 @@ slice-aggregate-median-glyph-height c = search needs
 
 median-glyph-height-requires : tie.Need-median-glyph-height-requires
 median-glyph-height-requires c κs =
-    let L = lines-asked (c .before .before .before .before .before .before .args .store .now) (c .before .before .before .before .before .before .pre) (c .before .before .before .lines-start .result) (c .before .before .before .lines-start .ensures) in
+    let L = lines-asked (c .before .before .before .before .before .args .store .now) _ (c .before .before .list-of .ensures) (c .before .before .before .before .before .pre) in
     (L .lines .room, omega (arith, L .few), omega (arith, L .low), omega (arith, L .low), L .heights)
 
 returns : tie.Need-returns
-returns c = height-found (c .before .before .before .before .before .before .before .before .args .store .now) (c .before .before .before .before .before .before .before .before .pre) (c .before .before .before .before .before .lines-start .result) (c .before .before .before .before .before .lines-start .ensures) (c .before .median-glyph-height .result) (c .before .median-glyph-height .ensures)
+returns c = height-found (c .before .before .before .before .before .before .before .args .store .now) _ (c .before .before .before .before .list-of .ensures) (c .before .median-glyph-height .result) (c .before .median-glyph-height .ensures)
 
 pub height-read-spec : {M : Type 1} → statement M
 height-read-spec =
@@ -52,13 +34,7 @@ height-read-spec =
     (tie.spec
     shared-slice-read-n
     cast-n
-    lines-start-requires
-    mul-end
-    add-end
-    mul-median-glyph-height
-    sub-median-glyph-height
-    part-median-glyph-height-start
-    part-median-glyph-height-end
+    list-of-requires
     shared-slice-read-median-glyph-height
     slice-aggregate-median-glyph-height
     median-glyph-height-requires

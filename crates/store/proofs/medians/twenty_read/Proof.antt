@@ -11,26 +11,8 @@ shared-slice-read-n c = search needs
 cast-n : tie.Need-cast-n
 cast-n c = search needs
 
-lines-start-requires : tie.Need-lines-start-requires
-lines-start-requires c κs = search needs
-
-mul-end : tie.Need-mul-end
-mul-end c = search needs
-
-add-end : tie.Need-add-end
-add-end c = search needs
-
-mul-twenty-line-measure : tie.Need-mul-twenty-line-measure
-mul-twenty-line-measure c = search needs
-
-sub-twenty-line-measure : tie.Need-sub-twenty-line-measure
-sub-twenty-line-measure c = search needs
-
-part-twenty-line-measure-start : tie.Need-part-twenty-line-measure-start
-part-twenty-line-measure-start c = search needs
-
-part-twenty-line-measure-end : tie.Need-part-twenty-line-measure-end
-part-twenty-line-measure-end c = search needs
+list-of-requires : tie.Need-list-of-requires
+list-of-requires c κs = c .before .before .pre .lists
 
 shared-slice-read-twenty-line-measure : tie.Need-shared-slice-read-twenty-line-measure
 shared-slice-read-twenty-line-measure c = search needs
@@ -46,11 +28,11 @@ slice-aggregate-twenty-line-measure c = search needs
 
 twenty-line-measure-requires : tie.Need-twenty-line-measure-requires
 twenty-line-measure-requires c κs =
-    let L = lines-asked (c .before .before .before .before .before .before .before .args .store .now) (c .before .before .before .before .before .before .before .pre) (c .before .before .before .before .lines-start .result) (c .before .before .before .before .lines-start .ensures) in
+    let L = lines-asked (c .before .before .before .before .before .before .args .store .now) _ (c .before .before .before .list-of .ensures) (c .before .before .before .before .before .before .pre) in
     (L .lines, L .low, omega (arith, L .low, L .few-blocks))
 
 returns : tie.Need-returns
-returns c = twenty-found (c .before .before .before .before .before .before .before .before .before .args .store .now) (c .before .before .before .before .before .before .before .before .before .pre) (c .before .before .before .before .before .before .lines-start .result) (c .before .before .before .before .before .before .lines-start .ensures) (c .before .twenty-line-measure .result) (c .before .twenty-line-measure .ensures)
+returns c = twenty-found (c .before .before .before .before .before .before .before .before .args .store .now) _ (c .before .before .before .before .before .list-of .ensures) (c .before .twenty-line-measure .result) (c .before .twenty-line-measure .ensures)
 
 pub twenty-read-spec : {M : Type 1} → statement M
 twenty-read-spec =
@@ -58,13 +40,7 @@ twenty-read-spec =
     (tie.spec
     shared-slice-read-n
     cast-n
-    lines-start-requires
-    mul-end
-    add-end
-    mul-twenty-line-measure
-    sub-twenty-line-measure
-    part-twenty-line-measure-start
-    part-twenty-line-measure-end
+    list-of-requires
     shared-slice-read-twenty-line-measure
     cast-twenty-line-measure
     shared-slice-read-twenty-line-measure-2

@@ -5,17 +5,17 @@ use Rattle.labelling.proofs.component.Component.absorb.Tie as tie
 add-t4 : tie.Need-add-t4
 add-t4 c = search needs
 
-lesser-requires : tie.Need-lesser-requires
-lesser-requires c κs = search needs
+min-u32-requires : tie.Need-min-u32-requires
+min-u32-requires c κs = search needs
 
-lesser-requires-2 : tie.Need-lesser-requires-2
-lesser-requires-2 c κs = search needs
+min-u32-requires-2 : tie.Need-min-u32-requires-2
+min-u32-requires-2 c κs = search needs
 
-greater-requires : tie.Need-greater-requires
-greater-requires c κs = search needs
+max-u32-requires : tie.Need-max-u32-requires
+max-u32-requires c κs = search needs
 
-greater-requires-2 : tie.Need-greater-requires-2
-greater-requires-2 c κs = search needs
+max-u32-requires-2 : tie.Need-max-u32-requires-2
+max-u32-requires-2 c κs = search needs
 
 add-t10 : tie.Need-add-t10
 add-t10 c = search needs
@@ -31,10 +31,10 @@ absorb-spec =
     tie.close
     (tie.spec
     add-t4
-    lesser-requires
-    lesser-requires-2
-    greater-requires
-    greater-requires-2
+    min-u32-requires
+    min-u32-requires-2
+    max-u32-requires
+    max-u32-requires-2
     add-t10
     add-t12
     returns)
