@@ -177,7 +177,7 @@ fn mark_place(
 {
     let since = words[o];
     if run_min < since {
-        return cut_place(ink, words, marks, g, y, o, thick_max);
+        return cut_places(ink, words, marks, g, o, y, y + 1, thick_max);
     }
     if since == run_min {
         let from = y + 1 - run_min as usize;

@@ -2,11 +2,10 @@ use mathlib.Core.Path.{_≡_, refl, subst}
 use Prim.Native.Nat.{_+_, _<_}
 use native.Mathlib.Nat.{le-refl}
 use native.Mathlib.Omega.{arith}
-use lib.ListN.{drop, length}
+use lib.ListN.{drop}
 use Rattle.extents.specs.rules.Extents.{behind}
-use Rattle.rulings.specs.stages.Sweeps.{widenedScanline, isThin}
+use Rattle.rulings.specs.stages.Sweeps.{widenedScanline}
 use Rattle.extents.proofs.RunLaws.{behind-le}
-use Rattle.rulings.proofs.SweepLaws.{marked-dot}
 use Rattle.rulings.proofs.ColumnLaws.{risen-long, risen-still}
 use borrow.Author.Needs.{needs}
 use Rattle.rulings.proofs.columns.mark_place.Statement.{statement}
@@ -18,10 +17,11 @@ mul-since c = search needs
 slice-read-since : tie.Need-slice-read-since
 slice-read-since c = search needs
 
-cut-place-requires : tie.Need-cut-place-requires
-cut-place-requires c κs =
-    let p = (c .before .before .before .before .before) .pre in
-    (p .0, p .2, p .1, record { room = p .4 .room; small = λ i o l k. let z = p .4 .small i o l k in omega arith }, p .7)
+add-cut-places : tie.Need-add-cut-places
+add-cut-places c = search needs
+
+cut-places-requires : tie.Need-cut-places-requires
+cut-places-requires c κs = search needs
 
 same-length : tie.Need-same-length
 same-length c = search needs
@@ -30,10 +30,9 @@ returns : tie.Need-returns
 returns c =
     let a = (c .before .before .before .before .before .before .before .before) .args in
     let p = (c .before .before .before .before .before .before .before .before) .pre in (
-      risen-long (a .g) (a .ink .now) (a .run-min) (a .thick-max) (a .y) (a .o) (a .y) (drop (a .marks) (a .words .now)) _ (p .1) (p .2) (p .3) (omega (arith, p .5)) (le-refl _) (λ x. absurd (omega (arith, p .5))) (λ x. refl)
-          (marked-dot (a .g) (length (a .ink .now)) (p .0) (isThin (a .g) (a .ink .now) (a .thick-max)) 2 (drop (a .marks) (a .words .now)) _ (a .y) (a .o) (p .2) (p .1) (p .4 .room) ((c .before .before .cut-place) .ensures .0)),
-      (c .before .before .cut-place) .ensures .1,
-      (c .before .before .cut-place) .ensures .2,
+      risen-long (a .g) (a .ink .now) (a .run-min) (a .thick-max) (a .y) (a .o) (a .y) (drop (a .marks) (a .words .now)) _ (p .1) (p .2) (p .3) (omega (arith, p .5)) (le-refl _) (λ x. absurd (omega (arith, p .5))) (λ x. refl) ((c .before .before .cut-places) .ensures .0),
+      (c .before .before .cut-places) .ensures .1,
+      (c .before .before .cut-places) .ensures .2,
     )
 
 add-from : tie.Need-add-from
@@ -46,11 +45,11 @@ sub-from c =
     let b = behind-le (widenedScanline (a .g) (a .ink .now) (a .o)) (a .y + 1) in
     omega (arith, p .5)
 
-add-cut-places : tie.Need-add-cut-places
-add-cut-places c = search needs
+add-cut-places-2 : tie.Need-add-cut-places-2
+add-cut-places-2 c = search needs
 
-cut-places-requires : tie.Need-cut-places-requires
-cut-places-requires c κs = search needs
+cut-places-requires-2 : tie.Need-cut-places-requires-2
+cut-places-requires-2 c κs = search needs
 
 same-length-2 : tie.Need-same-length-2
 same-length-2 c = search needs
@@ -60,9 +59,9 @@ returns-2 c =
     let a = (c .before .before .before .before .before .before .before .before .before) .args in
     let p = (c .before .before .before .before .before .before .before .before .before) .pre in
     let b = behind-le (widenedScanline (a .g) (a .ink .now) (a .o)) (a .y + 1) in (
-      risen-long (a .g) (a .ink .now) (a .run-min) (a .thick-max) (a .y) (a .o) _ (drop (a .marks) (a .words .now)) _ (p .1) (p .2) (p .3) (omega (arith, p .5)) (omega (arith, p .3)) (λ x. omega (arith, p .5)) (λ x. absurd (omega (arith, p .5))) ((c .before .before .cut-places) .ensures .0),
-      (c .before .before .cut-places) .ensures .1,
-      (c .before .before .cut-places) .ensures .2,
+      risen-long (a .g) (a .ink .now) (a .run-min) (a .thick-max) (a .y) (a .o) _ (drop (a .marks) (a .words .now)) _ (p .1) (p .2) (p .3) (omega (arith, p .5)) (omega (arith, p .3)) (λ x. omega (arith, p .5)) (λ x. absurd (omega (arith, p .5))) ((c .before .before .cut-places2) .ensures .0),
+      (c .before .before .cut-places2) .ensures .1,
+      (c .before .before .cut-places2) .ensures .2,
     )
 
 returns-3 : tie.Need-returns-3
@@ -78,13 +77,14 @@ mark-place-spec =
     (tie.spec
     mul-since
     slice-read-since
-    cut-place-requires
+    add-cut-places
+    cut-places-requires
     same-length
     returns
     add-from
     sub-from
-    add-cut-places
-    cut-places-requires
+    add-cut-places-2
+    cut-places-requires-2
     same-length-2
     returns-2
     returns-3)
