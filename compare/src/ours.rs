@@ -1,4 +1,4 @@
-//! This project's functions: the C exports of `crates/boundary`, in safe Rust. A slice crosses as a pointer and a length, a
+//! This project's functions: the C exports of `crates/stages`, in safe Rust. A slice crosses as a pointer and a length, a
 //! bool as one byte, which is held to be 0 or 1.
 
 use original::pixel::layout::LayoutParams;

@@ -34,16 +34,8 @@ fn level_page(body: &[u8], width: u32, height: u32, slope: f64, mask: &mut [u8])
         return false;
     }
     masks::read_mask(&body[masks::MASK_FROM..], mask);
-    let size = boundary::novlizeb_plane_size(width, height, slope);
-    let done = boundary::novlizeb_level_plane(
-        mask,
-        0,
-        width,
-        height,
-        slope,
-        &mut shears,
-        &mut plane,
-    );
+    let size = stages::novlizeb_plane_size(width, height, slope);
+    let done = stages::novlizeb_level_plane(mask, 0, width, height, slope, &mut shears, &mut plane);
     done & is_answered(body, size, width, &shears, &plane)
 }
 

@@ -48,7 +48,7 @@ fn segment_ink(
     figures: &mut [u32],
 ) -> u32 {
     let mut scratch = [0u32; SCRATCH_WORDS];
-    boundary::novlizeb_segment_plane(
+    stages::novlizeb_segment_plane(
         ink,
         width,
         height,

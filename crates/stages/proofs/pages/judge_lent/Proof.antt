@@ -1,0 +1,59 @@
+-- `stages::pages::judge_lent` meets its contract, test by test. Assumes nothing.
+use borrow.Author.Needs.{needs}
+use mathlib.Core.Path.{ap, _∙_}
+use mathlib.Core.Bool.{not}
+use lib.Dec.{ltb}
+use Rattle.memory.specs.rules.Refusals.{refuseIf}
+use Rattle.segmenting.specs.rules.Results.{resultWords}
+use Rattle.stages.specs.rules.Frames.{roomRefusal}
+use Rattle.stages.specs.rules.Pages.{lentRefusal}
+use Rattle.stages.proofs.pages.judge_lent.Statement.{statement}
+use Rattle.stages.proofs.pages.judge_lent.Tie as tie
+
+refuse-if-requires : tie.Need-refuse-if-requires
+refuse-if-requires c κs = search needs
+
+refuse-if-requires-2 : tie.Need-refuse-if-requires-2
+refuse-if-requires-2 c κs = search needs
+
+mul-refuse-if : tie.Need-mul-refuse-if
+mul-refuse-if c = search needs
+
+mul-refuse-if-2 : tie.Need-mul-refuse-if-2
+mul-refuse-if-2 c = search needs
+
+add-refuse-if : tie.Need-add-refuse-if
+add-refuse-if c = search needs
+
+refuse-if-requires-3 : tie.Need-refuse-if-requires-3
+refuse-if-requires-3 c κs = search needs
+
+judge-room-requires : tie.Need-judge-room-requires
+judge-room-requires c κs = search needs
+
+validate-requires : tie.Need-validate-requires
+validate-requires c κs = search needs
+
+refuse-if-requires-4 : tie.Need-refuse-if-requires-4
+refuse-if-requires-4 c κs = search needs
+
+returns : tie.Need-returns
+unfolding lentRefusal
+returns c = let a = (c .before .before .before .before .before .before) .args in
+    (c .refuse-if4) .ensures
+    ∙ (λ i. refuseIf (not ((c .before .validate) .ensures i)) 6 (((c .before .before .judge-room) .ensures ∙ ap (roomRefusal (a .dots) (a .capacity) (a .words)) ((c .before .before .before .refuse-if3) .ensures ∙ ap (refuseIf (ltb (a .results) (resultWords (a .w) (a .capacity))) 9) ((c .before .before .before .before .refuse-if2) .ensures ∙ ap (refuseIf (ltb (a .kinds) (a .dots)) 9) ((c .before .before .before .before .before .refuse-if) .ensures)))) i))
+
+pub judge-lent-spec : {M : Type 1} → statement M
+judge-lent-spec =
+    tie.close
+    (tie.spec
+    refuse-if-requires
+    refuse-if-requires-2
+    mul-refuse-if
+    mul-refuse-if-2
+    add-refuse-if
+    refuse-if-requires-3
+    judge-room-requires
+    validate-requires
+    refuse-if-requires-4
+    returns)
