@@ -63,12 +63,11 @@ fn float(low: u32, high: u32) -> f64 {
 }
 
 /// Zeros to lend. That there is room is tried first, since a vector of zeros, which the system makes without writing them, would end the process where there is none.
-fn lend<T: Copy + Default>(memory: &mut Vec<T>, length: usize) -> Result<(), Refusal> {
-    *memory = Vec::new();
-    memory.try_reserve_exact(length).map_err(|_| Refusal::TooShort)?;
-    *memory = Vec::new();
-    *memory = vec![T::default(); length];
-    Ok(())
+fn zeros<T: Copy + Default>(length: usize) -> Result<Vec<T>, Refusal> {
+    Vec::<T>::new().try_reserve_exact(length).map_err(|_| Refusal::TooShort)?;
+    let mut memory = vec![T::default(); length];
+    native::in_large_pages(&mut memory);
+    Ok(memory)
 }
 
 impl Leaf {
@@ -102,11 +101,9 @@ impl Leaf {
         if size == 0 {
             return done(native::level(page, params, &mut [0; 64], &mut []));
         }
-        lend(&mut self.store, shape.store_words())?;
-        lend(&mut self.ink, shape.dots())?;
-        lend(&mut self.kinds, shape.dots())?;
-        done(native::level(page, params, &mut self.store, &mut self.ink))?;
-        self.shape = shape;
+        let (mut store, mut ink, kinds) = (zeros(shape.store_words())?, zeros(shape.dots())?, zeros(shape.dots())?);
+        done(native::level(page, params, &mut store, &mut ink))?;
+        *self = Self { store, ink, kinds, scratch: std::mem::take(&mut self.scratch), shape };
         Ok(())
     }
 
@@ -117,7 +114,8 @@ impl Leaf {
     pub fn segment(&mut self, params: &LayoutParams) -> Result<(), Refusal> {
         let words = if self.store.first().copied().unwrap_or(0) == 0 { 0 } else { self.shape.scratch_words() };
         if self.scratch.len() < words {
-            lend(&mut self.scratch, words)?;
+            self.scratch = Vec::new();
+            self.scratch = zeros(words)?;
         }
         done(native::segment(params, &mut self.store, &self.ink, &mut self.kinds, &mut self.scratch)).map_err(|refusal| match refusal {
             Refusal::TooShort if self.store.is_empty() => Refusal::Empty,
@@ -125,7 +123,7 @@ impl Leaf {
         })
     }
 
-    /// Makes the leaf empty; its memory is kept for the next.
+    /// Makes the leaf empty. The planes and the shape stay to be looked at until the next levelling.
     pub fn clear(&mut self) {
         native::clear(&mut self.store);
     }
@@ -200,8 +198,7 @@ impl Leaf {
     /// [`Refusal::Empty`], or [`Refusal::TooShort`] where it is not of page size.
     pub fn level_gray(&self, gray: &[u8]) -> Result<Vec<u8>, Refusal> {
         self.levelled()?;
-        let mut out = Vec::new();
-        lend(&mut out, self.shape.dots())?;
+        let mut out = zeros(self.shape.dots())?;
         done(native::level_gray(&self.store, gray, &mut out))?;
         Ok(out)
     }
@@ -254,8 +251,7 @@ impl Leaf {
 
     /// Reads a list of `count` records of `width` words.
     fn list<T>(&self, read: impl Fn(Held<'_>, &mut [u32]) -> u64, count: u32, width: usize, record: impl Fn(&[u32]) -> T) -> Result<Vec<T>, Refusal> {
-        let mut words = Vec::new();
-        lend(&mut words, count as usize * width)?;
+        let mut words = zeros(count as usize * width)?;
         value(read(self.held(), &mut words))?;
         Ok(words.chunks_exact(width).map(record).collect())
     }
@@ -349,8 +345,7 @@ impl Leaf {
         let f = self.figures()?;
         let entry = |n: u32, bytes: usize| n as usize * bytes;
         let length = 37 + entry(f.lines, 42) + entry(f.blocks, 22) + entry(f.rules, 19) + entry(f.graphics, 19) + entry(f.glyphs, 30) + entry(f.columns, 11) + 51;
-        let mut bytes = Vec::new();
-        lend(&mut bytes, length)?;
+        let mut bytes = zeros(length)?;
         let n = value(native::write_sheet(self.held(), &mut bytes))?;
         bytes.truncate(n as usize);
         Ok(bytes.into_iter().map(char::from).collect())

@@ -1,6 +1,6 @@
 //! The library's C names, and a safe function for each. This is the only module with unsafe code.
 //!
-//! Each call below is safe for one reason: every pointer comes from a slice reference with that slice's length, so it is aligned and valid for as many elements, for reading,
+//! Each call of the library below is safe for one reason: every pointer comes from a slice reference with that slice's length, so it is aligned and valid for as many elements, for reading,
 //! and, where it is mutable, for writing by nobody else meanwhile; the library is proved to touch nothing else and to end on every input. Integers and floats may hold any value.
 use crate::LayoutParams;
 
@@ -43,6 +43,25 @@ mod raw {
             kind: u32, x0: u32, y0: u32, x1: u32, y1: u32, out: *mut u32, out_length: usize) -> u64;
         novlizeb_write_sheet(store: *const u32, store_length: usize, ink: *const u8, ink_length: usize, kinds: *const u8, kinds_length: usize, out: *mut u8, out_length: usize) -> u64;
         novlizeb_frame_size(width: u32, height: u32, slope: f64) -> u64;
+    }
+}
+
+/// Asks the system to lay memory that was not touched yet in large pages, which spares it most of the work of handing pages out one by one: only a hint, and only where Linux takes it.
+pub fn in_large_pages<T>(memory: &mut [T]) {
+    #[cfg(target_os = "linux")]
+    {
+        const PAGE: usize = 4096;
+        const MADV_HUGEPAGE: i32 = 14;
+        extern "C" {
+            fn madvise(start: *mut std::ffi::c_void, length: usize, advice: i32) -> i32;
+        }
+        let start = memory.as_mut_ptr().cast::<u8>();
+        let before = start.align_offset(PAGE);
+        let length = std::mem::size_of_val(memory).saturating_sub(before) / PAGE * PAGE;
+        if length > 0 {
+            // SAFETY: whole pages inside the slice, and this advice leaves what memory holds as it is.
+            unsafe { madvise(start.add(before).cast(), length, MADV_HUGEPAGE) };
+        }
     }
 }
 

@@ -64,6 +64,9 @@ fn states() {
     assert_eq!(leaf.figures().unwrap(), first);
     leaf.clear();
     assert_eq!(leaf.figures(), Err(Refusal::NotSegmented));
+    let (shape, ink, kinds) = (leaf.shape(), leaf.ink().to_vec(), leaf.kinds().to_vec());
+    assert_eq!(leaf.level(&Mask::new(2, 2, vec![2; 4]), 0.0, &show_params(), 64), Err(Refusal::MaskByte));
+    assert_eq!((leaf.shape(), leaf.ink(), leaf.kinds()), (shape, &ink[..], &kinds[..]));
     leaf.level(&printed_leaf(), 10.0, &show_params(), 64).unwrap();
     assert!(leaf.frame().unwrap().height > 4);
 }
