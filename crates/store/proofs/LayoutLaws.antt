@@ -9,6 +9,7 @@ use lib.Dec.{eqb}
 use lib.ListN.{length, getD, length-append, length-map}
 use Rattle.memory.specs.rules.Lists.{table, upto, keep, greatest, insertBy, sortBy}
 use Rattle.memory.specs.rules.Limits.{maxLines}
+use Rattle.memory.specs.rules.Rects.{height}
 use Rattle.memory.proofs.RefusalLaws.{refusal-passed}
 use Rattle.memory.proofs.TableLaws.{length-table}
 use Rattle.labelling.specs.rules.Components.{boxOf, noDots}
@@ -97,8 +98,8 @@ module _ (p : LayoutParams) (w h : ℕ) (m : List ℕ) where
   lines-few =
       let smears = smearsOf p w h m .components in
       let all = table (λ t. smoothedLine (glyphsIn p w h m) (getD smears t noDots) (suc t)) (length smears) in
-      let a = sort-long (λ (a b : SmoothedLine). keysAtMost (lineKeys a) (lineKeys b)) (keep (isLine p (unitValue (sorted p w h m .unit))) all) in
-      let b = keep-shorter (isLine p (unitValue (sorted p w h m .unit))) all in
+      let a = sort-long (λ (a b : SmoothedLine). keysAtMost (lineKeys a) (lineKeys b)) (keep (λ (l : SmoothedLine). isLine p (unitValue (sorted p w h m .unit)) (l .glyphs) (height (l .bbox))) all) in
+      let b = keep-shorter (λ (l : SmoothedLine). isLine p (unitValue (sorted p w h m .unit)) (l .glyphs) (height (l .bbox))) all in
       let e = length-table (λ t. smoothedLine (glyphsIn p w h m) (getD smears t noDots) (suc t)) (length smears) in
       omega arith
 
