@@ -129,7 +129,7 @@ module _ {p : LayoutParams} {w h : ℕ} {m : List ℕ} {P : ℕ} {s : List ℕ} 
   smears-ask e = record { room = R .room .plane; few = R .held .few; held = R .held .held; unit-is = e ∙ ap unitValue (R .held .figures .unit-is) }
 
   -- the results
-  pub results-ask : (s' : List ℕ) (smears : Smears) → length s' ≡ length s → SmearsHeld p w h m P s' (found .runs) smears → ResultsRoom p w h m P s' found smears results kinds
+  pub results-ask : (s' : List ℕ) (smears : Smears) → length s' ≡ length s → SmearsHeld p w h m P s' (found .runs) smears → ResultsRoom p w h m P s' found smears results
   results-ask s' smears e H =
       record {
         plane = room-kept (R .room .plane) e;
@@ -137,7 +137,6 @@ module _ {p : LayoutParams} {w h : ℕ} {m : List ℕ} {P : ℕ} {s : List ℕ} 
         figures = R .held .figures;
         held = H;
         results-room = R .room .results-room;
-        kinds-room = R .room .kinds-room;
       }
 
 -- the sorted plane
