@@ -19,7 +19,7 @@ use Rattle.sorting.specs.stages.SortSteps.{SortHeld}
 use Rattle.sorting.specs.rules.Units.{unitValue}
 use Rattle.sorting.specs.declared.sort.SortCounts.{SortCounts}
 use Rattle.grouping.specs.rules.Blocks.{blockFirsts}
-use Rattle.segmenting.specs.rules.Layouts.{layout, layoutRefusal, textLine}
+use Rattle.segmenting.specs.rules.Layouts.{layout, greatestCount, layoutRefusal, textLine}
 use Rattle.segmenting.specs.rules.Answers.{segmentOutcome, segmentOutcomeBy, segmentPlane}
 use Rattle.segmenting.specs.stages.Rooms.{SegmentRoom, SortedRoom}
 use Rattle.segmenting.specs.rules.Results.{resultsLeft}
@@ -38,7 +38,7 @@ max-fits a l f = let g = f (omega arith) in omega arith
 
 module _ (p : LayoutParams) (w h : ℕ) (m : List ℕ) (P : ℕ) where
   most : ℕ
-  most = greatest (layout p w h m .components)
+  most = greatestCount (layout p w h m .components)
 
   -- the greatest of the five labellings is that of the four of sorting or that of the smoothed glyphs
   most-sorted : mostComponents (sorted p w h m) ≤ most
@@ -65,17 +65,17 @@ module _ (p : LayoutParams) (w h : ℕ) (m : List ℕ) (P : ℕ) where
 
   refused-many : P < most → layoutRefusal P (layout p w h m) ≡ 20
   unfolding layoutRefusal refuseIf most
-  refused-many l = rw (lt-ltb P (greatest (layout p w h m .components)) l) refl
+  refused-many l = rw (lt-ltb P (greatestCount (layout p w h m .components)) l) refl
 
   refused-lines : most ≤ P → maxLines < length (linesIn p w h m) → layoutRefusal P (layout p w h m) ≡ 21
   unfolding layoutRefusal refuseIf most
   refused-lines a b =
-      rw (le-ltb P (greatest (layout p w h m .components)) a) (rw (lt-ltb maxLines (length (layout p w h m .lines)) (let e = many-lines in omega arith)) refl)
+      rw (le-ltb P (greatestCount (layout p w h m .components)) a) (rw (lt-ltb maxLines (length (layout p w h m .lines)) (let e = many-lines in omega arith)) refl)
 
   not-refused : most ≤ P → length (linesIn p w h m) ≤ maxLines → layoutRefusal P (layout p w h m) ≡ 0
   unfolding layoutRefusal refuseIf most
   not-refused a b =
-      rw (le-ltb P (greatest (layout p w h m .components)) a) (rw (le-ltb maxLines (length (layout p w h m .lines)) (let e = many-lines in omega arith)) refl)
+      rw (le-ltb P (greatestCount (layout p w h m .components)) a) (rw (le-ltb maxLines (length (layout p w h m .lines)) (let e = many-lines in omega arith)) refl)
 
   module _ (results kinds : List ℕ) where
     by-number : (n : ℕ) → layoutRefusal P (layout p w h m) ≡ n → segmentOutcomeBy n w P (layout p w h m) results kinds ≡ segmentPlane p w h m P results kinds
@@ -129,7 +129,7 @@ module _ {p : LayoutParams} {w h : ℕ} {m : List ℕ} {P : ℕ} {s : List ℕ} 
   smears-ask e = record { room = R .room .plane; few = R .held .few; held = R .held .held; unit-is = e ∙ ap unitValue (R .held .figures .unit-is) }
 
   -- the results
-  pub results-ask : (s' : List ℕ) (smears : Smears) → length s' ≡ length s → SmearsHeld p w h m P s' (found .runs) smears → ResultsRoom p w h m P s' found smears results kinds
+  pub results-ask : (s' : List ℕ) (smears : Smears) → length s' ≡ length s → SmearsHeld p w h m P s' (found .runs) smears → ResultsRoom p w h m P s' found smears results
   results-ask s' smears e H =
       record {
         plane = room-kept (R .room .plane) e;
@@ -137,7 +137,6 @@ module _ {p : LayoutParams} {w h : ℕ} {m : List ℕ} {P : ℕ} {s : List ℕ} 
         figures = R .held .figures;
         held = H;
         results-room = R .room .results-room;
-        kinds-room = R .room .kinds-room;
       }
 
 -- the sorted plane

@@ -19,7 +19,8 @@ use Rattle.memory.proofs.PartLaws.{tail-part, over-behind}
 use Rattle.memory.proofs.RecordLaws.{length-encoded, record-more}
 use Rattle.memory.specs.declared.rect.Rect.{Rect}
 use Rattle.memory.specs.rules.Rects.{boxWords}
-use Rattle.segmenting.specs.stages.Held.{heldBox, heldKind, ofKind, heldBoxes, heldArea, unpackedBox, unpackedBoxes, heldRules}
+use Rattle.sorting.specs.stages.Measures.{sizeBox, unpacked}
+use Rattle.segmenting.specs.stages.Held.{heldKind, ofKind, heldBoxes, heldArea, unpackedBoxes, heldRules}
 use Rattle.memory.proofs.ListLaws.{keep-snoc-yes, keep-snoc-no, upto-suc, map-append, keep-few}
 use Rattle.memory.proofs.PlaceLaws.{count-length, count-below}
 use Rattle.grouping.proofs.TableWords.{over-length}
@@ -88,19 +89,19 @@ module _ (s : List ℕ) (kinds kind : ℕ) where
     unfolding heldBoxes ofKind upto table keep
     boxes-none out = no-box out
 
-    pub boxes-more : (k : ℕ) → heldKind s kinds k ≡ kind → heldBoxes s sizes kinds kind (k + 1) ≡ heldBoxes s sizes kinds kind k ++ (heldBox s sizes k ∷ [])
+    pub boxes-more : (k : ℕ) → heldKind s kinds k ≡ kind → heldBoxes s sizes kinds kind (k + 1) ≡ heldBoxes s sizes kinds kind k ++ (sizeBox s sizes k ∷ [])
     unfolding heldBoxes
-    boxes-more k e = ap (map (heldBox s sizes)) (of-kind-more k e) ∙ map-append (heldBox s sizes) (ofKind s kinds kind k) (k ∷ [])
+    boxes-more k e = ap (map (sizeBox s sizes)) (of-kind-more k e) ∙ map-append (sizeBox s sizes) (ofKind s kinds kind k) (k ∷ [])
 
     pub boxes-same : (k : ℕ) → (heldKind s kinds k ≡ kind → ⊥) → heldBoxes s sizes kinds kind (k + 1) ≡ heldBoxes s sizes kinds kind k
     unfolding heldBoxes
-    boxes-same k e = ap (map (heldBox s sizes)) (of-kind-same k e)
+    boxes-same k e = ap (map (sizeBox s sizes)) (of-kind-same k e)
 
     -- no more boxes than components
     pub boxes-few : (n : ℕ) → length (heldBoxes s sizes kinds kind n) ≤ n
     unfolding heldBoxes ofKind
     boxes-few n =
-        let a = length-map (ofKind s kinds kind n) (heldBox s sizes) in
+        let a = length-map (ofKind s kinds kind n) (sizeBox s sizes) in
         let b = keep-few (λ k. eqb (heldKind s kinds k) kind) n in
         omega arith
 
@@ -108,8 +109,8 @@ module _ (s : List ℕ) (kinds kind : ℕ) where
     pub boxes-below : (k n : ℕ) → k < n → heldKind s kinds k ≡ kind → length (heldBoxes s sizes kinds kind k) < length (heldBoxes s sizes kinds kind n)
     unfolding heldBoxes
     boxes-below k n l e =
-        let a = length-map (ofKind s kinds kind k) (heldBox s sizes) in
-        let b = length-map (ofKind s kinds kind n) (heldBox s sizes) in
+        let a = length-map (ofKind s kinds kind k) (sizeBox s sizes) in
+        let b = length-map (ofKind s kinds kind n) (sizeBox s sizes) in
         let c = of-kind-below k n l e in
         omega arith
 
@@ -158,13 +159,13 @@ pub unpacked-none : (s : List ℕ) (from : ℕ) (out : List ℕ) → BoxesWritte
 unfolding unpackedBoxes table
 unpacked-none s from out = no-box out
 
-pub unpacked-more : (s : List ℕ) (from k : ℕ) → unpackedBoxes s from (k + 1) ≡ unpackedBoxes s from k ++ (unpackedBox s (from + 2 * k) ∷ [])
+pub unpacked-more : (s : List ℕ) (from k : ℕ) → unpackedBoxes s from (k + 1) ≡ unpackedBoxes s from k ++ (unpacked (getD s (from + 2 * k) 0) (getD s (from + 2 * k + 1) 0) ∷ [])
 unfolding unpackedBoxes table
-unpacked-more s from k = ap (table (λ i. unpackedBox s (from + 2 * i))) (add-one k)
+unpacked-more s from k = ap (table (λ i. unpacked (getD s (from + 2 * i) 0) (getD s (from + 2 * i + 1) 0))) (add-one k)
 
 pub length-unpacked : (s : List ℕ) (from n : ℕ) → length (unpackedBoxes s from n) ≡ n
 unfolding unpackedBoxes
-length-unpacked s from n = length-table (λ k. unpackedBox s (from + 2 * k)) n
+length-unpacked s from n = length-table (λ k. unpacked (getD s (from + 2 * k) 0) (getD s (from + 2 * k + 1) 0)) n
 
 -- Lists one behind the other
 

@@ -77,8 +77,8 @@ mask-bit : (w h : ℕ) (f : Plane) (i : ℕ) → i < w * h → getD (maskOf w h 
 unfolding maskOf
 mask-bit w h f i l = subst (λ z. z ≤ 1) (sym (getD-table _ (w * h) i 0 l)) (bit-low (f (i % w) (i / w)))
 
-module _ {p : LayoutParams} {w h : ℕ} {m : List ℕ} {P : ℕ} {s : List ℕ} {found : SortCounts} {smears : Smears} {results kinds : ℕ}
-    (R : ResultsRoom p w h m P s found smears results kinds) where
+module _ {p : LayoutParams} {w h : ℕ} {m : List ℕ} {P : ℕ} {s : List ℕ} {found : SortCounts} {smears : Smears} {results : ℕ}
+    (R : ResultsRoom p w h m P s found smears results) where
   page : HoldsPage p w h m P s (found .runs)
   page = R .held .held
 
@@ -104,7 +104,7 @@ module _ {p : LayoutParams} {w h : ℕ} {m : List ℕ} {P : ℕ} {s : List ℕ} 
   kinds-are = kinds-held (sorted p w h m .rest .components) (sorted p w h m .kinds) (glyphLabel p w h m) (sizesAt (w * h) P) (kindsAt (w * h) P) s many-kinds (page .glyphs)
 
   -- what painting the plane of kinds asks and leaves
-  pub paint-ask : (out : List ℕ) → length out ≡ kinds → Paintable w h (inkAfterCut p w h m) m s (found .runs) (kindsAt (w * h) P) out
+  pub paint-ask : (out : List ℕ) → w * h ≤ length out → Paintable w h (inkAfterCut p w h m) m s (found .runs) (kindsAt (w * h) P) out
   paint-ask out e =
       let room = R .plane .room in
       let few = few-components in
@@ -115,7 +115,7 @@ module _ {p : LayoutParams} {w h : ℕ} {m : List ℕ} {P : ℕ} {s : List ℕ} 
         numbered = page .numbered;
         room = let a = plan-runs (frame-of (R .plane)) (page .numbered .held) in omega arith;
         kinds-room = omega arith;
-        out-room = let a = R .kinds-room in omega arith;
+        out-room = e;
       }
 
   pub plane-painted : table (paintedKind (inkAfterCut p w h m) (labelling w h (inkAfterCut p w h m) .labels) s (kindsAt (w * h) P) m) (w * h) ≡ sorted p w h m .plane

@@ -24,6 +24,7 @@ use Rattle.segmenting.specs.rules.Layouts.{textLine}
 use Rattle.grouping.specs.stages.Numbering.{withBlocks}
 use Rattle.memory.specs.rules.Rects.{boxWords}
 use Rattle.segmenting.specs.rules.Results.{rulesAt, graphicsAt, linesAt, blocksAt}
+use Rattle.segmenting.specs.stages.Places.{resultPlaces, Placed}
 use Rattle.smoothing.specs.stages.LineWords.{plainLine}
 use Rattle.segmenting.specs.stages.Writing.{rulesRead, graphicsRead, BoxRoom, BoxesLeft, plainRecords, boxesOfLines, GroupRoom, groupsLeft}
 use Rattle.memory.specs.stages.Boxes.{Inside}
@@ -36,6 +37,11 @@ use Rattle.segmenting.proofs.BoxLaws.{length-boxes, boxes-few, rules-fe
 use Rattle.segmenting.proofs.BlockedLines.{blocks-set, text-lines, record-boxes}
 use Rattle.smoothing.proofs.LineRecords.{plain-boxes}
 use Rattle.segmenting.proofs.PutLaws.{part-length, put-part, put-long, put-before, put-behind, over-put}
+
+-- Where the lists stand
+
+pub placed : (w P : ℕ) → Placed (resultPlaces w P) w P
+placed w P = record { columns-is = refl; rules-is = refl; graphics-is = refl; glyphs-is = refl; lines-is = refl; blocks-is = refl }
 
 -- Rules and graphics
 

@@ -26,10 +26,12 @@ use Rattle.params.specs.declared.LayoutParams.{LayoutParams}
 use Rattle.sorting.specs.rules.Kinds.{kindOf, kindAt, ruleKind}
 use Rattle.rulings.specs.rules.Rulings.{runMin, thickMax, cutHorizontal, cutVertical, afterCut}
 use Rattle.sorting.specs.rules.Units.{unitOf, unitValue}
+use Rattle.sorting.specs.stages.Measures.{sizeBox, unpacked}
 use Rattle.sorting.specs.stages.Scratch.{packed, inkAfterCut}
+use Rattle.sorting.proofs.SizedLaws.{size-box}
 use Rattle.sorting.specs.rules.Sorted.{sorted, boxesOf, rulesOf}
 use Rattle.rulings.proofs.RulingMasks.{horizontal-blank, vertical-blank, afterCut-ink}
-use Rattle.segmenting.specs.stages.Held.{heldBox, heldKind, KindsHeld, ofKind, heldBoxes, heldArea, unpackedBox, unpackedBoxes, heldRules}
+use Rattle.segmenting.specs.stages.Held.{heldKind, KindsHeld, ofKind, heldBoxes, heldArea, unpackedBoxes, heldRules}
 use Rattle.segmenting.specs.stages.Painting.{paintedKind}
 use Rattle.memory.proofs.ListLaws.{getD-map, keep-snoc-yes, keep-snoc-no, map-append}
 
@@ -56,19 +58,11 @@ module _ (cs : List Component) (f : Component → ℕ) (s : List ℕ) (sizes kin
   kind-is : (k : ℕ) → k < length cs → eqb (heldKind s kinds k) kind ≡ eqb (f (getD cs k noDots)) kind
   kind-is k l = ap (λ z. eqb z kind) (K k (let e = length-map cs f in omega arith) ∙ getD-map f cs k 0 noDots l)
 
-  box-is : (k : ℕ) → k < length cs → heldBox s sizes k ≡ boxOf (getD cs k noDots)
-  box-is k l =
-      let S = size-at cs s sizes k H l in
-      let one : sizes + 5 * k + 1 + 1 ≡ sizes + 5 * k + 2 = omega arith in
-      let two : sizes + 5 * k + 1 + 2 ≡ sizes + 5 * k + 3 = omega arith in
-      let three : sizes + 5 * k + 1 + 3 ≡ sizes + 5 * k + 4 = omega arith in
-      λ i. record { x0 = S .x0 i; y0 = (ap (λ (j : ℕ). getD s j 0) one ∙ S .y0) i; x1 = (ap (λ (j : ℕ). getD s j 0) two ∙ S .x1) i; y1 = (ap (λ (j : ℕ). getD s j 0) three ∙ S .y1) i }
-
   -- the boxes read are those of the components of the kind, by number
   pub held-boxes : heldBoxes s sizes kinds kind (length cs) ≡ map boxOf (keep (λ (c : Component). eqb (f c) kind) cs)
   unfolding heldBoxes ofKind
   held-boxes =
-      kept-map (λ k. eqb (heldKind s kinds k) kind) (λ (c : Component). eqb (f c) kind) (heldBox s sizes) boxOf (λ k. getD cs k noDots) (length cs) kind-is box-is
+      kept-map (λ k. eqb (heldKind s kinds k) kind) (λ (c : Component). eqb (f c) kind) (sizeBox s sizes) boxOf (λ k. getD cs k noDots) (length cs) kind-is (size-box cs s sizes H)
       ∙ ap (λ l. map boxOf (keep (λ (c : Component). eqb (f c) kind) l)) (as-table cs noDots)
 
   -- and the area read is theirs
@@ -100,7 +94,7 @@ pub unpacked-boxes : (rs : List Rect) (s : List ℕ) (from : ℕ) → take (2 * 
     → ((k : ℕ) (d : Rect) → k < length rs → (getD rs k d .x0 < 32768) × (getD rs k d .y0 < 32768)) → unpackedBoxes s from (length rs) ≡ rs
 unfolding unpackedBoxes
 unpacked-boxes rs s from e low =
-    table-ext (λ k. unpackedBox s (from + 2 * k)) (λ k. getD rs k noBox) (length rs) each ∙ as-table rs noBox
+    table-ext (λ k. unpacked (getD s (from + 2 * k) 0) (getD s (from + 2 * k + 1) 0)) (λ k. getD rs k noBox) (length rs) each ∙ as-table rs noBox
   where
     word : (k j : ℕ) → k < length rs → j < 2 → getD s (from + (k * 2 + j)) 0 ≡ getD (packed (getD rs k noBox)) j 0
     word k j l b =
@@ -108,7 +102,7 @@ unpacked-boxes rs s from e low =
         ∙ (sym (getD-take (2 * length rs) (drop from s) (k * 2 + j) 0 (omega arith))
         ∙ (ap (λ z. getD z (k * 2 + j) 0) (e ∙ sym (append-nil (encoded packed rs))) ∙ record-at packed 2 packed-two rs [] k j noBox l b))
 
-    each : (k : ℕ) → k < length rs → unpackedBox s (from + 2 * k) ≡ getD rs k noBox
+    each : (k : ℕ) → k < length rs → unpacked (getD s (from + 2 * k) 0) (getD s (from + 2 * k + 1) 0) ≡ getD rs k noBox
     each k l =
         let a : getD s (from + 2 * k) 0 ≡ getD rs k noBox .x0 + 32768 * getD rs k noBox .x1 = ap (λ z. getD s z 0) (let q : from + 2 * k ≡ from + (k * 2 + 0) = omega arith in q) ∙ word k 0 l (omega arith) in
         let b : getD s (from + 2 * k + 1) 0 ≡ getD rs k noBox .y0 + 32768 * getD rs k noBox .y1 = ap (λ z. getD s z 0) (let q : from + 2 * k + 1 ≡ from + (k * 2 + 1) = omega arith in q) ∙ word k 1 l (omega arith) in

@@ -18,13 +18,15 @@ use Rattle.sorting.specs.rules.Kinds.{glyphKind}
 use Rattle.sorting.specs.stages.Scratch.{horizontalAt, verticalAt, sizesAt, kindsAt, smearsAt, glyphsAt}
 use Rattle.smoothing.specs.rules.Lines.{glyphBox, SmoothedLine, smoothedLine, keptLines}
 use Rattle.memory.specs.stages.Stored.{Stored}
-use Rattle.smoothing.specs.stages.LineWords.{plainLine, glyphsOf, labelAt, boxAt, lineSmears, OrderRoom, orderedSmear, OrderedLines, NumberRoom, orderAt, glyphsAmong, glyphRecordAt, GlyphRoom, lineRecordAt, HoldsGlyphs, HoldsSmears}
+use Rattle.sorting.specs.stages.Measures.{sizeBox}
+use Rattle.sorting.proofs.SizedLaws.{size-box}
+use Rattle.smoothing.specs.stages.LineWords.{plainLine, glyphsOf, labelAt, lineSmears, OrderRoom, orderedSmear, OrderedLines, NumberRoom, orderAt, glyphsAmong, glyphRecordAt, GlyphRoom, lineRecordAt, HoldsGlyphs, HoldsSmears}
 use Rattle.smoothing.specs.stages.GlyphLists.{LinesRoom}
 use Rattle.segmenting.specs.rules.Results.{linesAt}
 use Rattle.segmenting.specs.stages.Writing.{plainRecords, LinesHeld, LinesOrdered, linePlaces, GroupRoom}
 use Rattle.memory.specs.stages.Boxes.{Inside}
 use Rattle.smoothing.specs.rules.LineRecords.{lineRecord, glyphRecord}
-use Rattle.smoothing.proofs.LineLaws.{held-box, label-of, glyphOf, glyphs-are, lineOf, lines-are, labels-are, order-is, numbers-are}
+use Rattle.smoothing.proofs.LineLaws.{label-of, glyphOf, glyphs-are, lineOf, lines-are, labels-are, order-is, numbers-are}
 use Rattle.smoothing.proofs.LineRecords.{glyph-records, line-records}
 use Rattle.smoothing.proofs.LineRooms.{areas-are, glyphs-kept, smears-kept, smears-counted, order-labels, order-smears}
 use Rattle.smoothing.proofs.SmearLaws.{smears-few, smears-low}
@@ -33,8 +35,8 @@ use Rattle.smoothing.proofs.Theorems.{lines-go-by-top}
 
 module _ {p : LayoutParams} {unit : Float} {cs : List Component} {ks : List ℕ} {labels : ℕ → ℕ} {smears : List Component} {w h dots P : ℕ} {s : List ℕ} {out : ℕ}
     (H : LinesHeld p unit cs ks labels smears w h dots P s out) where
-  smear-box : (t : ℕ) → t < length smears → Inside w h (boxAt s (smearsAt dots P) t)
-  smear-box t l = subst (Inside w h) (sym (held-box smears s (smearsAt dots P) (H .smoothed .held) t l)) (H .smear-boxes t l)
+  smear-box : (t : ℕ) → t < length smears → Inside w h (sizeBox s (smearsAt dots P) t)
+  smear-box t l = subst (Inside w h) (sym (size-box smears s (smearsAt dots P) (H .smoothed .held) t l)) (H .smear-boxes t l)
 
   -- what ordering the lines asks
   pub order-ask : OrderRoom (horizontalAt dots) (smearsAt dots P) (glyphsAt dots P) (length smears) s
@@ -146,8 +148,8 @@ module _ {p : LayoutParams} {unit : Float} {cs : List Component} {ks : List ℕ}
     glyphs-records =
         glyph-records cs ks labels (sizesAt dots P) (kindsAt dots P) s₂ held₂ (keptLines p unit (glyphsOf cs ks labels) smears) (verticalAt dots P) (length smears) (L .numbers) label-low
 
-    own-box : (k : ℕ) → k < length cs → Inside w h (boxAt s₂ (sizesAt dots P) k)
-    own-box k l = subst (Inside w h) (sym (held-box cs s₂ (sizesAt dots P) (held₂ .held) k l)) (H .boxes k l)
+    own-box : (k : ℕ) → k < length cs → Inside w h (sizeBox s₂ (sizesAt dots P) k)
+    own-box k l = subst (Inside w h) (sym (size-box cs s₂ (sizesAt dots P) (held₂ .held) k l)) (H .boxes k l)
 
     -- what writing the lines asks
     pub lines-ask : (room : ℕ) → n * 8 ≤ room → LinesRoom (linePlaces h dots P (length cs) (length smears)) n s₂ room

@@ -6,13 +6,13 @@ ghost use Rattle.memory.specs.rules.Words.{over};
 ghost use Rattle.memory.specs.rules.Records.{encoded};
 ghost use Rattle.memory.specs.rules.Rects.{boxWords};
 ghost use Rattle.segmenting.specs.stages.Held.{heldBoxes, heldArea, unpackedBoxes, heldRules};
-use memory::box_at;
 use memory::put_box;
 use sorting::Plan;
 use sorting::RULE;
 use sorting::SIZE_WORDS;
 use sorting::SortCounts;
 use sorting::packed_box;
+use sorting::size_box;
 
 // The words of a box.
 pub const BOX_WORDS: usize = 4;
@@ -33,11 +33,7 @@ pub fn write_boxes(
     let mut k = 0;
     while k < count {
         if words[kinds + k] % 8 == kind {
-            put_box(
-                out,
-                n * BOX_WORDS,
-                box_at(words, sizes + SIZE_WORDS * k + 1),
-            );
+            put_box(out, n * BOX_WORDS, size_box(words, sizes, k));
             n += 1;
         }
         k += 1;

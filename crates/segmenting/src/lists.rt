@@ -2,11 +2,11 @@
 ghost use Prim.Native.Nat.{_*_};
 ghost use lib.ListN.{length};
 ghost use Rattle.sorting.specs.stages.Scratch.{Planned};
+ghost use Rattle.segmenting.specs.stages.Places.{Placed};
 ghost use Rattle.segmenting.specs.stages.Writing.{BoxRoom, BoxesLeft};
 use crate::boxes::write_boxes;
 use crate::boxes::write_rules;
-use crate::places::COLUMN_WORDS;
-use crate::places::GRAPHICS_AT;
+use crate::places::ResultPlaces;
 use sorting::GRAPHIC;
 use sorting::Plan;
 use sorting::SortCounts;
@@ -22,14 +22,14 @@ pub fn write_box_lists(
     words: &[u32],
     plan: Plan,
     found: SortCounts,
+    places: ResultPlaces,
     results: &mut [u32],
 ) -> BoxCounts
-    requires { ⌜ (BoxRoom (plan .width) (plan .width * plan .height) (plan .capacity) (found .horizontal) (found .vertical) (found .«component_count») (length (now words)) (length (now results))) × (Planned plan) ⌝ }
+    requires { ⌜ (BoxRoom (plan .width) (plan .width * plan .height) (plan .capacity) (found .horizontal) (found .vertical) (found .«component_count») (length (now words)) (length (now results))) × (Planned plan) × (Placed places (plan .width) (plan .capacity)) ⌝ }
     ensures { λ r. ⌜ BoxesLeft (plan .width) (plan .width * plan .height) (plan .capacity) (found .horizontal) (found .vertical) (found .«component_count») (now (words .entry)) (now (results .entry)) (now (results .exit)) (r .rules) (r .graphics) ⌝ }
 {
-    let w = plan.width as usize;
-    let rules_at = COLUMN_WORDS * w;
-    let graphics_at = rules_at + GRAPHICS_AT * plan.capacity;
+    let rules_at = places.rules;
+    let graphics_at = places.graphics;
     let n = found.component_count;
     let rules = write_rules(words, plan, found, &mut results[rules_at..]);
     let graphics = write_boxes(

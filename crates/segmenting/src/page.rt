@@ -4,6 +4,7 @@ ghost use lib.ListN.{length};
 ghost use Rattle.sorting.specs.stages.Scratch.{Planned};
 ghost use Rattle.segmenting.specs.stages.Rooms.{SegmentRoom, SortedRoom};
 ghost use Rattle.segmenting.specs.rules.Answers.{segmentOutcome, segmentPlane};
+use crate::painting::paint_kinds;
 use crate::results::Segmentation;
 use crate::results::write_results;
 use params::LayoutParams;
@@ -66,15 +67,10 @@ fn segment_sorted(
     match find_smears(plan, sheet, unit, runs, n, words) {
         SmearsAnswer::TooMany => SegmentAnswer::Refused(20),
         SmearsAnswer::TooManyLines => SegmentAnswer::Refused(21),
-        SmearsAnswer::Found(smears) => SegmentAnswer::Segmented(write_results(
-            ink,
-            plan,
-            sheet,
-            found,
-            smears,
-            words,
-            results,
-            plane,
-        )),
+        SmearsAnswer::Found(smears) => {
+            paint_kinds(ink, &words[..], runs, plan.kinds, plane);
+            let figures = write_results(plan, sheet, found, smears, words, results);
+            SegmentAnswer::Segmented(figures)
+        }
     }
 }

@@ -7,13 +7,13 @@ ghost use Rattle.segmenting.specs.stages.Places.{resultPlaces};
 // begin.
 pub const COLUMN_WORDS: usize = 2;
 
-pub const GRAPHICS_AT: usize = 12;
+const GRAPHICS_AT: usize = 12;
 
-pub const GLYPHS_AT: usize = 16;
+const GLYPHS_AT: usize = 16;
 
-pub const LINES_AT: usize = 22;
+const LINES_AT: usize = 22;
 
-pub const BLOCKS_AT: usize = 30;
+const BLOCKS_AT: usize = 30;
 
 // The first word of each list.
 pub struct ResultPlaces {

@@ -1,8 +1,8 @@
-// The results of a segmentation, written from what scratch holds: the plane of kinds, the figures, and all lists.
+// The results of a segmentation, written from what scratch holds: the figures and all lists.
 ghost use mathlib.Core.Path.{_≡_};
-ghost use Prim.Native.Nat.{_+_, _*_, _≤_};
+ghost use mathlib.Core.List.{List};
+ghost use Prim.Native.Nat.{ℕ, _+_, _*_, _≤_};
 ghost use lib.ListN.{length};
-ghost use Rattle.memory.specs.rules.Words.{over};
 ghost use Rattle.sorting.specs.stages.Scratch.{Planned};
 ghost use Rattle.segmenting.specs.rules.Layouts.{layout};
 ghost use Rattle.segmenting.specs.stages.Held.{heldArea};
@@ -14,7 +14,7 @@ use crate::groups::GroupCounts;
 use crate::groups::write_groups;
 use crate::lists::BoxCounts;
 use crate::lists::write_box_lists;
-use crate::painting::paint_kinds;
+use crate::places::result_places;
 use crate::text::write_glyph_lines;
 use params::LayoutParams;
 use smoothing::Smears;
@@ -104,30 +104,28 @@ fn figures(
     }
 }
 
-// Writes the plane of kinds and all lists of a page that scratch holds, and tells its figures.
+// Writes all lists of a page that scratch holds, and tells its figures.
 pub fn write_results(
-    ink: &[u8],
     plan: Plan,
     sheet: LayoutParams,
     found: SortCounts,
     smears: Smears,
     words: &mut [u32],
     results: &mut [u32],
-    plane: &mut [u8],
 ) -> Segmentation
-    requires { ⌜ (ResultsRoom sheet (plan .width) (plan .height) (now ink) (plan .capacity) (now words) found smears (length (now results)) (length (now plane))) × (Planned plan) ⌝ }
-    ensures { λ r. ⌜ (r ≡ figuresOf (layout sheet (plan .width) (plan .height) (now (ink .entry))))
-        × (now (results .exit) ≡ resultsLeft (plan .width) (plan .capacity) (layout sheet (plan .width) (plan .height) (now (ink .entry))) (now (results .entry)))
-        × (now (plane .exit) ≡ over (layout sheet (plan .width) (plan .height) (now (ink .entry)) .plane) (now (plane .entry))) ⌝ }
+    requires { ⌜ ((m : List ℕ) × ResultsRoom sheet (plan .width) (plan .height) m (plan .capacity) (now words) found smears (length (now results)) × Planned plan) ⌝ }
+    ensures { λ r. ⌜ ((m : List ℕ) → ResultsRoom sheet (plan .width) (plan .height) m (plan .capacity) (now (words .entry)) found smears (length (now (results .entry)))
+        → (r ≡ figuresOf (layout sheet (plan .width) (plan .height) m))
+        × (now (results .exit) ≡ resultsLeft (plan .width) (plan .capacity) (layout sheet (plan .width) (plan .height) m) (now (results .entry)))) ⌝ }
 {
     let n = found.component_count;
     let total = found.ink;
-    paint_kinds(ink, &words[..], found.runs, plan.kinds, plane);
+    let places = result_places(plan.width as usize, plan.capacity);
     let areas = count_kinds(&words[..], plan.sizes, plan.kinds, n, total);
-    let boxes = write_box_lists(&words[..], plan, found, results);
+    let boxes = write_box_lists(&words[..], plan, found, places, results);
+    let glyphs = write_glyph_lines(plan, sheet, found, smears.smears, places, words, results);
     let unit = found.unit;
     let x = unit.value();
-    let glyphs = write_glyph_lines(plan, sheet, x, n, smears.smears, words, results);
-    let groups = write_groups(plan, sheet, x, smears.lines, words, results);
+    let groups = write_groups(plan, sheet, x, smears.lines, places, words, results);
     figures(unit, total, areas, boxes, glyphs, smears.lines, groups)
 }

@@ -4,13 +4,13 @@ ghost use mathlib.Core.List.{List};
 ghost use Prim.Native.Nat.{ℕ, _+_, _*_, _≤_, _<_};
 ghost use lib.ListN.{length};
 ghost use Rattle.labelling.specs.declared.component.Component.{Component};
+ghost use Rattle.sorting.specs.rules.Units.{unitValue};
 ghost use Rattle.sorting.specs.stages.Scratch.{Planned};
 ghost use Rattle.smoothing.specs.rules.Lines.{keptLines};
 ghost use Rattle.smoothing.specs.stages.LineWords.{glyphsOf};
+ghost use Rattle.segmenting.specs.stages.Places.{Placed};
 ghost use Rattle.segmenting.specs.stages.Writing.{LinesHeld, LinesOrdered, linePlaces, linesLeft};
-use crate::places::COLUMN_WORDS;
-use crate::places::GLYPHS_AT;
-use crate::places::LINES_AT;
+use crate::places::ResultPlaces;
 use params::LayoutParams;
 use smoothing::LinePlaces;
 use smoothing::number_labels;
@@ -18,6 +18,7 @@ use smoothing::order_lines;
 use smoothing::write_glyphs;
 use smoothing::write_lines;
 use sorting::Plan;
+use sorting::SortCounts;
 
 // Writes the labels of the lines in their order and the line of each label, where the boxes of the cuts stood; answers how many lines
 // there are.
@@ -64,32 +65,33 @@ fn line_places(plan: Plan, component_count: usize, smears: usize) -> LinePlaces
 pub fn write_glyph_lines(
     plan: Plan,
     sheet: LayoutParams,
-    unit: f64,
-    component_count: usize,
+    found: SortCounts,
     smears: usize,
+    places: ResultPlaces,
     words: &mut [u32],
     results: &mut [u32],
 ) -> usize
-    requires { ⌜ ((cs : List Component) × (ks : List ℕ) × (labels : ℕ → ℕ) × (rs : List Component) × («component_count» ≡ length cs) × (smears ≡ length rs)
-        × LinesHeld sheet unit cs ks labels rs (plan .width) (plan .height) (plan .width * plan .height) (plan .capacity) (now words) (length (now results)) × Planned plan) ⌝ }
-    ensures { λ r. ⌜ ((cs : List Component) (ks : List ℕ) (labels : ℕ → ℕ) (rs : List Component) → «component_count» ≡ length cs → smears ≡ length rs
-        → LinesHeld sheet unit cs ks labels rs (plan .width) (plan .height) (plan .width * plan .height) (plan .capacity) (now (words .entry)) (length (now (results .entry)))
+    requires { ⌜ ((cs : List Component) × (ks : List ℕ) × (labels : ℕ → ℕ) × (rs : List Component) × (found .«component_count» ≡ length cs) × (smears ≡ length rs)
+        × LinesHeld sheet (unitValue (found .unit)) cs ks labels rs (plan .width) (plan .height) (plan .width * plan .height) (plan .capacity) (now words) (length (now results)) × Planned plan × Placed places (plan .width) (plan .capacity)) ⌝ }
+    ensures { λ r. ⌜ ((cs : List Component) (ks : List ℕ) (labels : ℕ → ℕ) (rs : List Component) → found .«component_count» ≡ length cs → smears ≡ length rs
+        → LinesHeld sheet (unitValue (found .unit)) cs ks labels rs (plan .width) (plan .height) (plan .width * plan .height) (plan .capacity) (now (words .entry)) (length (now (results .entry)))
         → (r ≡ length (glyphsOf cs ks labels)) × (length (now (words .exit)) ≡ length (now (words .entry)))
-        × (now (results .exit) ≡ linesLeft (plan .width) (plan .capacity) (glyphsOf cs ks labels) (keptLines sheet unit (glyphsOf cs ks labels) rs) (now (results .entry)))) ⌝ }
+        × (now (results .exit) ≡ linesLeft (plan .width) (plan .capacity) (glyphsOf cs ks labels) (keptLines sheet (unitValue (found .unit)) (glyphsOf cs ks labels) rs) (now (results .entry)))) ⌝ }
 {
-    let lines = order_labels(plan, sheet, unit, smears, words);
-    let w = plan.width as usize;
-    let glyphs_at = COLUMN_WORDS * w + GLYPHS_AT * plan.capacity;
-    let found = write_glyphs(
+    let unit = found.unit;
+    let lines = order_labels(plan, sheet, unit.value(), smears, words);
+    let n = found.component_count;
+    let glyphs_at = places.glyphs;
+    let glyphs = write_glyphs(
         &words[..],
         plan.sizes,
         plan.kinds,
-        component_count,
+        n,
         plan.vertical,
         &mut results[glyphs_at..],
     );
-    let lines_at = COLUMN_WORDS * w + LINES_AT * plan.capacity;
-    let places = line_places(plan, component_count, smears);
-    write_lines(words, places, lines, &mut results[lines_at..]);
-    found
+    let lines_at = places.lines;
+    let own = line_places(plan, n, smears);
+    write_lines(words, own, lines, &mut results[lines_at..]);
+    glyphs
 }

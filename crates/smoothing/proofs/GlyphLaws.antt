@@ -18,7 +18,8 @@ use Rattle.memory.proofs.TableLaws.{length-table}
 use Rattle.memory.specs.rules.Rects.{height}
 use Rattle.sorting.specs.rules.Units.{median}
 use Rattle.memory.specs.stages.Stored.{Stored}
-use Rattle.smoothing.specs.stages.LineWords.{labelAt, boxAt, areaAt, glyphsAmong, glyphRecordAt, WrittenGlyph, WrittenGlyphs, ownGlyphs, ownInk, ownHeights, lineFields, lineRecordAt, KeptFrom}
+use Rattle.sorting.specs.stages.Measures.{sizeBox}
+use Rattle.smoothing.specs.stages.LineWords.{labelAt, areaAt, glyphsAmong, glyphRecordAt, WrittenGlyph, WrittenGlyphs, ownGlyphs, ownInk, ownHeights, lineFields, lineRecordAt, KeptFrom}
 use Rattle.memory.proofs.ListLaws.{keep-snoc-yes, keep-snoc-no, keep-few, map-append}
 use Rattle.smoothing.proofs.SmearLaws.{box-kept}
 
@@ -112,7 +113,7 @@ module _ (at : ℕ) (s s' : List ℕ) (r : KeptFrom at s s') where
   pub area-same : (sizes : ℕ) → at ≤ sizes → (k : ℕ) → areaAt s' sizes k ≡ areaAt s sizes k
   area-same sizes h k = r .same (sizes + k * 5) (omega arith)
 
-  pub box-same : (sizes : ℕ) → at ≤ sizes → (k : ℕ) → boxAt s' sizes k ≡ boxAt s sizes k
+  pub box-same : (sizes : ℕ) → at ≤ sizes → (k : ℕ) → sizeBox s' sizes k ≡ sizeBox s sizes k
   box-same sizes h k = box-kept s s' sizes (λ i l. r .same i (omega arith)) k
 
   pub own-same : (kinds : ℕ) → at ≤ kinds → (count t : ℕ) → ownGlyphs s' kinds count t ≡ ownGlyphs s kinds count t

@@ -1,7 +1,7 @@
 -- What the words of scratch say of glyphs and lines is what the definitions say of them.
 use mathlib.Core.Path.{_≡_, refl, sym, ap, _∙_}
 use mathlib.Core.Bool.{Bool, true, false, cond, _&&_}
-use mathlib.Core.List.{List, [], _∷_, map, append-nil}
+use mathlib.Core.List.{List, [], _∷_, map}
 use Prim.Native.Nat.{ℕ, zero, suc, _+_, _*_, _/_, _≤_, _<_}
 use native.Mathlib.Nat.{le-refl, le-of-suc-le-suc}
 use native.Mathlib.Omega.{arith}
@@ -12,21 +12,22 @@ use lib.Seq.{getD-take, getD-drop, ext-getD}
 use lib.Dec.{eqb, ltb}
 use Rattle.memory.specs.rules.Lists.{table, upto, keep, occurs, countIf, total, indexFrom, insertBy, sortBy}
 use Rattle.memory.specs.rules.Limits.{noLine}
-use Rattle.memory.specs.rules.Records.{encoded}
 use Rattle.memory.proofs.CountLaws.{occurs-table}
 use Rattle.memory.proofs.PartLaws.{part-is-table}
-use Rattle.memory.proofs.RecordLaws.{record-at}
 use Rattle.memory.proofs.TableLaws.{table-ext}
 use Rattle.memory.specs.rules.Rects.{height}
 use Rattle.labelling.specs.rules.Components.{noDots, boxOf}
 use Rattle.labelling.specs.rules.Labels.{Labelling}
-use Rattle.labelling.specs.stages.Sizes.{sizeWords, HoldsSizes}
+use Rattle.labelling.specs.stages.Sizes.{HoldsSizes}
 use Rattle.labelling.specs.declared.component.Component.{Component}
+use Rattle.labelling.proofs.SizeLaws.{size-at}
 use Rattle.params.specs.declared.LayoutParams.{LayoutParams}
 use Rattle.sorting.specs.rules.Kinds.{glyphKind}
-use Rattle.smoothing.specs.rules.Lines.{LabelledGlyph, labelledGlyphs, firstDot, SmoothedLine, smoothedLine, lineBySize, isLine, keysAtMost, keptLines, lineNumber}
+use Rattle.sorting.specs.stages.Measures.{sizeBox}
+use Rattle.sorting.proofs.SizedLaws.{size-box}
+use Rattle.smoothing.specs.rules.Lines.{LabelledGlyph, labelledGlyphs, firstDot, SmoothedLine, smoothedLine, isLine, keysAtMost, keptLines, lineNumber}
 use Rattle.memory.specs.stages.Stored.{Stored}
-use Rattle.smoothing.specs.stages.LineWords.{glyphsOf, kindWord, firstNumber, labelAt, labelsAt, boxAt, smearIsLine, boxKeys, smearAtMost, lineSmears, OrderedLines, orderAt, areaAt, glyphsAmong, ownGlyphs, ownInk, ownHeights, HoldsGlyphs, glyphCount, HoldsSmears}
+use Rattle.smoothing.specs.stages.LineWords.{glyphsOf, kindWord, firstNumber, labelAt, labelsAt, smearIsLine, boxKeys, smearAtMost, lineSmears, OrderedLines, orderAt, areaAt, glyphsAmong, ownGlyphs, ownInk, ownHeights, HoldsGlyphs, glyphCount, HoldsSmears}
 use Rattle.memory.proofs.ListLaws.{Each, each-sort, keep-same, map-table}
 use Rattle.memory.proofs.PlaceLaws.{count-length}
 use Rattle.smoothing.proofs.OrderLaws.{lineAtMost}
@@ -88,20 +89,8 @@ map-at f (a ∷ l) (suc i) h = map-at f l i (le-of-suc-le-suc h)
 
 -- Components in scratch
 
-module _ (cs : List Component) (s : List ℕ) (at : ℕ) (held : HoldsSizes cs s at) (k : ℕ) (low : k < length cs) where
-  size-word : (j : ℕ) → j < 5 → getD s (at + (k * 5 + j)) 0 ≡ getD (sizeWords (getD cs k noDots)) j 0
-  size-word j h =
-      sym (getD-take (5 * length cs) (drop at s) (k * 5 + j) 0 (omega arith) ∙ getD-drop at s (k * 5 + j) 0)
-      ∙ (ap (λ (l : List ℕ). getD l (k * 5 + j) 0) (held ∙ sym (append-nil (encoded sizeWords cs))) ∙ record-at sizeWords 5 (λ c. refl) cs [] k j noDots low h)
-
-  at-word : (j : ℕ) → j < 5 → getD s (at + k * 5 + j) 0 ≡ getD (sizeWords (getD cs k noDots)) j 0
-  at-word j h = ap (λ n. getD s n 0) (let e : at + k * 5 + j ≡ at + (k * 5 + j) = omega arith in e) ∙ size-word j h
-
-  pub held-area : areaAt s at k ≡ getD cs k noDots .area
-  held-area = ap (λ n. getD s n 0) (let e : at + k * 5 ≡ at + (k * 5 + 0) = omega arith in e) ∙ size-word 0 (omega arith)
-
-  pub held-box : boxAt s at k ≡ boxOf (getD cs k noDots)
-  held-box = λ i. record { x0 = at-word 1 (omega arith) i; y0 = at-word 2 (omega arith) i; x1 = at-word 3 (omega arith) i; y1 = at-word 4 (omega arith) i }
+pub held-area : (cs : List Component) (s : List ℕ) (at : ℕ) → HoldsSizes cs s at → (k : ℕ) → k < length cs → areaAt s at k ≡ getD cs k noDots .area
+held-area cs s at held k low = ap (λ n. getD s n 0) (let e : at + k * 5 ≡ at + 5 * k = omega arith in e) ∙ size-at cs s at k held low .area
 
 -- sizes stay where their words stay
 pub held-kept : (cs : List Component) (s s' : List ℕ) (at : ℕ) → at + 5 * length cs ≤ length s → length s' ≡ length s
@@ -198,7 +187,7 @@ module _ (cs : List Component) (ks : List ℕ) (labels : ℕ → ℕ) (sizes kin
   pub heights-are : (t : ℕ) → 0 < t
       → ownHeights s sizes kinds (length cs) t ≡ map (λ (g : LabelledGlyph). height (boxOf (g .component))) (keep (λ (g : LabelledGlyph). eqb (g .label) t) (glyphsOf cs ks labels))
   heights-are t p =
-      map-each (λ k. k < length cs) (λ k. height (boxAt s sizes k)) (λ k. height (boxOf (getD cs k noDots))) (λ k l. ap height (held-box cs s sizes (h .held) k l)) (ownGlyphs s kinds (length cs) t) (own-low t)
+      map-each (λ k. k < length cs) (λ k. height (sizeBox s sizes k)) (λ k. height (boxOf (getD cs k noDots))) (λ k l. ap height (size-box cs s sizes (h .held) k l)) (ownGlyphs s kinds (length cs) t) (own-low t)
       ∙ (sym (map-map (glyphOf cs labels) (λ (g : LabelledGlyph). height (boxOf (g .component))) (ownGlyphs s kinds (length cs) t))
       ∙ ap (map (λ (g : LabelledGlyph). height (boxOf (g .component)))) (sym (own-are t p)))
 
@@ -208,13 +197,13 @@ abbrev pub lineOf : List LabelledGlyph → List Component → ℕ → SmoothedLi
 lineOf gs smears t = smoothedLine gs (getD smears t noDots) (suc t)
 
 module _ (p : LayoutParams) (unit : Float) (gs : List LabelledGlyph) (smears : List Component) (smoothed glyphs : ℕ) (s : List ℕ) (h : HoldsSmears gs smears smoothed glyphs s) where
-  smear-box : (t : ℕ) → t < length smears → lineOf gs smears t .bbox ≡ boxAt s smoothed t
+  smear-box : (t : ℕ) → t < length smears → lineOf gs smears t .bbox ≡ sizeBox s smoothed t
   unfolding smoothedLine
-  smear-box t l = sym (held-box smears s smoothed (h .held) t l)
+  smear-box t l = sym (size-box smears s smoothed (h .held) t l)
 
-  line-test : (t : ℕ) → t < length smears → smearIsLine p unit s smoothed glyphs t ≡ isLine p unit (lineOf gs smears t)
+  line-test : (t : ℕ) → t < length smears → smearIsLine p unit s smoothed glyphs t ≡ isLine p unit (lineOf gs smears t .glyphs) (height (lineOf gs smears t .bbox))
   unfolding smoothedLine
-  line-test t l = λ i. lineBySize p unit (h .counts t l i) (height (held-box smears s smoothed (h .held) t l i))
+  line-test t l = λ i. isLine p unit (h .counts t l i) (height (size-box smears s smoothed (h .held) t l i))
 
   line-order : (a b : ℕ) → a < length smears → b < length smears → lineAtMost (lineOf gs smears a) (lineOf gs smears b) ≡ smearAtMost s smoothed a b
   unfolding smearAtMost smoothedLine
@@ -225,10 +214,10 @@ module _ (p : LayoutParams) (unit : Float) (gs : List LabelledGlyph) (smears : L
   pub lines-are : keptLines p unit gs smears ≡ map (lineOf gs smears) (lineSmears p unit s smoothed glyphs (length smears))
   unfolding keptLines lineSmears
   lines-are =
-      ap (λ (l : List SmoothedLine). sortBy lineAtMost (keep (isLine p unit) l)) tables
+      ap (λ (l : List SmoothedLine). sortBy lineAtMost (keep (λ (l : SmoothedLine). isLine p unit (l .glyphs) (height (l .bbox))) l)) tables
       ∙ (ap (sortBy lineAtMost)
-      (keep-map (isLine p unit) (lineOf gs smears) (upto (length smears))
-      ∙ ap (map (lineOf gs smears)) (sym (keep-same (smearIsLine p unit s smoothed glyphs) (λ t. isLine p unit (lineOf gs smears t)) (length smears) line-test)))
+      (keep-map (λ (l : SmoothedLine). isLine p unit (l .glyphs) (height (l .bbox))) (lineOf gs smears) (upto (length smears))
+      ∙ ap (map (lineOf gs smears)) (sym (keep-same (smearIsLine p unit s smoothed glyphs) (λ t. isLine p unit (lineOf gs smears t .glyphs) (height (lineOf gs smears t .bbox))) (length smears) line-test)))
       ∙ sort-map (λ t. t < length smears) (lineOf gs smears) lineAtMost (smearAtMost s smoothed) line-order (keep (smearIsLine p unit s smoothed glyphs) (upto (length smears)))
       (kept-low (smearIsLine p unit s smoothed glyphs) (length smears) (length smears) (le-refl (length smears))))
     where

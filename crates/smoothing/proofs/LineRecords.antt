@@ -16,12 +16,13 @@ use Rattle.memory.proofs.TableLaws.{length-table, getD-table, getD-default}
 use Rattle.labelling.specs.declared.component.Component.{Component}
 use Rattle.params.specs.declared.LayoutParams.{LayoutParams}
 use Rattle.sorting.specs.rules.Units.{median}
+use Rattle.sorting.proofs.SizedLaws.{size-box}
 use Rattle.smoothing.specs.rules.Lines.{LabelledGlyph, SmoothedLine, smoothedLine, keptLines, lineNumber, glyphBox}
 use Rattle.smoothing.specs.rules.LineRecords.{lineRecord, glyphRecord}
 use Rattle.smoothing.specs.stages.LineWords.{glyphsOf, labelAt, lineSmears, orderedSmear, glyphsAmong, glyphFields, glyphRecordAt, lineFields, lineRecordAt, plainLine, HoldsGlyphs, HoldsSmears}
 use Rattle.memory.proofs.ListLaws.{Each, each-at, each-keep, each-table, map-table}
 use Rattle.smoothing.proofs.SmearLaws.{kept-low, smears-low}
-use Rattle.smoothing.proofs.LineLaws.{map-map, upto-map, held-area, held-box, label-of, glyphOf, glyphs-are, ink-is, heights-are, lineOf, lines-are}
+use Rattle.smoothing.proofs.LineLaws.{map-map, upto-map, held-area, label-of, glyphOf, glyphs-are, ink-is, heights-are, lineOf, lines-are}
 
 encoded-map : {A B : Type 0} (words : B → List ℕ) (f : A → B) (l : List A) → encoded words (map f l) ≡ encoded (λ a. words (f a)) l
 unfolding encoded
@@ -64,7 +65,7 @@ module _ (cs : List Component) (ks : List ℕ) (labels : ℕ → ℕ) (sizes kin
 
   fields-are : (k : ℕ) → (k < length cs) × (ltb 0 (labelAt s kinds k) ≡ true) → glyphRecordAt s sizes kinds numbers k ≡ glyphRecord (glyphBox ls (glyphOf cs labels k))
   unfolding glyphBox
-  fields-are k (l, p) = λ i. glyphFields (held-box cs s sizes (h .held) k l i) (held-area cs s sizes (h .held) k l i) (line-of k l (ltb-true 0 (labelAt s kinds k) p) i)
+  fields-are k (l, p) = λ i. glyphFields (size-box cs s sizes (h .held) k l i) (held-area cs s sizes (h .held) k l i) (line-of k l (ltb-true 0 (labelAt s kinds k) p) i)
 
   -- the records that `write_glyphs` writes
   pub glyph-records : encoded (glyphRecordAt s sizes kinds numbers) (glyphsAmong s kinds (length cs)) ≡ encoded glyphRecord (map (glyphBox ls) (glyphsOf cs ks labels))
@@ -90,7 +91,7 @@ module _ (p : LayoutParams) (unit : Float) (cs : List Component) (ks : List ℕ)
       ≡ (let l = lineOf (glyphsOf cs ks labels) smears t in lineFields (l .bbox) (l .glyphs) (l .ink-area) (l .glyph-height))
   unfolding smoothedLine
   line-fields t l =
-      λ i. lineFields (held-box smears s smoothed (g .held) t l i) (g .counts t l i) (ink-is cs ks labels sizes kinds s h (suc t) (omega arith) i) (median (heights-are cs ks labels sizes kinds s h (suc t) (omega arith) i))
+      λ i. lineFields (size-box smears s smoothed (g .held) t l i) (g .counts t l i) (ink-is cs ks labels sizes kinds s h (suc t) (omega arith) i) (median (heights-are cs ks labels sizes kinds s h (suc t) (omega arith) i))
 
   -- the records that `write_lines` writes, where the labels at `order` are those of the lines in their order
   pub line-records : (order n : ℕ) (s' : List ℕ) → n ≡ length (keptLines p unit (glyphsOf cs ks labels) smears)

@@ -30,15 +30,17 @@ use Rattle.sorting.specs.stages.Scratch.{horizontalAt, verticalAt, sizesAt, kin
 use Rattle.sorting.specs.stages.SortSteps.{FrameRoom}
 use Rattle.sorting.proofs.PlanLaws.{frame-of, plan-dots}
 use Rattle.sorting.proofs.SortLaws.{kept-from, part-kept}
+use Rattle.sorting.specs.stages.Measures.{sizeBox}
+use Rattle.sorting.proofs.SizedLaws.{size-box}
 use Rattle.smoothing.specs.rules.Smoothing.{smoothingGap, smoothed}
 use Rattle.smoothing.specs.rules.Lines.{firstDot, LabelledGlyph, keptLines}
 use Rattle.smoothing.specs.stages.RowRuns.{glyphDot, glyphRuns, SmoothRoom, SmoothLeft}
 use Rattle.memory.specs.stages.Stored.{Stored}
-use Rattle.smoothing.specs.stages.LineWords.{kindWord, firstNumber, LabelRoom, labelAt, labelsAt, CountRoom, boxAt, smearIsLine, SmearRoom, HoldsGlyphs, HoldsSmears}
+use Rattle.smoothing.specs.stages.LineWords.{kindWord, firstNumber, LabelRoom, labelAt, labelsAt, CountRoom, smearIsLine, SmearRoom, HoldsGlyphs, HoldsSmears}
 use Rattle.smoothing.specs.stages.Segments.{smearsOf, glyphsIn, linesIn, glyphLabel, HoldsPage, SortedPage, GlyphNumbered, SmearsLabelled, SmearsHeld}
 use Rattle.smoothing.specs.declared.smears.SmearLabels.{SmearLabels}
 use Rattle.smoothing.proofs.SmoothedDots.{smoothed-on}
-use Rattle.smoothing.proofs.LineLaws.{held-box, held-kept, glyphs-held, labelled-glyphs, label-of, lines-count}
+use Rattle.smoothing.proofs.LineLaws.{held-kept, glyphs-held, labelled-glyphs, label-of, lines-count}
 use Rattle.smoothing.proofs.LineRooms.{smears-held}
 use Rattle.smoothing.proofs.SortedGlyphs.{rest-is, kinds-size, kind-known, glyph-plane, runs-fit, first-dot, dot-number}
 
@@ -315,11 +317,11 @@ module _ {p : LayoutParams} {w h : ℕ} {m : List ℕ} {P : ℕ} {s : List ℕ} 
               subst (λ (g : List LabelledGlyph). HoldsSmears g (smearsOf p w h m .components) (smearsAt (w * h) P) (glyphsAt (w * h) P) s₃) (sym (labelled-glyphs (sorted p w h m .rest) (sorted p w h m .kinds) (smearsOf p w h m)))
               (smears-held (sorted p w h m .rest .components) (sorted p w h m .kinds) (glyphLabel p w h m) (sizesAt (w * h) P) (kindsAt (w * h) P) (smearsOf p w h m .components) (smearsAt (w * h) P) (glyphsAt (w * h) P) s₂ s₃ glyphs-labelled smears-stand (omega arith) (omega arith) counted)
 
-          smear-inside : (t : ℕ) → t < f .smears → (boxAt s₃ (smearsAt (w * h) P) t .y0 ≤ boxAt s₃ (smearsAt (w * h) P) t .y1) × (boxAt s₃ (smearsAt (w * h) P) t .y1 + 1 ≤ 4294967295)
+          smear-inside : (t : ℕ) → t < f .smears → (sizeBox s₃ (smearsAt (w * h) P) t .y0 ≤ sizeBox s₃ (smearsAt (w * h) P) t .y1) × (sizeBox s₃ (smearsAt (w * h) P) t .y1 + 1 ≤ 4294967295)
           unfolding smearsOf
           smear-inside t l =
               let r = smears-count in
-              let b = held-box (smearsOf p w h m .components) s₃ (smearsAt (w * h) P) (smears-counted .held) t (omega arith) in
+              let b = size-box (smearsOf p w h m .components) s₃ (smearsAt (w * h) P) (smears-counted .held) t (omega arith) in
               let y₀ = ap (λ (z : Rect). z .y0) b in
               let y₁ = ap (λ (z : Rect). z .y1) b in
               let B = component-boxed w h (smearMask p w h m) (S .room .wide) (let d = page-dots in omega arith) t (omega arith) in

@@ -24,7 +24,7 @@ use Rattle.sorting.specs.rules.Kinds.{glyphKind}
 use Rattle.sorting.specs.rules.Sorted.{sorted}
 use Rattle.sorting.specs.stages.Scratch.{inkAfterCut}
 use Rattle.smoothing.specs.rules.Smoothing.{glyphAt, joined, smoothed}
-use Rattle.smoothing.specs.rules.Lines.{firstDot, LabelledGlyph, SmoothedLine, smoothedLine, lineBySize, isLine, keysAtMost, lineKeys, keptLines}
+use Rattle.smoothing.specs.rules.Lines.{firstDot, LabelledGlyph, SmoothedLine, smoothedLine, isLine, keysAtMost, lineKeys, keptLines}
 use Rattle.smoothing.specs.stages.RowRuns.{glyphDot}
 use Rattle.memory.proofs.ListLaws.{each-at, each-keep, each-sort}
 use Rattle.extents.proofs.MaskLaws.{mask-at}
@@ -114,8 +114,8 @@ pub record Line (p : LayoutParams) (unit : Float) (l : SmoothedLine) : Type 0 wh
   pub low : le (p .«line_min_height_xh» · unit) (float (height (l .bbox))) ≡ true
   pub high : le (float (height (l .bbox))) (p .«line_max_height_xh» · unit) ≡ true
 
-line : (p : LayoutParams) (unit : Float) (l : SmoothedLine) → isLine p unit l ≡ true → Line p unit l
-unfolding lineBySize
+line : (p : LayoutParams) (unit : Float) (l : SmoothedLine) → isLine p unit (l .glyphs) (height (l .bbox)) ≡ true → Line p unit l
+unfolding isLine
 line p unit l e =
     let few : Bool = leb (p .«line_min_glyphs») (l .glyphs) in
     let low : Bool = le (p .«line_min_height_xh» · unit) (float (height (l .bbox))) in
@@ -134,20 +134,20 @@ unfolding keptLines
 each-line p unit gs smears i d h =
     each-at (Line p unit) (keptLines p unit gs smears)
     (each-sort (Line p unit) (λ (a b : SmoothedLine). keysAtMost (lineKeys a) (lineKeys b))
-    (keep (isLine p unit) (table (λ t. smoothedLine gs (getD smears t noDots) (suc t)) (length smears)))
-    (each-keep (Line p unit) (isLine p unit) (line p unit) (table (λ t. smoothedLine gs (getD smears t noDots) (suc t)) (length smears))))
+    (keep (λ (l : SmoothedLine). isLine p unit (l .glyphs) (height (l .bbox))) (table (λ t. smoothedLine gs (getD smears t noDots) (suc t)) (length smears)))
+    (each-keep (Line p unit) (λ (l : SmoothedLine). isLine p unit (l .glyphs) (height (l .bbox))) (line p unit) (table (λ t. smoothedLine gs (getD smears t noDots) (suc t)) (length smears))))
     i d h
 
 -- lines go by y0: none starts above the one before it
 pub lines-go-by-top : (p : LayoutParams) (unit : Float) (gs : List LabelledGlyph) (smears : List Component) (i j : ℕ) (d : SmoothedLine)
     → i < j → j < length (keptLines p unit gs smears) → getD (keptLines p unit gs smears) i d .bbox .y0 ≤ getD (keptLines p unit gs smears) j d .bbox .y0
 unfolding keptLines
-lines-go-by-top p unit gs smears = lines-by-top (keep (isLine p unit) (table (λ t. smoothedLine gs (getD smears t noDots) (suc t)) (length smears)))
+lines-go-by-top p unit gs smears = lines-by-top (keep (λ (l : SmoothedLine). isLine p unit (l .glyphs) (height (l .bbox))) (table (λ t. smoothedLine gs (getD smears t noDots) (suc t)) (length smears)))
 
 module _ (p : LayoutParams) (unit : Float) (gs : List LabelledGlyph) (smears : List Component) where
   -- the lines are the smoothed components that pass the test, each once
   pub each-line-once : (t : ℕ) → t < length smears
-      → occurs (suc t) (map (λ (l : SmoothedLine). l .label) (keptLines p unit gs smears)) ≡ cond (isLine p unit (smoothedLine gs (getD smears t noDots) (suc t))) 1 0
+      → occurs (suc t) (map (λ (l : SmoothedLine). l .label) (keptLines p unit gs smears)) ≡ cond (isLine p unit (smoothedLine gs (getD smears t noDots) (suc t) .glyphs) (height (smoothedLine gs (getD smears t noDots) (suc t) .bbox))) 1 0
   each-line-once = labels-once p unit gs smears
 
   -- and nothing else is a line

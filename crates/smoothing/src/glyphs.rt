@@ -7,12 +7,13 @@ ghost use Rattle.memory.specs.rules.Lists.{occurs};
 ghost use Rattle.memory.specs.rules.Limits.{maxCapacity};
 ghost use Rattle.memory.specs.stages.Stored.{Stored};
 ghost use Rattle.sorting.specs.rules.Kinds.{glyphKind};
-ghost use Rattle.smoothing.specs.stages.LineWords.{kindWord, firstNumber, LabelRoom, labelAt, labelsAt, CountRoom, boxAt, glyphFields, glyphRecordAt, GlyphRoom, WrittenGlyph, WrittenGlyphs};
+ghost use Rattle.smoothing.specs.stages.LineWords.{kindWord, firstNumber, LabelRoom, labelAt, labelsAt, CountRoom, glyphFields, glyphRecordAt, GlyphRoom, WrittenGlyph, WrittenGlyphs};
 use memory::Rect;
 use memory::fill_words;
 use memory::wide;
 use sorting::GLYPH;
 use sorting::SIZE_WORDS;
+use sorting::size_box;
 
 // The words of a glyph's record.
 pub const GLYPH_WORDS: usize = 6;
@@ -67,20 +68,6 @@ fn count_label(words: &mut [u32], glyphs: usize, label: usize)
     }
 }
 
-// The box of component k, whose sizes stand from `sizes` on.
-pub fn box_at(words: &[u32], sizes: usize, k: usize) -> Rect
-    requires { ⌜ sizes + k * 5 + 5 ≤ length (now words) ⌝ }
-    ensures { λ r. ⌜ r ≡ boxAt (now (words .entry)) sizes k ⌝ }
-{
-    let at = sizes + k * SIZE_WORDS;
-    Rect {
-        x0: words[at + 1],
-        y0: words[at + 2],
-        x1: words[at + 3],
-        y1: words[at + 4],
-    }
-}
-
 // Writes the record of each glyph, six words, and answers how many there are. The number of the line with the label t + 1, or the
 // mark, stands in word t from `numbers` on.
 pub fn write_glyphs(
@@ -122,7 +109,7 @@ fn write_glyph(
     }
     let line = words[numbers + (label - 1)];
     let area = words[sizes + k * SIZE_WORDS];
-    let r = box_at(words, sizes, k);
+    let r = size_box(words, sizes, k);
     put_glyph(out, n, r, area, line);
     n + 1
 }

@@ -23,7 +23,7 @@ use Rattle.sorting.specs.rules.Units.{measurable, underExtents, unitFrom
 use Rattle.sorting.specs.rules.Kinds.{kindOf}
 use Rattle.memory.specs.stages.Stored.{Within, Stored}
 use Rattle.memory.specs.stages.Boxes.{Inside}
-use Rattle.sorting.specs.stages.Measures.{sized, sizedAt, sizedFrom, SizesInside, measuredHeights, boxWord, unpacked}
+use Rattle.sorting.specs.stages.Measures.{sized, sizedAt, sizedFrom, sizeBox, SizesInside, measuredHeights, boxWord, unpacked}
 use Rattle.memory.proofs.StoredLaws.{stored-part}
 
 -- the same five words give the same component
@@ -47,6 +47,15 @@ module _ (cs : List Component) (s : List ℕ) (at : ℕ) (held : HoldsSizes cs s
   sized-held k l =
       let z = size-at cs s at k held l in
       λ i. record { area = z .area i; x0 = z .x0 i; y0 = z .y0 i; x1 = z .x1 i; y1 = z .y1 i; «sum_x» = 0; «sum_y» = 0 }
+
+  -- its box, read back
+  pub size-box : (k : ℕ) → k < length cs → sizeBox s at k ≡ boxOf (getD cs k noDots)
+  size-box k l =
+      let z = size-at cs s at k held l in
+      let one : at + 5 * k + 1 + 1 ≡ at + 5 * k + 2 = omega arith in
+      let two : at + 5 * k + 1 + 2 ≡ at + 5 * k + 3 = omega arith in
+      let three : at + 5 * k + 1 + 3 ≡ at + 5 * k + 4 = omega arith in
+      λ i. record { x0 = z .x0 i; y0 = (ap (λ (j : ℕ). getD s j 0) one ∙ z .y0) i; x1 = (ap (λ (j : ℕ). getD s j 0) two ∙ z .x1) i; y1 = (ap (λ (j : ℕ). getD s j 0) three ∙ z .y1) i }
 
   -- what does not ask for the sums, of each component
   pub held-table : {A : Type 0} (f : Component → A) → ((c : Component) → f (sized c) ≡ f c) → table (λ k. f (sizedAt s at k)) (length cs) ≡ map f cs

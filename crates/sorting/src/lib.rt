@@ -23,6 +23,7 @@ pub use measure::component_at;
 pub use measure::measure_unit;
 pub use measure::pack_boxes;
 pub use measure::packed_box;
+pub use measure::size_box;
 pub use measure::total_area;
 pub use measure::write_kinds;
 pub use median::median_of_counts;

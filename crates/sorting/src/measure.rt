@@ -13,7 +13,7 @@ ghost use Rattle.sorting.specs.rules.Kinds.{kindOf};
 ghost use Rattle.sorting.specs.stages.Counts.{CountsOf};
 ghost use Rattle.memory.specs.stages.Boxes.{Inside};
 ghost use Rattle.memory.specs.stages.Stored.{Within, Stored};
-ghost use Rattle.sorting.specs.stages.Measures.{sizedAt, sizedFrom, SizesInside, HeightsCounted, boxWord, unpacked};
+ghost use Rattle.sorting.specs.stages.Measures.{sizedAt, sizedFrom, sizeBox, SizesInside, HeightsCounted, boxWord, unpacked};
 use crate::Unit;
 use crate::kinds::is_measurable;
 use crate::kinds::kind_of;
@@ -21,6 +21,7 @@ use crate::median::median_of_counts;
 use crate::plan::Plan;
 use labelling::Component;
 use memory::Rect;
+use memory::box_at;
 use memory::fill_words;
 use params::LayoutParams;
 
@@ -45,6 +46,14 @@ pub fn component_at(words: &[u32], at: usize, k: usize) -> Component
         sum_x: 0,
         sum_y: 0,
     }
+}
+
+// Its box alone.
+pub fn size_box(words: &[u32], at: usize, k: usize) -> Rect
+    requires { ⌜ at + 5 * k + 5 ≤ length (now words) ⌝ }
+    ensures { λ r. ⌜ r ≡ sizeBox (now (words .entry)) at k ⌝ }
+{
+    box_at(words, at + SIZE_WORDS * k + 1)
 }
 
 // The unit that the components give, with counts by height in the h + 1 words from `heights` on.

@@ -233,27 +233,19 @@ fn sort_rest(
     let capacity = plan.capacity;
     let sizes = plan.sizes;
     let runs = extract_marked(ink, w, h, words, plan.marks, Test::Neither);
-    let component_count = label_sizes(words, runs, w, h, capacity, sizes);
-    if capacity < component_count {
+    let count = label_sizes(words, runs, w, h, capacity, sizes);
+    if capacity < count {
         return SortAnswer::TooMany;
     }
     let heights = 3 * plan.dots;
-    let unit = measure_unit(
-        words,
-        sizes,
-        component_count,
-        heights,
-        sheet,
-        plan.width,
-        plan.height,
-    );
-    write_kinds(words, plan, component_count, sheet, unit);
+    let unit = measure_unit(words, sizes, count, heights, sheet, plan.width, plan.height);
+    write_kinds(words, plan, count, sheet, unit);
     SortAnswer::Sorted(SortCounts {
         unit,
         ink: total,
         horizontal: cuts.horizontal,
         vertical: cuts.vertical,
         runs,
-        component_count,
+        component_count: count,
     })
 }

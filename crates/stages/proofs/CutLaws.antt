@@ -37,7 +37,7 @@ module _ (run-min thick-max w h : ℕ) (m : List ℕ) (P : ℕ) (words counts : 
   run = max 2 run-min
 
   abbrev need : ℕ
-  need = 4 * (w * h) + 16 * P + 64
+  need = scratchWords (w * h) P
 
   abbrev by-counts : ℕ → ℕ
   by-counts = refuseIf (ltb (length counts) 2) 9

@@ -77,13 +77,13 @@ module _ (dots P : ℕ) (values words figures : List ℕ) where
   pub told-refused : (n k : ℕ) → k ≡ n → (n ≡ 0 → ⊥) → told n figures (length words) (drop (scratchWords dots P) words) ≡ toldBy k values dots P words figures
   told-refused n k e ne = rw (e, ne-eqb n 0 ne) refl
 
-  module _ (part : List ℕ) (room : scratchWords dots P ≤ length words) (ep : length part ≡ length (take (4 * dots + 16 * P + 64) words)) where
+  module _ (part : List ℕ) (room : scratchWords dots P ≤ length words) (ep : length part ≡ length (take (scratchWords dots P) words)) where
     abbrev behind : List ℕ
-    behind = part ++ drop (4 * dots + 16 * P + 64) words
+    behind = part ++ drop (scratchWords dots P) words
 
     told-part : (n : ℕ) (figures' : List ℕ) → told n figures' (length behind) (drop (scratchWords dots P) behind) ≡ told n figures' (length words) (drop (scratchWords dots P) words)
     told-part n figures' =
-        let need = 4 * dots + 16 * P + 64 in
+        let need = scratchWords dots P in
         let l : length part ≡ need = ep ∙ length-take-le need words room in
         let f : length behind ≡ length words = length-append part (drop need words) ∙ (let q = length-drop need words in omega arith) in
         let d : drop need behind ≡ drop need words = drop-at part (drop need words) need l in

@@ -124,7 +124,7 @@ module _ (p : LayoutParams) (w h : ℕ) (m : List ℕ) (P : ℕ) (words results 
         pub page-lent : LentGood p w (w * h) P (length words) (length results) (length kinds) (length figures)
         page-lent = lent-good p w (w * h) P (length words) (length results) (length kinds) (length figures) (sym el ∙ gl)
 
-        pub page-room : SegmentRoom p w h m P (take (4 * (w * h) + 16 * P + 64) words) (length results) (length kinds)
+        pub page-room : SegmentRoom p w h m P (take (scratchWords (w * h) P) words) (length results) (length kinds)
         page-room =
             let G = page-plane in
             let L = page-lent in
@@ -138,21 +138,21 @@ module _ (p : LayoutParams) (w h : ℕ) (m : List ℕ) (P : ℕ) (words results 
                 ones = G .ones;
                 few = L .few;
                 valid = L .sheet;
-                room = subst (λ z. scratchWords (w * h) P ≤ z) (sym (length-take-le (4 * (w * h) + 16 * P + 64) words (L .words-room))) (le-refl _);
+                room = subst (λ z. scratchWords (w * h) P ≤ z) (sym (length-take-le (scratchWords (w * h) P) words (L .words-room))) (le-refl _);
               };
               results-room = L .results-room;
               kinds-room = L .kinds-room;
             }
 
-        pub page-done : (n : ℕ) (r : SegmentAnswer) (results' kinds' figures' part : List ℕ) → length part ≡ length (take (4 * (w * h) + 16 * P + 64) words)
+        pub page-done : (n : ℕ) (r : SegmentAnswer) (results' kinds' figures' part : List ℕ) → length part ≡ length (take (scratchWords (w * h) P) words)
             → Answers.segmentOutcome r results' kinds' ≡ Answers.segmentPlane p w h m P results kinds
             → n ≡ Answers.segmentNumber r
             → figures' ≡ figuresLeft r figures
-            → left n results' kinds' figures' (length (part ++ drop (4 * (w * h) + 16 * P + 64) words)) (drop (scratchWords (w * h) P) (part ++ drop (4 * (w * h) + 16 * P + 64) words))
+            → left n results' kinds' figures' (length (part ++ drop (scratchWords (w * h) P) words)) (drop (scratchWords (w * h) P) (part ++ drop (scratchWords (w * h) P) words))
             ≡ paged p w h m P words results kinds figures
         unfolding Answers.segmentPlane
         page-done n r results' kinds' figures' part e s en ef =
-            let need = 4 * (w * h) + 16 * P + 64 in
+            let need = scratchWords (w * h) P in
             let l : length part ≡ need = e ∙ length-take-le need words (page-lent .words-room) in
             let j : planeRefusal w h m (by-lent by-page) ≡ by-page =
             plane-pass w h m .pass (sym ep ∙ gp) (by-lent by-page)

@@ -88,7 +88,7 @@ sort-good p dots P words figures e =
 
 module _ (p : LayoutParams) (w h : ℕ) (m : List ℕ) (P : ℕ) (words figures : List ℕ) where
   abbrev need : ℕ
-  need = 4 * (w * h) + 16 * P + 64
+  need = scratchWords (w * h) P
 
   abbrev by-lent : ℕ → ℕ
   by-lent = sortLent p (w * h) P (length words) (length figures)

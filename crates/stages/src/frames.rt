@@ -6,6 +6,7 @@ ghost use Rattle.stages.specs.rules.Frames.{frameRefusal, roomRefusal};
 use memory::MAX_FRAME_HEIGHT;
 use memory::MAX_FRAME_WIDTH;
 use memory::refuse_if;
+use memory::scratch_words;
 
 // The greatest capacity, as the counts of places are.
 const MAX_CAPACITY: usize = memory::MAX_CAPACITY as usize;
@@ -33,7 +34,8 @@ pub fn judge_room(dots: usize, capacity: usize, words: usize, later: u32) -> u32
     requires { ⌜ (dots ≤ maxFrameWidth * maxFrameHeight) × (capacity ≤ 4294967295) ⌝ }
     ensures { λ r. ⌜ r ≡ roomRefusal dots capacity words later ⌝ }
 {
-    let by_words = refuse_if(words < 4 * dots + 16 * capacity + 64, 9, later);
+    let needed = scratch_words(dots, capacity as u32);
+    let by_words = refuse_if(words < needed, 9, later);
     refuse_if(
         capacity == 0,
         7,

@@ -12,6 +12,7 @@ use crate::frames::judge_frame;
 use crate::frames::judge_room;
 use memory::is_mask;
 use memory::refuse_if;
+use memory::scratch_words;
 use params::LayoutParams;
 use segmenting::SegmentAnswer;
 use segmenting::segment;
@@ -95,7 +96,7 @@ fn segment_page(
     if lent != 0 {
         return lent;
     }
-    let need = 4 * dots + 16 * p + 64;
+    let need = scratch_words(dots, capacity);
     let answer = segment(ink, w, h, sheet, p, &mut words[..need], results, kinds);
     tell(answer, figures)
 }

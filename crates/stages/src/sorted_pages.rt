@@ -15,6 +15,7 @@ use crate::frames::judge_room;
 use crate::pages::judge_plane;
 use memory::put_float;
 use memory::refuse_if;
+use memory::scratch_words;
 use params::LayoutParams;
 use segmenting::measured_word;
 use sorting::SortAnswer;
@@ -92,7 +93,7 @@ fn sort_page(
     if lent != 0 {
         return lent;
     }
-    let need = 4 * dots + 16 * p + 64;
+    let need = scratch_words(dots, capacity);
     match sort_by_plan(ink, w, h, sheet, p, &mut words[..need]) {
         SortAnswer::TooMany => 20,
         SortAnswer::Sorted(found) => {

@@ -18,6 +18,7 @@ use memory::MAX_MASK_DOTS;
 use memory::MAX_MASK_SIDE;
 use memory::area;
 use memory::refuse_if;
+use memory::scratch_words;
 use params::LayoutParams;
 use sorting::CutAnswer;
 use sorting::Cuts;
@@ -125,7 +126,7 @@ pub extern "C" fn novlizeb_cut_rulings(
     if room != 0 {
         return room;
     }
-    let need = 4 * dots + 16 * p + 64;
+    let need = scratch_words(dots, capacity);
     let run = at_least_two(run_min);
     match label_rulings(ink, width, height, run, thick_max, p, &mut words[..need]) {
         CutAnswer::TooMany => 20,

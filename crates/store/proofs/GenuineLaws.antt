@@ -207,8 +207,8 @@ module _ (p : LayoutParams) (w h : ℕ) (m : List ℕ) (wide : 0 < w) (few-dots 
       let unit = unitValue (sorted p w h m .unit) in
       let Q : SmoothedLine → Type 0 = λ l. Inside w h (l .bbox) × (l .glyph-height ≤ h) in
       let all = table (λ t. smoothedLine gs (getD smears t noDots) (suc t)) (length smears) in
-      each-sort Q (λ (a b : SmoothedLine). keysAtMost (lineKeys a) (lineKeys b)) (keep (isLine p unit) all)
-      (each-kept Q (isLine p unit) all
+      each-sort Q (λ (a b : SmoothedLine). keysAtMost (lineKeys a) (lineKeys b)) (keep (λ (l : SmoothedLine). isLine p unit (l .glyphs) (height (l .bbox))) all)
+      (each-kept Q (λ (l : SmoothedLine). isLine p unit (l .glyphs) (height (l .bbox))) all
       (each-table Q (λ t. smoothedLine gs (getD smears t noDots) (suc t)) (length smears)
       (λ t l. (each-at (λ (c : Component). Inside w h (boxOf c)) smears smears-inside t noDots l, own-low (λ (g : LabelledGlyph). eqb (g .label) (suc t))))))
     where

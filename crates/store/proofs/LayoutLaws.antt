@@ -9,6 +9,7 @@ use lib.Dec.{eqb}
 use lib.ListN.{length, getD, length-append, length-map}
 use Rattle.memory.specs.rules.Lists.{table, upto, keep, greatest, insertBy, sortBy}
 use Rattle.memory.specs.rules.Limits.{maxLines}
+use Rattle.memory.specs.rules.Rects.{height}
 use Rattle.memory.proofs.RefusalLaws.{refusal-passed}
 use Rattle.memory.proofs.TableLaws.{length-table}
 use Rattle.labelling.specs.rules.Components.{boxOf, noDots}
@@ -22,7 +23,7 @@ use Rattle.sorting.specs.rules.Units.{unitValue}
 use Rattle.sorting.proofs.KindLaws.{length-plane}
 use Rattle.grouping.specs.rules.Blocks.{blockFirsts, blocksOf, opensBlock, blockOf}
 use Rattle.grouping.specs.rules.Columns.{columnsOf, covered, cover}
-use Rattle.segmenting.specs.rules.Layouts.{layout, layoutRefusal, textLine}
+use Rattle.segmenting.specs.rules.Layouts.{layout, greatestCount, layoutRefusal, textLine}
 use Rattle.smoothing.specs.rules.Lines.{glyphBox, labelledGlyphs, SmoothedLine, smoothedLine, isLine, keptLines, keysAtMost, lineKeys}
 use Rattle.grouping.proofs.ColumnWords.{runs-few}
 use Rattle.memory.proofs.ListLaws.{keep-few}
@@ -97,8 +98,8 @@ module _ (p : LayoutParams) (w h : ℕ) (m : List ℕ) where
   lines-few =
       let smears = smearsOf p w h m .components in
       let all = table (λ t. smoothedLine (glyphsIn p w h m) (getD smears t noDots) (suc t)) (length smears) in
-      let a = sort-long (λ (a b : SmoothedLine). keysAtMost (lineKeys a) (lineKeys b)) (keep (isLine p (unitValue (sorted p w h m .unit))) all) in
-      let b = keep-shorter (isLine p (unitValue (sorted p w h m .unit))) all in
+      let a = sort-long (λ (a b : SmoothedLine). keysAtMost (lineKeys a) (lineKeys b)) (keep (λ (l : SmoothedLine). isLine p (unitValue (sorted p w h m .unit)) (l .glyphs) (height (l .bbox))) all) in
+      let b = keep-shorter (λ (l : SmoothedLine). isLine p (unitValue (sorted p w h m .unit)) (l .glyphs) (height (l .bbox))) all in
       let e = length-table (λ t. smoothedLine (glyphsIn p w h m) (getD smears t noDots) (suc t)) (length smears) in
       omega arith
 
@@ -158,7 +159,7 @@ module _ (p : LayoutParams) (w h : ℕ) (m : List ℕ) where
   unfolding graphicsOf
   graphics-few = let e = ap length graphics-are in let f = boxes-few graphicKind in omega arith
 
-  most : (P : ℕ) → greatest (layout p w h m .components) ≤ P
+  most : (P : ℕ) → greatestCount (layout p w h m .components) ≤ P
       → (length (sorted p w h m .horizontal .components) ≤ P) × (length (sorted p w h m .vertical .components) ≤ P) × (length (sorted p w h m .rest .components) ≤ P) × (length (smearsOf p w h m .components) ≤ P)
   unfolding layout greatest smearsOf
   most P l = (omega arith, omega arith, omega arith, omega arith)
@@ -169,7 +170,7 @@ module _ (p : LayoutParams) (w h : ℕ) (m : List ℕ) where
   few-of P e =
       let a = refusal-passed _ 19 _ e in
       let b = refusal-passed _ 20 _ (a .later) in
-      let c = most P (ltb-false P (greatest (layout p w h m .components)) (a .passed)) in
+      let c = most P (ltb-false P (greatestCount (layout p w h m .components)) (a .passed)) in
       let d = ltb-false maxLines (length (layout p w h m .lines)) (b .passed) in
       let x = lines-long in
       let y = lines-few in

@@ -8,7 +8,7 @@ use Rattle.memory.specs.rules.Lists.{table, occurs, greatest}
 use Rattle.memory.specs.rules.Limits.{maxLines}
 use Rattle.memory.specs.rules.Refusals.{refuseIf}
 use Rattle.labelling.specs.rules.Components.{noDots, boxOf}
-use Rattle.labelling.specs.rules.Labels.{Labelling, labelling}
+use Rattle.labelling.specs.rules.Labels.{labelling}
 use Rattle.memory.specs.declared.rect.Rect.{Rect}
 use Rattle.params.specs.declared.LayoutParams.{LayoutParams}
 use Rattle.levelling.specs.rules.Planes.{Levelling, levelling}
@@ -20,6 +20,15 @@ use Rattle.smoothing.specs.rules.Lines.{labelledGlyphs, SmoothedLine, noSmoothe
 use Rattle.grouping.specs.rules.Blocks.{Block, blockFirsts, blockNumber, blocksOf}
 use Rattle.grouping.specs.rules.Columns.{columnsOf}
 use Rattle.grouping.specs.declared.column.Column.{Column}
+
+-- how many components each labelling of a segmentation has
+pub record ComponentCounts : Type 0 where
+  pub ink : ℕ
+  pub horizontal-cuts : ℕ
+  pub vertical-cuts : ℕ
+  pub ink-after-cut : ℕ
+  -- smoothed glyphs
+  pub smears : ℕ
 
 -- all results of a segmentation
 pub record Layout : Type 0 where
@@ -35,8 +44,7 @@ pub record Layout : Type 0 where
   -- counted before the cut
   pub ink-pixels : ℕ
   pub counts : KindCounts
-  -- how many components each labelling has: ink, horizontal cuts, vertical cuts, ink after the cut, smoothed glyphs
-  pub components : List ℕ
+  pub components : ComponentCounts
 
 -- line i with its block
 unfoldable pub textLine : List SmoothedLine → List ℕ → ℕ → TextLine
@@ -65,7 +73,13 @@ layout p w h m =
       plane = s .plane;
       ink-pixels = occurs 1 m;
       counts = kindCounts (s .plane);
-      components = map (λ (l : Labelling). length (l .components)) (s .ink ∷ s .horizontal ∷ s .vertical ∷ s .rest ∷ smears ∷ []);
+      components = record {
+        ink = length (s .ink .components);
+        horizontal-cuts = length (s .horizontal .components);
+        vertical-cuts = length (s .vertical .components);
+        ink-after-cut = length (s .rest .components);
+        smears = length (smears .components);
+      };
     }
 
 -- a page: what levelling gives, and the segmentation of its ink
@@ -79,6 +93,10 @@ page mask w h skew slope level-sheet segment-sheet =
     let l = levelling mask w h skew slope level-sheet in
     record { levelled = l; layout = layout segment-sheet (l .frame .w) (l .frame .h) (l .ink) }
 
+-- the greatest of the five counts
+abbrev pub greatestCount : ComponentCounts → ℕ
+greatestCount n = greatest (n .ink ∷ n .horizontal-cuts ∷ n .vertical-cuts ∷ n .ink-after-cut ∷ n .smears ∷ [])
+
 -- 20 for more than P components in any labelling, 21 for more than 4,095 lines, else 0
 unfoldable pub layoutRefusal : ℕ → Layout → ℕ
-layoutRefusal P l = refuseIf (ltb P (greatest (l .components))) 20 (refuseIf (ltb maxLines (length (l .lines))) 21 0)
+layoutRefusal P l = refuseIf (ltb P (greatestCount (l .components))) 20 (refuseIf (ltb maxLines (length (l .lines))) 21 0)

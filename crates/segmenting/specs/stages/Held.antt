@@ -5,16 +5,11 @@ use Prim.Native.Nat.{ℕ, _+_, _*_, _%_, _<_}
 use lib.ListN.{getD, length}
 use lib.Dec.{eqb}
 use Rattle.memory.specs.rules.Lists.{table, upto, keep, total}
-use Rattle.memory.specs.rules.Rects.{boxAt}
 use Rattle.memory.specs.declared.rect.Rect.{Rect}
 use Rattle.sorting.specs.rules.Kinds.{ruleKind}
-use Rattle.sorting.specs.stages.Measures.{unpacked}
+use Rattle.sorting.specs.stages.Measures.{sizeBox, unpacked}
 
--- the box of component k, behind its area in the five words from word sizes + 5 × k on
-abbrev pub heldBox : List ℕ → ℕ → ℕ → Rect
-heldBox s sizes k = boxAt s (sizes + 5 * k + 1)
-
--- its kind: the remainder by 8 of word kinds + k
+-- the kind of component k: the remainder by 8 of word kinds + k
 abbrev pub heldKind : List ℕ → ℕ → ℕ → ℕ
 heldKind s kinds k = getD s (kinds + k) 0 % 8
 
@@ -28,19 +23,15 @@ ofKind s kinds kind n = keep (λ k. eqb (heldKind s kinds k) kind) (upto n)
 
 -- their boxes
 unfoldable pub heldBoxes : List ℕ → ℕ → ℕ → ℕ → ℕ → List Rect
-heldBoxes s sizes kinds kind n = map (heldBox s sizes) (ofKind s kinds kind n)
+heldBoxes s sizes kinds kind n = map (sizeBox s sizes) (ofKind s kinds kind n)
 
 -- their areas together
 unfoldable pub heldArea : List ℕ → ℕ → ℕ → ℕ → ℕ → ℕ
 heldArea s sizes kinds kind n = total (map (λ k. getD s (sizes + 5 * k) 0) (ofKind s kinds kind n))
 
--- the box packed in the two words at `at`
-abbrev pub unpackedBox : List ℕ → ℕ → Rect
-unpackedBox s at = unpacked (getD s at 0) (getD s (at + 1) 0)
-
 -- n boxes packed from word `from` on
 unfoldable pub unpackedBoxes : List ℕ → ℕ → ℕ → List Rect
-unpackedBoxes s from n = table (λ k. unpackedBox s (from + 2 * k)) n
+unpackedBoxes s from n = table (λ k. unpacked (getD s (from + 2 * k) 0) (getD s (from + 2 * k + 1) 0)) n
 
 -- the rules: two lists of packed boxes, then the boxes of the components that are rules
 unfoldable pub heldRules : List ℕ → ℕ → ℕ → ℕ → ℕ → ℕ → ℕ → ℕ → List Rect

@@ -167,10 +167,9 @@ countedFigures unit ink dots boxes glyphs lines groups =
     }
 
 -- an ink plane, scratch that holds its page, the figures of both, and room for the results
-pub record ResultsRoom (p : LayoutParams) (w h : ℕ) (m : List ℕ) (P : ℕ) (s : List ℕ) (found : SortCounts) (smears : Smears) (results kinds : ℕ) : Type 0 where
+pub record ResultsRoom (p : LayoutParams) (w h : ℕ) (m : List ℕ) (P : ℕ) (s : List ℕ) (found : SortCounts) (smears : Smears) (results : ℕ) : Type 0 where
   pub plane : SortRoom p w h m P s
   pub few : mostComponents (sorted p w h m) ≤ P
   pub figures : SortedFigures p w h m (found .unit) (found .ink) (found .horizontal) (found .vertical) (found .«component_count»)
   pub held : SmearsHeld p w h m P s (found .runs) smears
   pub results-room : resultWords w P ≤ results
-  pub kinds-room : w * h ≤ kinds

@@ -56,14 +56,10 @@ smoothedLine gs c t =
 abbrev pub noSmoothedLine : SmoothedLine
 noSmoothedLine = record { bbox = boxOf noDots; glyphs = 0; ink-area = 0; glyph-height = 0; label = 0 }
 
--- a line by size: at least `line_min_glyphs` glyphs, and a height within the two line heights × unit
-unfoldable pub lineBySize : LayoutParams → Float → ℕ → ℕ → Bool
-lineBySize p unit glyphs high =
+-- a smoothed component is a line: at least `line_min_glyphs` glyphs, and a height within the two line heights × unit
+unfoldable pub isLine : LayoutParams → Float → ℕ → ℕ → Bool
+isLine p unit glyphs high =
     leb (p .«line_min_glyphs») glyphs && le (p .«line_min_height_xh» · unit) (float high) && le (float high) (p .«line_max_height_xh» · unit)
-
--- whether a smoothed component is a line
-abbrev pub isLine : LayoutParams → Float → SmoothedLine → Bool
-isLine p unit l = lineBySize p unit (l .glyphs) (height (l .bbox))
 
 -- the order of keys: by the first that differ
 unfoldable pub keysAtMost : List ℕ → List ℕ → Bool
@@ -79,7 +75,7 @@ lineKeys l = l .bbox .y0 ∷ l .bbox .x0 ∷ l .bbox .y1 ∷ l .bbox .x1 ∷ l .
 unfoldable pub keptLines : LayoutParams → Float → List LabelledGlyph → List Component → List SmoothedLine
 keptLines p unit gs smears =
     sortBy (λ (a b : SmoothedLine). keysAtMost (lineKeys a) (lineKeys b))
-    (keep (isLine p unit) (table (λ t. smoothedLine gs (getD smears t noDots) (suc t)) (length smears)))
+    (keep (λ (l : SmoothedLine). isLine p unit (l .glyphs) (height (l .bbox))) (table (λ t. smoothedLine gs (getD smears t noDots) (suc t)) (length smears)))
 
 -- the number of the line with this label, or the mark of a glyph in no line
 unfoldable pub lineNumber : List SmoothedLine → ℕ → ℕ

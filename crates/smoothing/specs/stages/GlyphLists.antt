@@ -6,7 +6,8 @@ use lib.ListN.{getD, length, set}
 use Rattle.memory.specs.rules.Lists.{table, occurs, total}
 use Rattle.memory.specs.rules.Limits.{maxCapacity}
 use Rattle.memory.specs.rules.Rects.{height}
-use Rattle.smoothing.specs.stages.LineWords.{labelAt, boxAt, areaAt, ownGlyphs, lineRecordAt}
+use Rattle.sorting.specs.stages.Measures.{sizeBox}
+use Rattle.smoothing.specs.stages.LineWords.{labelAt, areaAt, ownGlyphs, lineRecordAt}
 use Rattle.smoothing.specs.declared.lines.LinePlaces.{LinePlaces}
 
 -- the component that a walk from `first` on meets after so many steps, each to the word from `nexts` on of the one before
@@ -24,7 +25,7 @@ walkedAreas s sizes nexts first n = table (λ i. areaAt s sizes (met s nexts fir
 
 -- their heights
 abbrev pub walkedHeights : List ℕ → ℕ → ℕ → ℕ → ℕ → List ℕ
-walkedHeights s sizes nexts first n = table (λ i. height (boxAt s sizes (met s nexts first i))) n
+walkedHeights s sizes nexts first n = table (λ i. height (sizeBox s sizes (met s nexts first i))) n
 
 -- a walk from the head of each label meets just the glyphs with that label, by number
 pub record GlyphLists (p : LinePlaces) (s : List ℕ) : Type 0 where
@@ -62,8 +63,8 @@ pub record HeightsRoom (p : LinePlaces) (first n : ℕ) (s : List ℕ) : Type 0 
   pub before-nexts : p .heights + p .values ≤ p .nexts
   pub before-sizes : p .heights + p .values ≤ p .sizes
   pub room : p .heights + p .values ≤ length s
-  pub tops : (i : ℕ) → i < n → boxAt s (p .sizes) (met s (p .nexts) first i) .y0 ≤ boxAt s (p .sizes) (met s (p .nexts) first i) .y1
-  pub low : (i : ℕ) → i < n → boxAt s (p .sizes) (met s (p .nexts) first i) .y1 + 1 < p .values
+  pub tops : (i : ℕ) → i < n → sizeBox s (p .sizes) (met s (p .nexts) first i) .y0 ≤ sizeBox s (p .sizes) (met s (p .nexts) first i) .y1
+  pub low : (i : ℕ) → i < n → sizeBox s (p .sizes) (met s (p .nexts) first i) .y1 + 1 < p .values
   pub narrow : p .values ≤ 4294967295
 
 -- the counts of heights are those of this list
@@ -77,8 +78,8 @@ pub record OwnRoom (p : LinePlaces) (s : List ℕ) : Type 0 where
   pub lists : ListRoom p s
   pub before-sizes : p .nexts + p .count ≤ p .sizes
   pub sizes-room : p .sizes + p .count * 5 ≤ length s
-  pub tops : (k : ℕ) → k < p .count → boxAt s (p .sizes) k .y0 ≤ boxAt s (p .sizes) k .y1
-  pub low : (k : ℕ) → k < p .count → boxAt s (p .sizes) k .y1 + 1 < p .values
+  pub tops : (k : ℕ) → k < p .count → sizeBox s (p .sizes) k .y0 ≤ sizeBox s (p .sizes) k .y1
+  pub low : (k : ℕ) → k < p .count → sizeBox s (p .sizes) k .y1 + 1 < p .values
   pub narrow : p .values ≤ 4294967295
   pub ink : total (table (areaAt s (p .sizes)) (p .count)) ≤ 4294967295
   pub before-smoothed : p .nexts + p .count ≤ p .smoothed

@@ -21,7 +21,8 @@ use Rattle.params.specs.declared.LayoutParams.{LayoutParams}
 use Rattle.rounding.specs.rules.Lengths.{float, _·_}
 use Rattle.sorting.specs.rules.Kinds.{glyphKind}
 use Rattle.sorting.specs.rules.Units.{median}
-use Rattle.smoothing.specs.rules.Lines.{LabelledGlyph, SmoothedLine, noSmoothedLine, TextLine, lineBySize, keysAtMost}
+use Rattle.sorting.specs.stages.Measures.{sizeBox}
+use Rattle.smoothing.specs.rules.Lines.{LabelledGlyph, SmoothedLine, noSmoothedLine, TextLine, isLine, keysAtMost}
 
 -- the glyphs among these components, by number, each with the label of the smoothed component that holds it
 unfoldable pub glyphsOf : List Component → List ℕ → (ℕ → ℕ) → List LabelledGlyph
@@ -58,19 +59,9 @@ pub record CountRoom (kinds count glyphs smears : ℕ) (s : List ℕ) : Type 0 w
   pub few : count ≤ maxCapacity
   pub labels : (k : ℕ) → k < count → labelAt s kinds k ≤ smears
 
--- the box of component k, whose sizes stand from word `sizes` on
-abbrev pub boxAt : List ℕ → ℕ → ℕ → Rect
-boxAt s sizes k =
-    record {
-      x0 = getD s (sizes + k * 5 + 1) 0;
-      y0 = getD s (sizes + k * 5 + 2) 0;
-      x1 = getD s (sizes + k * 5 + 3) 0;
-      y1 = getD s (sizes + k * 5 + 4) 0;
-    }
-
 -- whether smoothed component t is a line
 abbrev pub smearIsLine : LayoutParams → Float → List ℕ → ℕ → ℕ → ℕ → Bool
-smearIsLine p unit s smoothed glyphs t = lineBySize p unit (getD s (glyphs + t) 0) (height (boxAt s smoothed t))
+smearIsLine p unit s smoothed glyphs t = isLine p unit (getD s (glyphs + t) 0) (height (sizeBox s smoothed t))
 
 -- y0, x0, y1, x1 of a box, and a label: `lineKeys`
 abbrev pub boxKeys : Rect → ℕ → List ℕ
@@ -78,7 +69,7 @@ boxKeys r t = r .y0 ∷ r .x0 ∷ r .y1 ∷ r .x1 ∷ suc t ∷ []
 
 -- the order of lines, of smoothed components a and b
 unfoldable pub smearAtMost : List ℕ → ℕ → ℕ → ℕ → Bool
-smearAtMost s smoothed a b = keysAtMost (boxKeys (boxAt s smoothed a) a) (boxKeys (boxAt s smoothed b) b)
+smearAtMost s smoothed a b = keysAtMost (boxKeys (sizeBox s smoothed a) a) (boxKeys (sizeBox s smoothed b) b)
 
 -- the lines among the first so many smoothed components, in order
 unfoldable pub lineSmears : LayoutParams → Float → List ℕ → ℕ → ℕ → ℕ → List ℕ
@@ -89,8 +80,8 @@ pub record SmearRoom (smoothed glyphs smears : ℕ) (s : List ℕ) : Type 0 wher
   pub behind : smoothed + smears * 5 ≤ glyphs
   pub room : glyphs + smears ≤ length s
   pub few : smears ≤ maxCapacity
-  pub tops : (t : ℕ) → t < smears → boxAt s smoothed t .y0 ≤ boxAt s smoothed t .y1
-  pub bottoms : (t : ℕ) → t < smears → boxAt s smoothed t .y1 + 1 ≤ 4294967295
+  pub tops : (t : ℕ) → t < smears → sizeBox s smoothed t .y0 ≤ sizeBox s smoothed t .y1
+  pub bottoms : (t : ℕ) → t < smears → sizeBox s smoothed t .y1 + 1 ≤ 4294967295
 
 -- before them a word for the label of each line
 pub record OrderRoom (order smoothed glyphs smears : ℕ) (s : List ℕ) : Type 0 where
@@ -131,13 +122,6 @@ pub record InsertedSmear (smoothed order n t place : ℕ) (s s' : List ℕ) : Ty
   pub moved : (k : ℕ) → place ≤ k → k < n → getD s' (order + (k + 1)) 0 ≡ getD s (order + k) 0
   pub behind : (i : ℕ) → order + n < i → getD s' i 0 ≡ getD s i 0
 
--- t is put in its place if it is a line
-pub record OrderedOne (line : Bool) (smoothed order n t : ℕ) (s s' : List ℕ) (r : ℕ) : Type 0 where
-  pub yes-count : line ≡ true → r ≡ n + 1
-  pub yes-words : line ≡ true → (place : ℕ) × InsertedSmear smoothed order n t place s s'
-  pub no-count : line ≡ false → r ≡ n
-  pub no-words : line ≡ false → s' ≡ s
-
 -- the labels of the lines, in order, from word `order` on
 pub record OrderedLines (ls : List ℕ) (order : ℕ) (s s' : List ℕ) (r : ℕ) : Type 0 where
   pub count : r ≡ length ls
@@ -169,7 +153,7 @@ glyphFields r area line = r .x0 ∷ r .y0 ∷ r .x1 ∷ r .y1 ∷ area ∷ line 
 
 -- the record of glyph k, its line by the number of its label
 abbrev pub glyphRecordAt : List ℕ → ℕ → ℕ → ℕ → ℕ → List ℕ
-glyphRecordAt s sizes kinds numbers k = glyphFields (boxAt s sizes k) (areaAt s sizes k) (getD s (numbers + (labelAt s kinds k - 1)) 0)
+glyphRecordAt s sizes kinds numbers k = glyphFields (sizeBox s sizes k) (areaAt s sizes k) (getD s (numbers + (labelAt s kinds k - 1)) 0)
 
 -- sizes and labelled kinds of so many components, the number of each label, and room for their records
 pub record GlyphRoom (sizes kinds count numbers : ℕ) (s : List ℕ) (out : ℕ) : Type 0 where
@@ -200,7 +184,7 @@ ownInk s sizes kinds count t = total (map (areaAt s sizes) (ownGlyphs s kinds co
 
 -- their heights
 abbrev pub ownHeights : List ℕ → ℕ → ℕ → ℕ → ℕ → List ℕ
-ownHeights s sizes kinds count t = map (λ k. height (boxAt s sizes k)) (ownGlyphs s kinds count t)
+ownHeights s sizes kinds count t = map (λ k. height (sizeBox s sizes k)) (ownGlyphs s kinds count t)
 
 -- the record of a line: box, glyphs, ink, glyph height, and 0 for its block
 abbrev pub lineFields : Rect → ℕ → ℕ → ℕ → List ℕ
@@ -209,7 +193,7 @@ lineFields r glyphs ink high = r .x0 ∷ r .y0 ∷ r .x1 ∷ r .y1 ∷ glyphs �
 -- the record of the line that smoothed component t is
 abbrev pub lineRecordAt : List ℕ → ℕ → ℕ → ℕ → ℕ → ℕ → ℕ → List ℕ
 lineRecordAt s smoothed glyphs sizes kinds count t =
-    lineFields (boxAt s smoothed t) (getD s (glyphs + t) 0) (ownInk s sizes kinds count (suc t)) (median (ownHeights s sizes kinds count (suc t)))
+    lineFields (sizeBox s smoothed t) (getD s (glyphs + t) 0) (ownInk s sizes kinds count (suc t)) (median (ownHeights s sizes kinds count (suc t)))
 
 -- line i with 0 for its block, as it is written before the blocks are known
 abbrev pub plainLine : List SmoothedLine → ℕ → TextLine

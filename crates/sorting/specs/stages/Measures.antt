@@ -4,7 +4,7 @@ use mathlib.Core.List.{List, map}
 use Prim.Native.Nat.{ℕ, _+_, _*_, _/_, _%_, _≤_, _<_}
 use lib.ListN.{getD, length}
 use Rattle.memory.specs.rules.Lists.{table, keep, occurs}
-use Rattle.memory.specs.rules.Rects.{height}
+use Rattle.memory.specs.rules.Rects.{height, boxAt}
 use Rattle.memory.specs.stages.Boxes.{Inside}
 use Rattle.memory.specs.stages.Stored.{Within}
 use Rattle.labelling.specs.rules.Components.{boxOf}
@@ -30,6 +30,10 @@ sizedAt s at k =
       «sum_x» = 0;
       «sum_y» = 0;
     }
+
+-- its box alone, behind its area
+abbrev pub sizeBox : List ℕ → ℕ → ℕ → Rect
+sizeBox s at k = boxAt s (at + 5 * k + 1)
 
 -- the first n of them
 abbrev pub sizedFrom : List ℕ → ℕ → ℕ → List Component

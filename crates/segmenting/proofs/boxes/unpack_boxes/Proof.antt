@@ -2,10 +2,12 @@ use Prim.Native.Nat.{_+_, _-_, _*_, _≤_}
 use mathlib.Core.Path.{_≡_, sym, ap, _∙_, subst}
 use native.Mathlib.Omega.{arith}
 use borrow.Author.Needs.{needs}
+use lib.ListN.{getD}
 use Rattle.memory.specs.rules.Words.{over}
 use Rattle.memory.specs.rules.Records.{encoded}
 use Rattle.memory.specs.rules.Rects.{boxWords}
-use Rattle.segmenting.specs.stages.Held.{unpackedBox, unpackedBoxes}
+use Rattle.sorting.specs.stages.Measures.{unpacked}
+use Rattle.segmenting.specs.stages.Held.{unpackedBoxes}
 use Rattle.segmenting.proofs.BoxLaws.{BoxesWritten, written-length, box-more, unpacked-none, unpacked-more}
 use Rattle.segmenting.proofs.boxes.unpack_boxes.Statement.{statement}
 use Rattle.segmenting.proofs.boxes.unpack_boxes.Tie as tie
@@ -41,7 +43,7 @@ loop-less : tie.Need-loop-less Inv-loop μ-loop
 loop-less c = search needs
 
 loop-again : tie.Need-loop-again Inv-loop μ-loop
-loop-again c = (omega arith, subst (λ z. BoxesWritten z ((c .before .before .before .before .before .before .before .before .before) .args .out .now) ((c .before .before .put-box) .last .0) ((c .before .before .before .before .before .before .loop) .k + 1)) (sym (unpacked-more ((c .before .before .before .before .before .before .before .before .before) .args .words .now) ((c .before .before .before .before .before .before .before .before .before) .args .from) ((c .before .before .before .before .before .before .loop) .k))) (box-more ((c .before .before .before .before .before .before .loop) .inv .1) (unpackedBox ((c .before .before .before .before .before .before .before .before .before) .args .words .now) (((c .before .before .before .before .before .before .before .before .before) .args .from) + 2 * (c .before .before .before .before .before .before .loop) .k)) ((c .before .before .before .packed-box) .result) ((c .before .before .put-box) .last .0) (omega arith) ((c .before .before .before .packed-box) .ensures) ((c .before .before .put-box) .ensures)))
+loop-again c = (omega arith, subst (λ z. BoxesWritten z ((c .before .before .before .before .before .before .before .before .before) .args .out .now) ((c .before .before .put-box) .last .0) ((c .before .before .before .before .before .before .loop) .k + 1)) (sym (unpacked-more ((c .before .before .before .before .before .before .before .before .before) .args .words .now) ((c .before .before .before .before .before .before .before .before .before) .args .from) ((c .before .before .before .before .before .before .loop) .k))) (box-more ((c .before .before .before .before .before .before .loop) .inv .1) (unpacked (getD ((c .before .before .before .before .before .before .before .before .before) .args .words .now) (((c .before .before .before .before .before .before .before .before .before) .args .from) + 2 * (c .before .before .before .before .before .before .loop) .k) 0) (getD ((c .before .before .before .before .before .before .before .before .before) .args .words .now) (((c .before .before .before .before .before .before .before .before .before) .args .from) + 2 * (c .before .before .before .before .before .before .loop) .k + 1) 0)) ((c .before .before .before .packed-box) .result) ((c .before .before .put-box) .last .0) (omega arith) ((c .before .before .before .packed-box) .ensures) ((c .before .before .put-box) .ensures)))
 
 same-length : tie.Need-same-length Inv-loop μ-loop
 same-length c = written-length ((c .before .loop) .inv .1)

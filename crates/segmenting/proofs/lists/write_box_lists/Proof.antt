@@ -5,18 +5,6 @@ use Rattle.segmenting.proofs.ResultLaws.{rules-fit, graphics-fit, graph
 use Rattle.segmenting.proofs.lists.write_box_lists.Statement.{statement}
 use Rattle.segmenting.proofs.lists.write_box_lists.Tie as tie
 
-cast-w : tie.Need-cast-w
-cast-w c = search needs
-
-mul-rules-at : tie.Need-mul-rules-at
-mul-rules-at c = search needs
-
-mul-graphics-at : tie.Need-mul-graphics-at
-mul-graphics-at c = search needs
-
-add-graphics-at : tie.Need-add-graphics-at
-add-graphics-at c = search needs
-
 mul-write-rules : tie.Need-mul-write-rules
 mul-write-rules c = search needs
 
@@ -31,10 +19,8 @@ part-write-rules-end c = search needs
 
 write-rules-requires : tie.Need-write-rules-requires
 write-rules-requires c κs =
-    let a = c .before .before .before .before .before .args in
-    let R = c .before .before .before .before .before .pre .0 in
-    let K = c .before .before .before .before .before .pre .1 in
-    (search needs, search needs, search needs, search needs, rw (K .horizontal-is, K .vertical-is, K .sizes-is, K .kinds-is) (rules-fit (a .plan .width) (a .plan .width * a .plan .height) (a .plan .capacity) (a .found .horizontal) (a .found .vertical) (a .found .«component_count») (a .words .now) (a .results .now) R))
+    let a = c .before .before .before .args in let R = c .before .before .before .pre .0 in let K = c .before .before .before .pre .1 in let J = c .before .before .before .pre .2 in
+    (search needs, search needs, search needs, search needs, rw (K .horizontal-is, K .vertical-is, K .sizes-is, K .kinds-is, J .rules-is) (rules-fit (a .plan .width) (a .plan .width * a .plan .height) (a .plan .capacity) (a .found .horizontal) (a .found .vertical) (a .found .«component_count») (a .words .now) (a .results .now) R))
 
 mul-write-boxes : tie.Need-mul-write-boxes
 mul-write-boxes c = search needs
@@ -50,33 +36,23 @@ part-write-boxes-end c = search needs
 
 write-boxes-requires : tie.Need-write-boxes-requires
 write-boxes-requires c κs =
-    let a = c .before .before .before .before .before .before .before .before .before .args in
-    let R = c .before .before .before .before .before .before .before .before .before .pre .0 in
-    let K = c .before .before .before .before .before .before .before .before .before .pre .1 in
-    (search needs, search needs, rw (K .sizes-is, K .kinds-is) (graphics-fit (a .plan .width) (a .plan .width * a .plan .height) (a .plan .capacity) (a .found .horizontal) (a .found .vertical) (a .found .«component_count») (a .words .now) (a .results .now) R (c .before .before .before .write-rules .last .1 .1 .1 .0) ((rw (K .horizontal-is, K .vertical-is, K .sizes-is, K .kinds-is) at (c .before .before .before .write-rules .ensures)) .1) _ refl))
+    let a = c .before .before .before .before .before .before .before .args in let R = c .before .before .before .before .before .before .before .pre .0 in let K = c .before .before .before .before .before .before .before .pre .1 in let J = c .before .before .before .before .before .before .before .pre .2 in
+    (search needs, search needs, rw (K .sizes-is, K .kinds-is, J .rules-is, J .graphics-is) (graphics-fit (a .plan .width) (a .plan .width * a .plan .height) (a .plan .capacity) (a .found .horizontal) (a .found .vertical) (a .found .«component_count») (a .words .now) (a .results .now) R (c .before .before .before .write-rules .last .1 .1 .1 .0) ((rw (K .horizontal-is, K .vertical-is, K .sizes-is, K .kinds-is, J .rules-is) at (c .before .before .before .write-rules .ensures)) .1) _ refl))
 
 same-length : tie.Need-same-length
 same-length c =
-    let a = c .before .before .before .before .before .before .before .before .before .before .before .before .args in
-    let R = c .before .before .before .before .before .before .before .before .before .before .before .before .pre .0 in
-    let K = c .before .before .before .before .before .before .before .before .before .before .before .before .pre .1 in
-    graphics-long (a .plan .width) (a .plan .width * a .plan .height) (a .plan .capacity) (a .found .horizontal) (a .found .vertical) (a .found .«component_count») (a .words .now) (a .results .now) R (c .before .before .before .before .before .before .write-rules .last .1 .1 .1 .0) ((rw (K .horizontal-is, K .vertical-is, K .sizes-is, K .kinds-is) at (c .before .before .before .before .before .before .write-rules .ensures)) .1) _ (c .before .before .write-boxes .last .1 .1 .1 .1 .1 .0) refl ((rw (K .sizes-is, K .kinds-is) at (c .before .before .write-boxes .ensures)) .1)
+    let a = c .before .before .before .before .before .before .before .before .before .before .args in let R = c .before .before .before .before .before .before .before .before .before .before .pre .0 in let K = c .before .before .before .before .before .before .before .before .before .before .pre .1 in let J = c .before .before .before .before .before .before .before .before .before .before .pre .2 in
+    rw (J .rules-is, J .graphics-is) (graphics-long (a .plan .width) (a .plan .width * a .plan .height) (a .plan .capacity) (a .found .horizontal) (a .found .vertical) (a .found .«component_count») (a .words .now) (a .results .now) R (c .before .before .before .before .before .before .write-rules .last .1 .1 .1 .0) ((rw (K .horizontal-is, K .vertical-is, K .sizes-is, K .kinds-is, J .rules-is) at (c .before .before .before .before .before .before .write-rules .ensures)) .1) _ (c .before .before .write-boxes .last .1 .1 .1 .1 .1 .0) refl ((rw (K .sizes-is, K .kinds-is, J .rules-is, J .graphics-is) at (c .before .before .write-boxes .ensures)) .1))
 
 returns : tie.Need-returns
 returns c =
-    let a = c .before .before .before .before .before .before .before .before .before .before .before .before .args in
-    let R = c .before .before .before .before .before .before .before .before .before .before .before .before .pre .0 in
-    let K = c .before .before .before .before .before .before .before .before .before .before .before .before .pre .1 in
-    record { rules-is = (rw (K .horizontal-is, K .vertical-is, K .sizes-is, K .kinds-is) at (c .before .before .before .before .before .before .write-rules .ensures)) .0; graphics-is = (rw (K .sizes-is, K .kinds-is) at (c .before .before .write-boxes .ensures)) .0; words = graphics-put (a .plan .width) (a .plan .width * a .plan .height) (a .plan .capacity) (a .found .horizontal) (a .found .vertical) (a .found .«component_count») (a .words .now) (a .results .now) R (c .before .before .before .before .before .before .write-rules .last .1 .1 .1 .0) ((rw (K .horizontal-is, K .vertical-is, K .sizes-is, K .kinds-is) at (c .before .before .before .before .before .before .write-rules .ensures)) .1) _ (c .before .before .write-boxes .last .1 .1 .1 .1 .1 .0) refl ((rw (K .sizes-is, K .kinds-is) at (c .before .before .write-boxes .ensures)) .1) }
+    let a = c .before .before .before .before .before .before .before .before .before .before .args in let R = c .before .before .before .before .before .before .before .before .before .before .pre .0 in let K = c .before .before .before .before .before .before .before .before .before .before .pre .1 in let J = c .before .before .before .before .before .before .before .before .before .before .pre .2 in
+    record { rules-is = (rw (K .horizontal-is, K .vertical-is, K .sizes-is, K .kinds-is, J .rules-is) at (c .before .before .before .before .before .before .write-rules .ensures)) .0; graphics-is = (rw (K .sizes-is, K .kinds-is, J .rules-is, J .graphics-is) at (c .before .before .write-boxes .ensures)) .0; words = rw (J .rules-is, J .graphics-is) (graphics-put (a .plan .width) (a .plan .width * a .plan .height) (a .plan .capacity) (a .found .horizontal) (a .found .vertical) (a .found .«component_count») (a .words .now) (a .results .now) R (c .before .before .before .before .before .before .write-rules .last .1 .1 .1 .0) ((rw (K .horizontal-is, K .vertical-is, K .sizes-is, K .kinds-is, J .rules-is) at (c .before .before .before .before .before .before .write-rules .ensures)) .1) _ (c .before .before .write-boxes .last .1 .1 .1 .1 .1 .0) refl ((rw (K .sizes-is, K .kinds-is, J .rules-is, J .graphics-is) at (c .before .before .write-boxes .ensures)) .1)) }
 
 pub write-box-lists-spec : {M : Type 1} → statement M
 write-box-lists-spec =
     tie.close
     (tie.spec
-    cast-w
-    mul-rules-at
-    mul-graphics-at
-    add-graphics-at
     mul-write-rules
     sub-write-rules
     part-write-rules-start

@@ -53,8 +53,8 @@ mul-area-2 c = search needs
 shared-slice-read-area : tie.Need-shared-slice-read-area
 shared-slice-read-area c = search needs
 
-box-at-requires : tie.Need-box-at-requires
-box-at-requires c κs = search needs
+size-box-requires : tie.Need-size-box-requires
+size-box-requires c κs = search needs
 
 put-glyph-requires : tie.Need-put-glyph-requires
 put-glyph-requires c κs = search needs
@@ -71,7 +71,7 @@ returns-2 c =
       none-count = λ e. absurd (c .before .before .before .before .before .before .before .if1 .left (c .before .before .before .before .before .before .before .before .wide .ensures ∙ e));
       none-words = λ e. absurd (c .before .before .before .before .before .before .before .if1 .left (c .before .before .before .before .before .before .before .before .wide .ensures ∙ e));
       some-count = λ p. refl;
-      some-words = λ p. c .before .before .put-glyph .ensures ∙ (λ i. sets (c .before .before .before .before .before .before .before .before .before .before .before .before .args .out .now) (c .before .before .before .before .before .before .before .before .before .before .before .before .args .n * 6) (glyphFields (c .before .before .before .before .box-at .ensures i) (areaAt (c .before .before .before .before .before .before .before .before .before .before .before .before .args .words .now) (c .before .before .before .before .before .before .before .before .before .before .before .before .args .sizes) (c .before .before .before .before .before .before .before .before .before .before .before .before .args .k)) (getD (c .before .before .before .before .before .before .before .before .before .before .before .before .args .words .now) (c .before .before .before .before .before .before .before .before .before .before .before .before .args .numbers + (c .before .before .before .before .before .before .before .before .wide .ensures i - 1)) 0)));
+      some-words = λ p. c .before .before .put-glyph .ensures ∙ (λ i. sets (c .before .before .before .before .before .before .before .before .before .before .before .before .args .out .now) (c .before .before .before .before .before .before .before .before .before .before .before .before .args .n * 6) (glyphFields (c .before .before .before .before .size-box .ensures i) (areaAt (c .before .before .before .before .before .before .before .before .before .before .before .before .args .words .now) (c .before .before .before .before .before .before .before .before .before .before .before .before .args .sizes) (c .before .before .before .before .before .before .before .before .before .before .before .before .args .k)) (getD (c .before .before .before .before .before .before .before .before .before .before .before .before .args .words .now) (c .before .before .before .before .before .before .before .before .before .before .before .before .args .numbers + (c .before .before .before .before .before .before .before .before .wide .ensures i - 1)) 0)));
     }
 
 pub write-glyph-spec : {M : Type 1} → statement M
@@ -91,7 +91,7 @@ write-glyph-spec =
     add-area
     mul-area-2
     shared-slice-read-area
-    box-at-requires
+    size-box-requires
     put-glyph-requires
     add-result
     same-length

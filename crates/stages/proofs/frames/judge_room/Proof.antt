@@ -4,17 +4,11 @@ use Rattle.stages.specs.rules.Frames.{roomRefusal}
 use Rattle.stages.proofs.frames.judge_room.Statement.{statement}
 use Rattle.stages.proofs.frames.judge_room.Tie as tie
 
-mul-refuse-if : tie.Need-mul-refuse-if
-mul-refuse-if c = search needs
+cast-scratch-words : tie.Need-cast-scratch-words
+cast-scratch-words c = search needs
 
-mul-refuse-if-2 : tie.Need-mul-refuse-if-2
-mul-refuse-if-2 c = search needs
-
-add-refuse-if : tie.Need-add-refuse-if
-add-refuse-if c = search needs
-
-add-refuse-if-2 : tie.Need-add-refuse-if-2
-add-refuse-if-2 c = search needs
+scratch-words-requires : tie.Need-scratch-words-requires
+scratch-words-requires c κs = search needs
 
 refuse-if-requires : tie.Need-refuse-if-requires
 refuse-if-requires c κs = search needs
@@ -33,10 +27,8 @@ pub judge-room-spec : {M : Type 1} → statement M
 judge-room-spec =
     tie.close
     (tie.spec
-    mul-refuse-if
-    mul-refuse-if-2
-    add-refuse-if
-    add-refuse-if-2
+    cast-scratch-words
+    scratch-words-requires
     refuse-if-requires
     refuse-if-requires-2
     refuse-if-requires-3

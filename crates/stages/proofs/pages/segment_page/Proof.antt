@@ -2,7 +2,6 @@
 use native.Mathlib.Omega.{arith}
 use borrow.Author.Needs.{needs}
 use mathlib.Core.Path.{sym}
-use Prim.Native.Nat.{_+_, _*_}
 use lib.Seq.{length-take-le, length-front}
 use Rattle.stages.proofs.PageLaws.{refused-plane, page-plane, refused-lent, page-lent, page-room, page-done}
 use Rattle.stages.proofs.pages.segment_page.Statement.{statement}
@@ -33,52 +32,39 @@ returns-2 c =
     let s = c .before .before .before .before .before .before .before .before .before in
     refused-lent (s .args .sheet) (s .args .w) (s .args .h) (s .args .ink .now) (s .args .capacity) (s .args .words .now) (s .args .results .now) (s .args .kinds .now) (s .args .figures .now) (c .before .before .before .judge-plane .result) (c .before .before .before .judge-plane .ensures) (c .before .before .if1 .left) (c .before .judge-lent .result) (c .before .judge-lent .ensures) (c .if2 .taken)
 
-mul-need : tie.Need-mul-need
-mul-need c =
-    let s = c .before .before .before .before .before .before .before .before .before in
-    let g = page-plane (s .args .sheet) (s .args .w) (s .args .h) (s .args .ink .now) (s .args .capacity) (s .args .words .now) (s .args .results .now) (s .args .kinds .now) (s .args .figures .now) (c .before .before .before .judge-plane .result) (c .before .before .before .judge-plane .ensures) (c .before .before .if1 .left) in
-    omega (arith, g .dots)
-
-mul-need-2 : tie.Need-mul-need-2
-mul-need-2 c =
-    omega arith
-
-add-need : tie.Need-add-need
-add-need c =
-    let s = c .before .before .before .before .before .before .before .before .before in
-    let g = page-plane (s .args .sheet) (s .args .w) (s .args .h) (s .args .ink .now) (s .args .capacity) (s .args .words .now) (s .args .results .now) (s .args .kinds .now) (s .args .figures .now) (c .before .before .before .judge-plane .result) (c .before .before .before .judge-plane .ensures) (c .before .before .if1 .left) in
-    omega (arith, g .dots)
-
-add-need-2 : tie.Need-add-need-2
-add-need-2 c =
+scratch-words-requires : tie.Need-scratch-words-requires
+scratch-words-requires c κs =
     let s = c .before .before .before .before .before .before .before .before .before in
     let g = page-plane (s .args .sheet) (s .args .w) (s .args .h) (s .args .ink .now) (s .args .capacity) (s .args .words .now) (s .args .results .now) (s .args .kinds .now) (s .args .figures .now) (c .before .before .before .judge-plane .result) (c .before .before .before .judge-plane .ensures) (c .before .before .if1 .left) in
     omega (arith, g .dots)
 
 slice-relend-prefix-segment : tie.Need-slice-relend-prefix-segment
 slice-relend-prefix-segment c =
-    let s = c .before .before .before .before .before .before .before .before .before in
-    page-lent (s .args .sheet) (s .args .w) (s .args .h) (s .args .ink .now) (s .args .capacity) (s .args .words .now) (s .args .results .now) (s .args .kinds .now) (s .args .figures .now) (c .before .before .before .judge-plane .result) (c .before .before .before .judge-plane .ensures) (c .before .before .if1 .left) (c .before .judge-lent .result) (c .before .judge-lent .ensures) (c .if2 .left) .words-room
+    rw (c .scratch-words .ensures)
+    (let s = c .before .before .before .before .before .before .before .before .before .before in
+    page-lent (s .args .sheet) (s .args .w) (s .args .h) (s .args .ink .now) (s .args .capacity) (s .args .words .now) (s .args .results .now) (s .args .kinds .now) (s .args .figures .now) (c .before .before .before .before .judge-plane .result) (c .before .before .before .before .judge-plane .ensures) (c .before .before .before .if1 .left) (c .before .before .judge-lent .result) (c .before .before .judge-lent .ensures) (c .before .if2 .left) .words-room)
 
 slice-aggregate-segment : tie.Need-slice-aggregate-segment
 slice-aggregate-segment c =
-    let s = c .before .before .before .before .before .before .before .before .before .before in
-    sym (length-take-le _ (s .args .words .now) (page-lent (s .args .sheet) (s .args .w) (s .args .h) (s .args .ink .now) (s .args .capacity) (s .args .words .now) (s .args .results .now) (s .args .kinds .now) (s .args .figures .now) (c .before .before .before .before .judge-plane .result) (c .before .before .before .before .judge-plane .ensures) (c .before .before .before .if1 .left) (c .before .before .judge-lent .result) (c .before .before .judge-lent .ensures) (c .before .if2 .left) .words-room))
+    rw (c .before .scratch-words .ensures)
+    (let s = c .before .before .before .before .before .before .before .before .before .before .before in
+    sym (length-take-le _ (s .args .words .now) (page-lent (s .args .sheet) (s .args .w) (s .args .h) (s .args .ink .now) (s .args .capacity) (s .args .words .now) (s .args .results .now) (s .args .kinds .now) (s .args .figures .now) (c .before .before .before .before .before .judge-plane .result) (c .before .before .before .before .before .judge-plane .ensures) (c .before .before .before .before .if1 .left) (c .before .before .before .judge-lent .result) (c .before .before .before .judge-lent .ensures) (c .before .before .if2 .left) .words-room)))
 
 segment-requires : tie.Need-segment-requires
 segment-requires c κs =
-    let s = c .before .before .before .before .before .before .before .before .before .before .before .before in
-    page-room (s .args .sheet) (s .args .w) (s .args .h) (s .args .ink .now) (s .args .capacity) (s .args .words .now) (s .args .results .now) (s .args .kinds .now) (s .args .figures .now) (c .before .before .before .before .before .before .judge-plane .result) (c .before .before .before .before .before .before .judge-plane .ensures) (c .before .before .before .before .before .if1 .left) (c .before .before .before .before .judge-lent .result) (c .before .before .before .before .judge-lent .ensures) (c .before .before .before .if2 .left)
+    rw (c .before .before .before .scratch-words .ensures)
+    (let s = c .before .before .before .before .before .before .before .before .before .before .before .before .before in
+    page-room (s .args .sheet) (s .args .w) (s .args .h) (s .args .ink .now) (s .args .capacity) (s .args .words .now) (s .args .results .now) (s .args .kinds .now) (s .args .figures .now) (c .before .before .before .before .before .before .before .judge-plane .result) (c .before .before .before .before .before .before .before .judge-plane .ensures) (c .before .before .before .before .before .before .if1 .left) (c .before .before .before .before .before .judge-lent .result) (c .before .before .before .before .before .judge-lent .ensures) (c .before .before .before .before .if2 .left))
 
 tell-requires : tie.Need-tell-requires
 tell-requires c κs =
-    let s = c .before .before .before .before .before .before .before .before .before .before .before .before .before .before .before .before .before .before .before .before in
-    page-lent (s .args .sheet) (s .args .w) (s .args .h) (s .args .ink .now) (s .args .capacity) (s .args .words .now) (s .args .results .now) (s .args .kinds .now) (s .args .figures .now) (c .before .before .before .before .before .before .before .before .before .before .before .before .before .before .judge-plane .result) (c .before .before .before .before .before .before .before .before .before .before .before .before .before .before .judge-plane .ensures) (c .before .before .before .before .before .before .before .before .before .before .before .before .before .if1 .left) (c .before .before .before .before .before .before .before .before .before .before .before .before .judge-lent .result) (c .before .before .before .before .before .before .before .before .before .before .before .before .judge-lent .ensures) (c .before .before .before .before .before .before .before .before .before .before .before .if2 .left) .figures-room
+    let s = c .before .before .before .before .before .before .before .before .before .before .before .before .before .before .before .before .before .before .before .before .before in
+    page-lent (s .args .sheet) (s .args .w) (s .args .h) (s .args .ink .now) (s .args .capacity) (s .args .words .now) (s .args .results .now) (s .args .kinds .now) (s .args .figures .now) (c .before .before .before .before .before .before .before .before .before .before .before .before .before .before .before .judge-plane .result) (c .before .before .before .before .before .before .before .before .before .before .before .before .before .before .before .judge-plane .ensures) (c .before .before .before .before .before .before .before .before .before .before .before .before .before .before .if1 .left) (c .before .before .before .before .before .before .before .before .before .before .before .before .before .judge-lent .result) (c .before .before .before .before .before .before .before .before .before .before .before .before .before .judge-lent .ensures) (c .before .before .before .before .before .before .before .before .before .before .before .before .if2 .left) .figures-room
 
 same-length : tie.Need-same-length
 same-length c =
-    let s = c .before .before .before .before .before .before .before .before .before .before .before .before .before .before .before .before .before .before .before .before .before .before .before in
-    length-front (s .args .words .now) (c .before .before .before .before .before .before .before .before .before .before .segment .last .1 .1 .1 .1 .1 .0) (4 * (s .args .w * s .args .h) + 16 * s .args .capacity + 64) (c .before .before .before .before .before .before .before .before .before .before .segment .kept .1 .1 .1 .1 .1 .0)
+    let s = c .before .before .before .before .before .before .before .before .before .before .before .before .before .before .before .before .before .before .before .before .before .before .before .before in
+    length-front (s .args .words .now) (c .before .before .before .before .before .before .before .before .before .before .segment .last .1 .1 .1 .1 .1 .0) (c .before .before .before .before .before .before .before .before .before .before .before .before .before .before .scratch-words .result) (c .before .before .before .before .before .before .before .before .before .before .segment .kept .1 .1 .1 .1 .1 .0)
 
 same-length-2 : tie.Need-same-length-2
 same-length-2 c =
@@ -94,10 +80,11 @@ same-length-4 c =
 
 returns-3 : tie.Need-returns-3
 returns-3 c =
-    let s = c .before .before .before .before .before .before .before .before .before .before .before .before .before .before .before .before .before .before .before .before .before .before .before in
+    rw (c .before .before .before .before .before .before .before .before .before .before .before .before .before .before .scratch-words .ensures)
+    (let s = c .before .before .before .before .before .before .before .before .before .before .before .before .before .before .before .before .before .before .before .before .before .before .before .before in
     let g = c .before .before .before .before .before .before .before .before .before .before .segment in
     let t = c .before .before .tell in
-    page-done (s .args .sheet) (s .args .w) (s .args .h) (s .args .ink .now) (s .args .capacity) (s .args .words .now) (s .args .results .now) (s .args .kinds .now) (s .args .figures .now) (c .before .before .before .before .before .before .before .before .before .before .before .before .before .before .before .before .before .judge-plane .result) (c .before .before .before .before .before .before .before .before .before .before .before .before .before .before .before .before .before .judge-plane .ensures) (c .before .before .before .before .before .before .before .before .before .before .before .before .before .before .before .before .if1 .left) (c .before .before .before .before .before .before .before .before .before .before .before .before .before .before .before .judge-lent .result) (c .before .before .before .before .before .before .before .before .before .before .before .before .before .before .before .judge-lent .ensures) (c .before .before .before .before .before .before .before .before .before .before .before .before .before .before .if2 .left) (t .result) (g .result) (g .last .1 .1 .1 .1 .1 .1 .0) (g .last .1 .1 .1 .1 .1 .1 .1 .0) (t .last .1 .0) (g .last .1 .1 .1 .1 .1 .0) (g .kept .1 .1 .1 .1 .1 .0) (g .ensures .1) (t .ensures .0) (t .ensures .1)
+    page-done (s .args .sheet) (s .args .w) (s .args .h) (s .args .ink .now) (s .args .capacity) (s .args .words .now) (s .args .results .now) (s .args .kinds .now) (s .args .figures .now) (c .before .before .before .before .before .before .before .before .before .before .before .before .before .before .before .before .before .before .judge-plane .result) (c .before .before .before .before .before .before .before .before .before .before .before .before .before .before .before .before .before .before .judge-plane .ensures) (c .before .before .before .before .before .before .before .before .before .before .before .before .before .before .before .before .before .if1 .left) (c .before .before .before .before .before .before .before .before .before .before .before .before .before .before .before .before .judge-lent .result) (c .before .before .before .before .before .before .before .before .before .before .before .before .before .before .before .before .judge-lent .ensures) (c .before .before .before .before .before .before .before .before .before .before .before .before .before .before .before .if2 .left) (t .result) (g .result) (g .last .1 .1 .1 .1 .1 .1 .0) (g .last .1 .1 .1 .1 .1 .1 .1 .0) (t .last .1 .0) (g .last .1 .1 .1 .1 .1 .0) (rw (c .before .before .before .before .before .before .before .before .before .before .before .before .before .before .scratch-words .ensures) at (g .kept .1 .1 .1 .1 .1 .0)) (g .ensures .1) (t .ensures .0) (t .ensures .1))
 
 pub segment-page-spec : {M : Type 1} → statement M
 segment-page-spec =
@@ -108,10 +95,7 @@ segment-page-spec =
     mul-dots
     judge-lent-requires
     returns-2
-    mul-need
-    mul-need-2
-    add-need
-    add-need-2
+    scratch-words-requires
     slice-relend-prefix-segment
     slice-aggregate-segment
     segment-requires
