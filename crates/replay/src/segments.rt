@@ -31,11 +31,6 @@ fn ends_with(body: &[u8], number: u32, figures: u64, results: u64, kinds: u64) -
         & (text::word(body, words - 1) == kinds)
 }
 
-// The words of results for a page so wide and this capacity.
-fn result_words(width: u32, capacity: u32) -> usize {
-    2 * (width as usize) + 35 * (capacity as usize)
-}
-
 // Segments an ink plane by a sheet, its fields handed on one by one.
 fn segment_ink(
     ink: &[u8],
@@ -98,7 +93,7 @@ fn segment_page(body: &[u8], width: u32, height: u32, ink: &mut [u8], kinds: &mu
         kinds,
         &mut figures,
     );
-    let words = result_words(width, capacity);
+    let words = segmenting::result_words(width as usize, capacity as usize);
     ends_with(
         body,
         number,

@@ -18,4 +18,5 @@ pub use page::segment;
 pub use places::COLUMN_WORDS;
 pub use places::ResultPlaces;
 pub use places::result_places;
+pub use places::result_words;
 pub use results::Segmentation;

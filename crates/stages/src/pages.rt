@@ -15,6 +15,7 @@ use memory::refuse_if;
 use memory::scratch_words;
 use params::LayoutParams;
 use segmenting::SegmentAnswer;
+use segmenting::result_words;
 use segmenting::segment;
 use segmenting::write_figures;
 
@@ -44,7 +45,7 @@ fn judge_lent(
 {
     let by_figures = refuse_if(figures < FIGURES, 9, 0);
     let by_kinds = refuse_if(kinds < dots, 9, by_figures);
-    let by_results = refuse_if(results < 2 * w + 35 * capacity, 9, by_kinds);
+    let by_results = refuse_if(results < result_words(w, capacity), 9, by_kinds);
     let by_room = judge_room(dots, capacity, words, by_results);
     refuse_if(!sheet.validate(), 6, by_room)
 }

@@ -16,14 +16,8 @@ refuse-if-requires c κs = search needs
 refuse-if-requires-2 : tie.Need-refuse-if-requires-2
 refuse-if-requires-2 c κs = search needs
 
-mul-refuse-if : tie.Need-mul-refuse-if
-mul-refuse-if c = search needs
-
-mul-refuse-if-2 : tie.Need-mul-refuse-if-2
-mul-refuse-if-2 c = search needs
-
-add-refuse-if : tie.Need-add-refuse-if
-add-refuse-if c = search needs
+result-words-requires : tie.Need-result-words-requires
+result-words-requires c κs = search needs
 
 refuse-if-requires-3 : tie.Need-refuse-if-requires-3
 refuse-if-requires-3 c κs = search needs
@@ -39,9 +33,9 @@ refuse-if-requires-4 c κs = search needs
 
 returns : tie.Need-returns
 unfolding lentRefusal
-returns c = let a = (c .before .before .before .before .before .before) .args in
+returns c = let a = (c .before .before .before .before .before .before .before) .args in
     (c .refuse-if4) .ensures
-    ∙ (λ i. refuseIf (not ((c .before .validate) .ensures i)) 6 (((c .before .before .judge-room) .ensures ∙ ap (roomRefusal (a .dots) (a .capacity) (a .words)) ((c .before .before .before .refuse-if3) .ensures ∙ ap (refuseIf (ltb (a .results) (resultWords (a .w) (a .capacity))) 9) ((c .before .before .before .before .refuse-if2) .ensures ∙ ap (refuseIf (ltb (a .kinds) (a .dots)) 9) ((c .before .before .before .before .before .refuse-if) .ensures)))) i))
+    ∙ (λ i. refuseIf (not ((c .before .validate) .ensures i)) 6 (((c .before .before .judge-room) .ensures ∙ ap (roomRefusal (a .dots) (a .capacity) (a .words)) ((c .before .before .before .refuse-if3) .ensures ∙ (λ j. refuseIf (ltb (a .results) ((c .before .before .before .before .result-words) .ensures j)) 9 (((c .before .before .before .before .before .refuse-if2) .ensures ∙ ap (refuseIf (ltb (a .kinds) (a .dots)) 9) ((c .before .before .before .before .before .before .refuse-if) .ensures)) j)))) i))
 
 pub judge-lent-spec : {M : Type 1} → statement M
 judge-lent-spec =
@@ -49,9 +43,7 @@ judge-lent-spec =
     (tie.spec
     refuse-if-requires
     refuse-if-requires-2
-    mul-refuse-if
-    mul-refuse-if-2
-    add-refuse-if
+    result-words-requires
     refuse-if-requires-3
     judge-room-requires
     validate-requires
