@@ -6,6 +6,7 @@
 #define _GNU_SOURCE
 #include "../include/novlizeb.h"
 
+#include <errno.h>
 #include <fcntl.h>
 #include <spawn.h>
 #include <stdio.h>
@@ -145,7 +146,11 @@ static size_t printed(uint8_t *text, const uint8_t *data, size_t size)
     if (posix_spawn(&child, program, &actions, NULL, words, environ)) give_up("fuzz_show: the program does not start");
     posix_spawn_file_actions_destroy(&actions);
     int status;
-    if (waitpid(child, &status, 0) != child) give_up("fuzz_show");
+    pid_t ended;
+    do /* the fuzzer's clock interrupts */
+        ended = waitpid(child, &status, 0);
+    while (ended < 0 && errno == EINTR);
+    if (ended != child) give_up("fuzz_show");
     if (status != 0) {
         fprintf(stderr, "fuzz_show: the program ended with status %d\n", status);
         abort();
