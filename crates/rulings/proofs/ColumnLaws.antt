@@ -18,8 +18,8 @@ use Rattle.rulings.specs.stages.Sweeps.{spotOf, planeOf, widenedScanline
 use Rattle.rulings.specs.declared.scanlines.Sweep.{Sweep}
 use Rattle.memory.proofs.PlaneLaws.{dot-inside}
 use Rattle.memory.specs.rules.Masks.{isInk}
-use Rattle.extents.proofs.RunLaws.{behind-on, behind-off, behind-le, ahead-on, ahead-off, ahead-le, count-next, runThrough-on, runThrough-last, run-reached, run-reached-before, run-apart, run-last}
-use Rattle.rulings.proofs.SweepLaws.{count-scanline, range-split, plane-inside, widened-past, back-short}
+use Rattle.extents.proofs.RunLaws.{behind-on, behind-off, behind-le, ahead-on, ahead-off, ahead-le, count-next, runThrough-last, run-reached, run-reached-before, run-apart, run-last}
+use Rattle.rulings.proofs.SweepLaws.{run-around, count-scanline, range-split, plane-inside, widened-past, back-short}
 
 -- Rulings by the first places
 
@@ -364,12 +364,7 @@ module _ (p : ℕ → Bool) where
 
   module _ (n o most before : ℕ) (inside : o < n) (on : p o ≡ true) where
     length-through : runThrough p n o ≡ behind p o + 1 + ahead p (o + 1) (n - (o + 1))
-    length-through =
-        let z : n - o ≡ suc (n - (o + 1)) = omega arith in
-        let y : suc o ≡ o + 1 = omega arith in
-        let a : ahead p o (n - o) ≡ suc (ahead p (o + 1) (n - (o + 1))) = ap (ahead p o) z ∙ (ahead-on p o (n - (o + 1)) on ∙ ap (λ k. suc (ahead p k (n - (o + 1)))) y) in
-        let b = runThrough-on p n o on in
-        omega arith
+    length-through = run-around p n o inside on
 
     pub thick-before : most < maxExtent → before ≡ min (behind p o) most → most ≤ before → leb (extent p n o) most ≡ false
     unfolding extent

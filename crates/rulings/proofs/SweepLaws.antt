@@ -15,7 +15,7 @@ use Rattle.memory.specs.rules.Lists.{table}
 use Rattle.memory.specs.rules.Words.{over}
 use Rattle.memory.specs.rules.Limits.{maxExtent, maxMaskSide, maxMaskDots}
 use Rattle.memory.specs.rules.Masks.{isInk}
-use Rattle.extents.specs.rules.Extents.{Plane, inkAt, behind, runThrough, extent}
+use Rattle.extents.specs.rules.Extents.{Plane, inkAt, behind, ahead, runThrough, extent}
 use Rattle.rulings.specs.rules.Rulings.{transposed, widened, inThinRuling, cutHorizontal, cutVertical}
 use Rattle.rulings.specs.stages.Marks.{cutMark, Blank}
 use Rattle.extents.specs.stages.Scans.{ScannedTo, Starts, clear, blank, MaskFits}
@@ -25,7 +25,7 @@ use Rattle.memory.proofs.PlaneLaws.{dot-column, dot-row, dot-inside}
 use Rattle.extents.proofs.MaskLaws.{isInk-maskOf}
 use Rattle.extents.proofs.OverLaws.{over-unique}
 use Rattle.memory.proofs.StoredLaws.{stored-at, stored-filled}
-use Rattle.extents.proofs.RunLaws.{behind-off, ahead-off, runThrough-ends, runThrough-between, runThrough-last, starts-run}
+use Rattle.extents.proofs.RunLaws.{behind-off, ahead-on, ahead-off, ahead-le, runThrough-on, runThrough-next, runThrough-ends, runThrough-between, runThrough-last, starts-run}
 use Rattle.extents.proofs.ExtentLaws.{row-next, ink-past}
 
 -- Dots counted scanline by scanline
@@ -267,56 +267,87 @@ module _ (g : Sweep) (m : List ℕ) (run-min thick-max v o x : ℕ) (S : Starts 
 
 -- Extents across, kept
 
-module _ (g : Sweep) (m : List ℕ) (i o s e : ℕ) (on : planeOf g m i o ≡ true) (B : ScannedBack (planeOf g m i) 0 o s) (E : ScannedTo (planeOf g m i) true (o + 1) (g .outer) e) where
-  run-all : (k : ℕ) → s ≤ k → k < e → planeOf g m i k ≡ true
-  run-all k a b = go (decLt k o) (ℕ-discrete k o)
-    where
-      go : Dec (k < o) → Dec (k ≡ o) → planeOf g m i k ≡ true
-      go (yes l) d = B .all k a l
-      go (no l) (yes d) = ap (planeOf g m i) d ∙ on
-      go (no l) (no d) = E .all k (omega arith) b
+-- the places that are counted ahead pass the test
+ahead-all : (p : ℕ → Bool) (x n j : ℕ) → j < ahead p x n → p (x + j) ≡ true
+ahead-all p x zero j l = let a = ahead-le p x 0 in absurd (omega arith)
+ahead-all p x (suc n) j l = go (p x) refl j l (ahead-all p (suc x) n)
+  where
+    go : (b : Bool) → p x ≡ b → (j : ℕ) → j < ahead p x (suc n) → ((k : ℕ) → k < ahead p (suc x) n → p (suc x + k) ≡ true) → p (x + j) ≡ true
+    go false e j l f = let a = ahead-off p x (suc n) e in absurd (omega arith)
+    go true e zero l f = ap p (let z : x + 0 ≡ x = omega arith in z) ∙ e
+    go true e (suc j) l f = let a = ahead-on p x n e in ap p (let z : x + suc j ≡ suc x + j = omega arith in z) ∙ f j (omega arith)
 
-  run-before : (s : ℕ) → ScannedBack (planeOf g m i) 0 o s → behind (planeOf g m i) s ≡ 0
-  unfolding behind
-  run-before zero A = refl
-  run-before (suc k) A = rw (A .stop k (omega arith) (omega arith))
+-- one run has one length
+run-along : (p : ℕ → Bool) (n o d : ℕ) → p o ≡ true → o + d < n → d ≤ ahead p (o + 1) (n - (o + 1)) → runThrough p n (o + d) ≡ runThrough p n o
+run-along p n o zero on l h = ap (runThrough p n) (let z : o + 0 ≡ o = omega arith in z)
+run-along p n o (suc d) on l h =
+    ap (runThrough p n) (let z : o + suc d ≡ suc (o + d) = omega arith in z)
+    ∙ (sym (runThrough-next p n (o + d) (omega arith) (here d (omega arith)) (ap p (let z : suc (o + d) ≡ o + 1 + d = omega arith in z) ∙ ahead-all p (o + 1) (n - (o + 1)) d (omega arith)))
+    ∙ run-along p n o d on (omega arith) (omega arith))
+  where
+    here : (k : ℕ) → k ≤ ahead p (o + 1) (n - (o + 1)) → p (o + k) ≡ true
+    here zero b = ap p (let z : o + 0 ≡ o = omega arith in z) ∙ on
+    here (suc k) b = ap p (let z : o + suc k ≡ o + 1 + k = omega arith in z) ∙ ahead-all p (o + 1) (n - (o + 1)) k (omega arith)
 
-  pub run-extent : (k : ℕ) → s ≤ k → k < e → extent (planeOf g m i) (g .outer) k ≡ min (e - s) maxExtent
+-- a run through x, by what lies before and after it
+pub run-around : (p : ℕ → Bool) (n x : ℕ) → x < n → p x ≡ true → runThrough p n x ≡ behind p x + 1 + ahead p (x + 1) (n - (x + 1))
+run-around p n x l on =
+    let z : n - x ≡ suc (n - (x + 1)) = omega arith in
+    let y : suc x ≡ x + 1 = omega arith in
+    let a : ahead p x (n - x) ≡ suc (ahead p (x + 1) (n - (x + 1))) = ap (ahead p x) z ∙ (ahead-on p x (n - (x + 1)) on ∙ ap (λ k. suc (ahead p k (n - (x + 1)))) y) in
+    let r = runThrough-on p n x on in
+    omega arith
+
+-- an extent that counts no more than `most` on either side is at most `most` where the extent is
+bounded-thin : (b a most r before after v : ℕ) → r ≡ b + 1 + a → before ≡ min b most → after ≡ min a most → v ≡ min (before + 1 + after) maxExtent → leb v most ≡ leb (min r maxExtent) most
+bounded-thin b a most r before after v e f h k = go (decLe v most)
+  where
+    go : Dec (v ≤ most) → leb v most ≡ leb (min r maxExtent) most
+    go (yes l) = le-leb v most l ∙ sym (le-leb (min r maxExtent) most (omega arith))
+    go (no l) = lt-leb v most (omega arith) ∙ sym (lt-leb (min r maxExtent) most (omega arith))
+
+module _ (g : Sweep) (m : List ℕ) (thick-max i o before after : ℕ) (lo : o < g .outer) (on : planeOf g m i o ≡ true) (B : before ≡ min (behind (planeOf g m i) o) thick-max)
+    (A : after ≡ min (ahead (planeOf g m i) (o + 1) (g .outer - (o + 1))) thick-max) where
+  -- as far as the run is known to go on, it is as thick or thin
+  pub run-thin : (v d : ℕ) → v ≡ min (before + 1 + after) maxExtent → d ≤ after → leb v thick-max ≡ leb (extent (planeOf g m i) (g .outer) (o + d)) thick-max
   unfolding extent
-  run-extent k a b =
-      ap (λ r. min r maxExtent)
-      (runThrough-ends (planeOf g m i) (g .outer) s e (E .high) (run-before s B)
-      (ahead-off (planeOf g m i) e (g .outer - e) (scanned-off (planeOf g m i) (o + 1) (g .outer) e E (plane-below g m i (g .outer) (le-refl (g .outer))))) run-all k a b)
+  run-thin v d z h =
+      let a = ahead-le (planeOf g m i) (o + 1) (g .outer - (o + 1)) in
+      let r = run-along (planeOf g m i) (g .outer) o d on (omega arith) (omega arith) in
+      let s = run-around (planeOf g m i) (g .outer) o lo on in
+      bounded-thin (behind (planeOf g m i) o) (ahead (planeOf g m i) (o + 1) (g .outer - (o + 1))) thick-max (runThrough (planeOf g m i) (g .outer) (o + d)) before after v (r ∙ s) B A z
 
-  -- the run that was walked is kept
-  pub cached-run : (cache : List ℕ) (r : ℕ) → i < g .inner → r ≡ min (e - s) maxExtent → Cached g m o cache → Cached g m o (set (set cache i e) (g .inner + i) r)
-  cached-run cache r l z C =
+  -- the run that was met is kept
+  pub cached-run : (cache : List ℕ) (v : ℕ) → i < g .inner → v ≡ min (before + 1 + after) maxExtent → Cached g m thick-max o cache → Cached g m thick-max o (set (set cache i (o + 1 + after)) (g .inner + i) v)
+  cached-run cache v l z C =
       record {
-        room = let a = C .room in rw (length-set (set cache i e) (g .inner + i) r, length-set cache i e) a;
+        room = let a = C .room in rw (length-set (set cache i (o + 1 + after)) (g .inner + i) v, length-set cache i (o + 1 + after)) a;
         told = λ j q lj h k. go j q lj h k (ℕ-discrete j i);
       }
     where
-      room : g .inner + i < length (set cache i e)
-      room = rw (length-set cache i e) (let a = C .room in omega arith)
+      room : g .inner + i < length (set cache i (o + 1 + after))
+      room = rw (length-set cache i (o + 1 + after)) (let a = C .room in omega arith)
 
-      end : (j : ℕ) → j < g .inner → getD (set (set cache i e) (g .inner + i) r) j 0 ≡ getD (set cache i e) j 0
-      end j lj = getD-set-other (set cache i e) (g .inner + i) j r 0 (λ x. omega arith)
+      end : (j : ℕ) → j < g .inner → getD (set (set cache i (o + 1 + after)) (g .inner + i) v) j 0 ≡ getD (set cache i (o + 1 + after)) j 0
+      end j lj = getD-set-other (set cache i (o + 1 + after)) (g .inner + i) j v 0 (λ x. omega arith)
 
-      go : (j q : ℕ) → j < g .inner → o ≤ q → q < getD (set (set cache i e) (g .inner + i) r) j 0 → Dec (j ≡ i) → getD (set (set cache i e) (g .inner + i) r) (g .inner + j) 0 ≡ extent (planeOf g m j) (g .outer) q
+      thin : (q : ℕ) → o ≤ q → q < o + 1 + after → leb v thick-max ≡ leb (extent (planeOf g m i) (g .outer) q) thick-max
+      thin q h k = run-thin v (q - o) z (omega arith) ∙ ap (λ t. leb (extent (planeOf g m i) (g .outer) t) thick-max) (let y : o + (q - o) ≡ q = omega arith in y)
+
+      go : (j q : ℕ) → j < g .inner → o ≤ q → q < getD (set (set cache i (o + 1 + after)) (g .inner + i) v) j 0 → Dec (j ≡ i)
+          → leb (getD (set (set cache i (o + 1 + after)) (g .inner + i) v) (g .inner + j) 0) thick-max ≡ leb (extent (planeOf g m j) (g .outer) q) thick-max
       go j q lj h k (yes d) =
-          let a : getD (set (set cache i e) (g .inner + i) r) j 0 ≡ e = end j lj ∙ (ap (λ t. getD (set cache i e) t 0) d ∙ getD-set-same cache i e 0 (let a = C .room in omega arith)) in
-          let b = B .high in
-          ap (λ t. getD (set (set cache i e) (g .inner + i) r) (g .inner + t) 0) d
-          ∙ (getD-set-same (set cache i e) (g .inner + i) r 0 room
-          ∙ (z ∙ (sym (run-extent q (omega arith) (omega arith)) ∙ ap (λ t. extent (planeOf g m t) (g .outer) q) (sym d))))
+          let a : getD (set (set cache i (o + 1 + after)) (g .inner + i) v) j 0 ≡ o + 1 + after = end j lj ∙ (ap (λ t. getD (set cache i (o + 1 + after)) t 0) d ∙ getD-set-same cache i (o + 1 + after) 0 (let a = C .room in omega arith)) in
+          ap (λ t. leb t thick-max) (ap (λ t. getD (set (set cache i (o + 1 + after)) (g .inner + i) v) (g .inner + t) 0) d ∙ getD-set-same (set cache i (o + 1 + after)) (g .inner + i) v 0 room)
+          ∙ (thin q h (omega arith) ∙ ap (λ t. leb (extent (planeOf g m t) (g .outer) q) thick-max) (sym d))
       go j q lj h k (no d) =
-          let a : getD (set (set cache i e) (g .inner + i) r) j 0 ≡ getD cache j 0 = end j lj ∙ getD-set-other cache i j e 0 d in
-          getD-set-other (set cache i e) (g .inner + i) (g .inner + j) r 0 (λ x. d (omega arith))
-          ∙ (getD-set-other cache i (g .inner + j) e 0 (λ x. omega arith) ∙ C .told j q lj h (omega arith))
+          let a : getD (set (set cache i (o + 1 + after)) (g .inner + i) v) j 0 ≡ getD cache j 0 = end j lj ∙ getD-set-other cache i j (o + 1 + after) 0 d in
+          ap (λ t. leb t thick-max) (getD-set-other (set cache i (o + 1 + after)) (g .inner + i) (g .inner + j) v 0 (λ x. d (omega arith)) ∙ getD-set-other cache i (g .inner + j) (o + 1 + after) 0 (λ x. omega arith))
+          ∙ C .told j q lj h (omega arith)
 
 -- what is kept holds for later scanlines too
-pub cached-later : (g : Sweep) (m : List ℕ) (o q : ℕ) (cache : List ℕ) → o ≤ q → Cached g m o cache → Cached g m q cache
-cached-later g m o q cache h C = record { room = C .room; told = λ i r l a b. C .told i r l (omega arith) b }
+pub cached-later : (g : Sweep) (m : List ℕ) (thick-max o q : ℕ) (cache : List ℕ) → o ≤ q → Cached g m thick-max o cache → Cached g m thick-max q cache
+cached-later g m thick-max o q cache h C = record { room = C .room; told = λ i r l a b. C .told i r l (omega arith) b }
 
 -- Scans back
 
@@ -340,13 +371,13 @@ test-on t b e f = sym e ∙ not-false t f
 -- One dot
 
 module _ (g : Sweep) (m : List ℕ) (thick-max i o thickness : ℕ) (x y : List ℕ) where
-  pub dot-cut : planeOf g m i o ≡ true → thickness ≡ extent (planeOf g m i) (g .outer) o → thickness ≤ thick-max → x ≡ cond (isThin g m thick-max i o) x y
+  pub dot-cut : planeOf g m i o ≡ true → leb thickness thick-max ≡ leb (extent (planeOf g m i) (g .outer) o) thick-max → thickness ≤ thick-max → x ≡ cond (isThin g m thick-max i o) x y
   unfolding isThin
-  dot-cut a b c = rw (a, le-leb (extent (planeOf g m i) (g .outer) o) thick-max (omega arith))
+  dot-cut a b c = rw (a, sym b, le-leb thickness thick-max c)
 
-  pub dot-thick : planeOf g m i o ≡ true → thickness ≡ extent (planeOf g m i) (g .outer) o → thick-max < thickness → y ≡ cond (isThin g m thick-max i o) x y
+  pub dot-thick : planeOf g m i o ≡ true → leb thickness thick-max ≡ leb (extent (planeOf g m i) (g .outer) o) thick-max → thick-max < thickness → y ≡ cond (isThin g m thick-max i o) x y
   unfolding isThin
-  dot-thick a b c = rw (a, lt-leb (extent (planeOf g m i) (g .outer) o) thick-max (omega arith))
+  dot-thick a b c = rw (a, sym b, lt-leb thickness thick-max c)
 
   pub dot-blank : planeOf g m i o ≡ false → y ≡ cond (isThin g m thick-max i o) x y
   unfolding isThin
@@ -383,8 +414,8 @@ scanlines-loop g n p v o a b e A B =
     (marked-trans g n p v a b e 0 (o * g .inner) (o * g .inner + g .inner) (omega arith) (omega arith) A B)
 
 -- nothing is kept yet
-pub cached-none : (g : Sweep) (m cache : List ℕ) → g .inner + g .inner ≤ length cache → ((i : ℕ) → i < g .inner → getD cache i 0 ≡ 0) → Cached g m 0 cache
-cached-none g m cache h z = record { room = h; told = λ i q l a b. let e = z i l in absurd (omega arith) }
+pub cached-none : (g : Sweep) (m : List ℕ) (thick-max : ℕ) (cache : List ℕ) → g .inner + g .inner ≤ length cache → ((i : ℕ) → i < g .inner → getD cache i 0 ≡ 0) → Cached g m thick-max 0 cache
+cached-none g m thick-max cache h z = record { room = h; told = λ i q l a b. let e = z i l in absurd (omega arith) }
 
 -- Rows and columns
 

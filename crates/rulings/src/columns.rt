@@ -5,13 +5,16 @@
 // greatest thickness.
 ghost use mathlib.Core.Path.{_≡_};
 ghost use mathlib.Core.Bool.{cond, true, false, _||_};
-ghost use Prim.Native.Nat.{ℕ, _+_, _*_, _-_, _≤_, _<_, min};
+ghost use Prim.Native.Nat.{ℕ, _+_, _*_, _-_, _≤_, _<_};
 ghost use lib.ListN.{length, getD, set, take, drop};
 ghost use lib.Dec.{ltb};
-ghost use Rattle.extents.specs.rules.Extents.{behind, ahead, runThrough};
-ghost use Rattle.rulings.specs.stages.Sweeps.{spotOf, planeOf, widenedScanline, isThin, isRuling, Laid, Marked, UpTo, Counted, CountedOn, Recounted, Risen};
+ghost use Rattle.extents.specs.rules.Extents.{behind, runThrough};
+ghost use Rattle.rulings.specs.stages.Sweeps.{spotOf, widenedScanline, isThin, isRuling, Laid, Marked, UpTo, Counted, CountedOn, Recounted, Risen};
+use crate::scanlines::Rulings;
 use crate::scanlines::Sweep;
 use crate::scanlines::Walk;
+use crate::scanlines::ink_after;
+use crate::scanlines::ink_before;
 use crate::scanlines::is_ink;
 use crate::scanlines::is_widened;
 use crate::scanlines::run_start;
@@ -19,25 +22,17 @@ use crate::scanlines::spot;
 use extents::chunk_end;
 use memory::MAX_EXTENT;
 use memory::fill_words;
-use memory::min_usize;
 
-// Down every column, some strips of columns at a time. Answers whether a dot was marked.
-pub fn mark_columns(
-    ink: &[u8],
-    words: &mut [u32],
-    marks: usize,
-    g: Sweep,
-    run_min: u32,
-    thick_max: u32,
-) -> bool
-    requires { ⌜ (Laid g (length (now ink))) × (g .across ≡ 1) × (0 < «run_min») × (UpTo g (length (now ink)) (drop marks (now words)) 2) × (g .outer ≤ marks) × (marks ≤ length (now words)) ⌝ }
-    ensures { λ r. ⌜ (Marked g (length (now (ink .entry))) (isRuling g (now (ink .entry)) «run_min» «thick_max») 2 (drop marks (now (words .entry))) (drop marks (now (words .exit))) 0 (g .outer * g .inner)) × (r ≡ false → drop marks (now (words .exit)) ≡ drop marks (now (words .entry))) ⌝ }
+// Down every column, some strips of columns at a time: 2 more at each dot that is cut. Answers whether a dot was marked.
+pub fn mark_columns(ink: &[u8], words: &mut [u32], t: Rulings) -> bool
+    requires { ⌜ (Laid (t .sweep) (length (now ink))) × (t .sweep .across ≡ 1) × (0 < t .«run_min») × (UpTo (t .sweep) (length (now ink)) (drop (t .marks) (now words)) 2) × (t .sweep .outer ≤ t .marks) × (t .marks ≤ length (now words)) ⌝ }
+    ensures { λ r. ⌜ (Marked (t .sweep) (length (now (ink .entry))) (isRuling (t .sweep) (now (ink .entry)) (t .«run_min») (t .«thick_max»)) 2 (drop (t .marks) (now (words .entry))) (drop (t .marks) (now (words .exit))) 0 (t .sweep .outer * t .sweep .inner)) × (r ≡ false → drop (t .marks) (now (words .exit)) ≡ drop (t .marks) (now (words .entry))) ⌝ }
 {
-    let outer = g.outer;
+    let outer = t.sweep.outer;
     let mut found = false;
     let mut a: usize = 0;
     while a < outer {
-        let walk = mark_strips(ink, words, marks, g, a, run_min, thick_max);
+        let walk = mark_strips(ink, words, t, a);
         a = walk.to;
         found = found | walk.found;
     }
@@ -46,28 +41,20 @@ pub fn mark_columns(
 
 // The strip from column a on, and those behind it that have a long run as it has: their rows are walked at once, dot after dot.
 // Without a long run no row is walked. Answers where the next strip starts, and whether a dot was marked.
-fn mark_strips(
-    ink: &[u8],
-    words: &mut [u32],
-    marks: usize,
-    g: Sweep,
-    a: usize,
-    run_min: u32,
-    thick_max: u32,
-) -> Walk
-    requires { ⌜ (Laid g (length (now ink))) × (g .across ≡ 1) × (a < g .outer) × (0 < «run_min») × (UpTo g (length (now ink)) (drop marks (now words)) 4) × (g .outer ≤ marks) × (marks ≤ length (now words)) ⌝ }
-    ensures { λ r. ⌜ (a < r .to) × (r .to ≤ g .outer) × (Risen g (now (ink .entry)) «run_min» «thick_max» a (r .to) 0 (g .inner) (drop marks (now (words .entry))) (drop marks (now (words .exit)))) × (r .found ≡ false → drop marks (now (words .exit)) ≡ drop marks (now (words .entry))) ⌝ }
+fn mark_strips(ink: &[u8], words: &mut [u32], t: Rulings, a: usize) -> Walk
+    requires { ⌜ (Laid (t .sweep) (length (now ink))) × (t .sweep .across ≡ 1) × (a < t .sweep .outer) × (0 < t .«run_min») × (UpTo (t .sweep) (length (now ink)) (drop (t .marks) (now words)) 4) × (t .sweep .outer ≤ t .marks) × (t .marks ≤ length (now words)) ⌝ }
+    ensures { λ r. ⌜ (a < r .to) × (r .to ≤ t .sweep .outer) × (Risen (t .sweep) (now (ink .entry)) (t .«run_min») (t .«thick_max») a (r .to) 0 (t .sweep .inner) (drop (t .marks) (now (words .entry))) (drop (t .marks) (now (words .exit)))) × (r .found ≡ false → drop (t .marks) (now (words .exit)) ≡ drop (t .marks) (now (words .entry))) ⌝ }
 {
-    let least = run_min as usize;
-    let b = chunk_end(a, g.outer);
-    if !any_long_run(ink, g, a, b, least) {
+    let least = t.run_min as usize;
+    let b = chunk_end(a, t.sweep.outer);
+    if !any_long_run(ink, t.sweep, a, b, least) {
         return Walk {
             to: b,
             found: false,
         };
     }
-    let end = long_end(ink, g, b, least);
-    let found = mark_rows(ink, words, marks, g, a, end, run_min, thick_max);
+    let end = long_end(ink, t.sweep, b, least);
+    let found = mark_rows(ink, words, t, a, end);
     Walk { to: end, found }
 }
 
@@ -89,25 +76,16 @@ fn long_end(ink: &[u8], g: Sweep, from: usize, run_min: usize) -> usize
 }
 
 // Row by row; the counter of a column is the word of its number. Answers whether a dot was marked, as those below do.
-fn mark_rows(
-    ink: &[u8],
-    words: &mut [u32],
-    marks: usize,
-    g: Sweep,
-    a: usize,
-    b: usize,
-    run_min: u32,
-    thick_max: u32,
-) -> bool
-    requires { ⌜ (Laid g (length (now ink))) × (g .across ≡ 1) × (a < b) × (b ≤ g .outer) × (0 < «run_min») × (UpTo g (length (now ink)) (drop marks (now words)) 4) × (g .outer ≤ marks) × (marks ≤ length (now words)) ⌝ }
-    ensures { λ r. ⌜ (Risen g (now (ink .entry)) «run_min» «thick_max» a b 0 (g .inner) (drop marks (now (words .entry))) (drop marks (now (words .exit)))) × (r ≡ false → drop marks (now (words .exit)) ≡ drop marks (now (words .entry))) ⌝ }
+fn mark_rows(ink: &[u8], words: &mut [u32], t: Rulings, a: usize, b: usize) -> bool
+    requires { ⌜ (Laid (t .sweep) (length (now ink))) × (t .sweep .across ≡ 1) × (a < b) × (b ≤ t .sweep .outer) × (0 < t .«run_min») × (UpTo (t .sweep) (length (now ink)) (drop (t .marks) (now words)) 4) × (t .sweep .outer ≤ t .marks) × (t .marks ≤ length (now words)) ⌝ }
+    ensures { λ r. ⌜ (Risen (t .sweep) (now (ink .entry)) (t .«run_min») (t .«thick_max») a b 0 (t .sweep .inner) (drop (t .marks) (now (words .entry))) (drop (t .marks) (now (words .exit)))) × (r ≡ false → drop (t .marks) (now (words .exit)) ≡ drop (t .marks) (now (words .entry))) ⌝ }
 {
-    let inner = g.inner;
+    let inner = t.sweep.inner;
     fill_words(&mut words[a..b], 0);
     let mut found = false;
     let mut y: usize = 0;
     while y < inner {
-        let here = mark_row(ink, words, marks, g, a, b, y, run_min, thick_max);
+        let here = mark_row(ink, words, t, a, b, y);
         found = found | here;
         y += 1;
     }
@@ -115,46 +93,26 @@ fn mark_rows(
 }
 
 // One row more.
-fn mark_row(
-    ink: &[u8],
-    words: &mut [u32],
-    marks: usize,
-    g: Sweep,
-    a: usize,
-    b: usize,
-    y: usize,
-    run_min: u32,
-    thick_max: u32,
-) -> bool
-    requires { ⌜ (Laid g (length (now ink))) × (g .across ≡ 1) × (a < b) × (b ≤ g .outer) × (y < g .inner) × (0 < «run_min») × (UpTo g (length (now ink)) (drop marks (now words)) 6) × (Counted g (now ink) a b y (now words)) × (g .outer ≤ marks) × (marks ≤ length (now words)) ⌝ }
-    ensures { λ r. ⌜ (Risen g (now (ink .entry)) «run_min» «thick_max» a b y (y + 1) (drop marks (now (words .entry))) (drop marks (now (words .exit)))) × (Counted g (now (ink .entry)) a b (y + 1) (now (words .exit))) × (r ≡ false → drop marks (now (words .exit)) ≡ drop marks (now (words .entry))) ⌝ }
+fn mark_row(ink: &[u8], words: &mut [u32], t: Rulings, a: usize, b: usize, y: usize) -> bool
+    requires { ⌜ (Laid (t .sweep) (length (now ink))) × (t .sweep .across ≡ 1) × (a < b) × (b ≤ t .sweep .outer) × (y < t .sweep .inner) × (0 < t .«run_min») × (UpTo (t .sweep) (length (now ink)) (drop (t .marks) (now words)) 6) × (Counted (t .sweep) (now ink) a b y (now words)) × (t .sweep .outer ≤ t .marks) × (t .marks ≤ length (now words)) ⌝ }
+    ensures { λ r. ⌜ (Risen (t .sweep) (now (ink .entry)) (t .«run_min») (t .«thick_max») a b y (y + 1) (drop (t .marks) (now (words .entry))) (drop (t .marks) (now (words .exit)))) × (Counted (t .sweep) (now (ink .entry)) a b (y + 1) (now (words .exit))) × (r ≡ false → drop (t .marks) (now (words .exit)) ≡ drop (t .marks) (now (words .entry))) ⌝ }
 {
-    count_row(ink, words, g, a, b, y);
-    if any_reached(words, a, b, run_min) {
-        return mark_reached(ink, words, marks, g, a, b, y, run_min, thick_max);
+    count_row(ink, words, t.sweep, a, b, y);
+    if any_reached(words, a, b, t.run_min) {
+        return mark_reached(ink, words, t, a, b, y);
     }
     false
 }
 
 // The columns of a row where some counter has reached run_min.
-fn mark_reached(
-    ink: &[u8],
-    words: &mut [u32],
-    marks: usize,
-    g: Sweep,
-    a: usize,
-    b: usize,
-    y: usize,
-    run_min: u32,
-    thick_max: u32,
-) -> bool
-    requires { ⌜ (Laid g (length (now ink))) × (a < b) × (b ≤ g .outer) × (y < g .inner) × (0 < «run_min») × (UpTo g (length (now ink)) (drop marks (now words)) 6) × (Counted g (now ink) a b (y + 1) (now words)) × (g .outer ≤ marks) × (marks ≤ length (now words)) ⌝ }
-    ensures { λ r. ⌜ (Risen g (now (ink .entry)) «run_min» «thick_max» a b y (y + 1) (drop marks (now (words .entry))) (drop marks (now (words .exit)))) × (take marks (now (words .exit)) ≡ take marks (now (words .entry))) × (r ≡ false → drop marks (now (words .exit)) ≡ drop marks (now (words .entry))) ⌝ }
+fn mark_reached(ink: &[u8], words: &mut [u32], t: Rulings, a: usize, b: usize, y: usize) -> bool
+    requires { ⌜ (Laid (t .sweep) (length (now ink))) × (a < b) × (b ≤ t .sweep .outer) × (y < t .sweep .inner) × (0 < t .«run_min») × (UpTo (t .sweep) (length (now ink)) (drop (t .marks) (now words)) 6) × (Counted (t .sweep) (now ink) a b (y + 1) (now words)) × (t .sweep .outer ≤ t .marks) × (t .marks ≤ length (now words)) ⌝ }
+    ensures { λ r. ⌜ (Risen (t .sweep) (now (ink .entry)) (t .«run_min») (t .«thick_max») a b y (y + 1) (drop (t .marks) (now (words .entry))) (drop (t .marks) (now (words .exit)))) × (take (t .marks) (now (words .exit)) ≡ take (t .marks) (now (words .entry))) × (r ≡ false → drop (t .marks) (now (words .exit)) ≡ drop (t .marks) (now (words .entry))) ⌝ }
 {
     let mut found = false;
     let mut o = a;
     while o < b {
-        let here = mark_place(ink, words, marks, g, o, y, run_min, thick_max);
+        let here = mark_place(ink, words, t, o, y);
         found = found | here;
         o += 1;
     }
@@ -162,48 +120,31 @@ fn mark_reached(
 }
 
 // One column in row y: its run is long and goes on, or gets long here, so that all of it is marked, or is not long.
-fn mark_place(
-    ink: &[u8],
-    words: &mut [u32],
-    marks: usize,
-    g: Sweep,
-    o: usize,
-    y: usize,
-    run_min: u32,
-    thick_max: u32,
-) -> bool
-    requires { ⌜ (Laid g (length (now ink))) × (o < g .outer) × (y < g .inner) × (0 < «run_min») × (UpTo g (length (now ink)) (drop marks (now words)) 8) × (getD (now words) o 0 ≡ behind (widenedScanline g (now ink) o) (y + 1)) × (g .outer ≤ marks) × (marks ≤ length (now words)) ⌝ }
-    ensures { λ r. ⌜ (Risen g (now (ink .entry)) «run_min» «thick_max» o (o + 1) y (y + 1) (drop marks (now (words .entry))) (drop marks (now (words .exit)))) × (take marks (now (words .exit)) ≡ take marks (now (words .entry))) × (r ≡ false → drop marks (now (words .exit)) ≡ drop marks (now (words .entry))) ⌝ }
+fn mark_place(ink: &[u8], words: &mut [u32], t: Rulings, o: usize, y: usize) -> bool
+    requires { ⌜ (Laid (t .sweep) (length (now ink))) × (o < t .sweep .outer) × (y < t .sweep .inner) × (0 < t .«run_min») × (UpTo (t .sweep) (length (now ink)) (drop (t .marks) (now words)) 8) × (getD (now words) o 0 ≡ behind (widenedScanline (t .sweep) (now ink) o) (y + 1)) × (t .sweep .outer ≤ t .marks) × (t .marks ≤ length (now words)) ⌝ }
+    ensures { λ r. ⌜ (Risen (t .sweep) (now (ink .entry)) (t .«run_min») (t .«thick_max») o (o + 1) y (y + 1) (drop (t .marks) (now (words .entry))) (drop (t .marks) (now (words .exit)))) × (take (t .marks) (now (words .exit)) ≡ take (t .marks) (now (words .entry))) × (r ≡ false → drop (t .marks) (now (words .exit)) ≡ drop (t .marks) (now (words .entry))) ⌝ }
 {
+    let run_min = t.run_min;
     let since = words[o];
     if run_min < since {
-        return cut_places(ink, words, marks, g, o, y, y + 1, thick_max);
+        return cut_places(ink, words, t, o, y, y + 1);
     }
     if since == run_min {
         let from = y + 1 - run_min as usize;
-        return cut_places(ink, words, marks, g, o, from, y + 1, thick_max);
+        return cut_places(ink, words, t, o, from, y + 1);
     }
     false
 }
 
 // The thin dots of column o from place `from` up to `to`.
-fn cut_places(
-    ink: &[u8],
-    words: &mut [u32],
-    marks: usize,
-    g: Sweep,
-    o: usize,
-    from: usize,
-    to: usize,
-    thick_max: u32,
-) -> bool
-    requires { ⌜ (Laid g (length (now ink))) × (o < g .outer) × (from ≤ to) × (to ≤ g .inner) × (UpTo g (length (now ink)) (drop marks (now words)) 8) × (marks ≤ length (now words)) ⌝ }
-    ensures { λ r. ⌜ (Marked g (length (now (ink .entry))) (isThin g (now (ink .entry)) «thick_max») 2 (drop marks (now (words .entry))) (drop marks (now (words .exit))) (o * g .inner + from) (o * g .inner + to)) × (take marks (now (words .exit)) ≡ take marks (now (words .entry))) × (r ≡ false → drop marks (now (words .exit)) ≡ drop marks (now (words .entry))) ⌝ }
+fn cut_places(ink: &[u8], words: &mut [u32], t: Rulings, o: usize, from: usize, to: usize) -> bool
+    requires { ⌜ (Laid (t .sweep) (length (now ink))) × (o < t .sweep .outer) × (from ≤ to) × (to ≤ t .sweep .inner) × (UpTo (t .sweep) (length (now ink)) (drop (t .marks) (now words)) 8) × (t .marks ≤ length (now words)) ⌝ }
+    ensures { λ r. ⌜ (Marked (t .sweep) (length (now (ink .entry))) (isThin (t .sweep) (now (ink .entry)) (t .«thick_max»)) 2 (drop (t .marks) (now (words .entry))) (drop (t .marks) (now (words .exit))) (o * t .sweep .inner + from) (o * t .sweep .inner + to)) × (take (t .marks) (now (words .exit)) ≡ take (t .marks) (now (words .entry))) × (r ≡ false → drop (t .marks) (now (words .exit)) ≡ drop (t .marks) (now (words .entry))) ⌝ }
 {
     let mut found = false;
     let mut i = from;
     while i < to {
-        let here = cut_place(ink, words, marks, g, i, o, thick_max);
+        let here = cut_place(ink, words, t, i, o);
         found = found | here;
         i += 1;
     }
@@ -211,20 +152,12 @@ fn cut_places(
 }
 
 // One dot, marked where it is ink and thin across.
-fn cut_place(
-    ink: &[u8],
-    words: &mut [u32],
-    marks: usize,
-    g: Sweep,
-    i: usize,
-    o: usize,
-    thick_max: u32,
-) -> bool
-    requires { ⌜ (Laid g (length (now ink))) × (i < g .inner) × (o < g .outer) × (UpTo g (length (now ink)) (drop marks (now words)) 10) × (marks ≤ length (now words)) ⌝ }
-    ensures { λ r. ⌜ (drop marks (now (words .exit)) ≡ cond (isThin g (now (ink .entry)) «thick_max» i o) (set (drop marks (now (words .entry))) (spotOf g i o) (getD (drop marks (now (words .entry))) (spotOf g i o) 0 + 2)) (drop marks (now (words .entry)))) × (take marks (now (words .exit)) ≡ take marks (now (words .entry))) × (r ≡ false → drop marks (now (words .exit)) ≡ drop marks (now (words .entry))) ⌝ }
+fn cut_place(ink: &[u8], words: &mut [u32], t: Rulings, i: usize, o: usize) -> bool
+    requires { ⌜ (Laid (t .sweep) (length (now ink))) × (i < t .sweep .inner) × (o < t .sweep .outer) × (UpTo (t .sweep) (length (now ink)) (drop (t .marks) (now words)) 10) × (t .marks ≤ length (now words)) ⌝ }
+    ensures { λ r. ⌜ (drop (t .marks) (now (words .exit)) ≡ cond (isThin (t .sweep) (now (ink .entry)) (t .«thick_max») i o) (set (drop (t .marks) (now (words .entry))) (spotOf (t .sweep) i o) (getD (drop (t .marks) (now (words .entry))) (spotOf (t .sweep) i o) 0 + 2)) (drop (t .marks) (now (words .entry)))) × (take (t .marks) (now (words .exit)) ≡ take (t .marks) (now (words .entry))) × (r ≡ false → drop (t .marks) (now (words .exit)) ≡ drop (t .marks) (now (words .entry))) ⌝ }
 {
-    if is_thin(ink, g, i, o, thick_max) {
-        let at = marks + spot(g, i, o);
+    if is_thin(ink, t.sweep, i, o, t.thick_max) {
+        let at = t.marks + spot(t.sweep, i, o);
         words[at] = words[at] + 2;
         return true;
     }
@@ -248,38 +181,6 @@ fn is_thin(ink: &[u8], g: Sweep, i: usize, o: usize, thick_max: u32) -> bool
         return false;
     }
     ink_after(ink, g, i, o + 1, most - before) < most - before
-}
-
-// How many ink dots in a row end before scanline o at place i, of at most `most`.
-fn ink_before(ink: &[u8], g: Sweep, i: usize, o: usize, most: usize) -> usize
-    requires { ⌜ (Laid g (length (now ink))) × (i < g .inner) × (o < g .outer) ⌝ }
-    ensures { λ r. ⌜ r ≡ min (behind (planeOf g (now (ink .entry)) i) o) most ⌝ }
-{
-    let end = min_usize(most, o);
-    let mut n: usize = 0;
-    while n < end {
-        if !is_ink(ink, g, i, o - 1 - n) {
-            return n;
-        }
-        n += 1;
-    }
-    n
-}
-
-// How many in a row from scanline o on, of at most `most`.
-fn ink_after(ink: &[u8], g: Sweep, i: usize, o: usize, most: usize) -> usize
-    requires { ⌜ (Laid g (length (now ink))) × (i < g .inner) × (o ≤ g .outer) ⌝ }
-    ensures { λ r. ⌜ r ≡ min (ahead (planeOf g (now (ink .entry)) i) o (g .outer - o)) most ⌝ }
-{
-    let end = min_usize(most, g.outer - o);
-    let mut n: usize = 0;
-    while n < end {
-        if !is_ink(ink, g, i, o + n) {
-            return n;
-        }
-        n += 1;
-    }
-    n
 }
 
 // Whether a counter has reached run_min; without a branch, so that many are looked at at a time.

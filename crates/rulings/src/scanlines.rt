@@ -1,13 +1,14 @@
 // Thin rulings: the dots of long thin runs along rows and columns (layout.rs, thin_ruling_pixels). Rows and columns are scanlines of
 // places alike, with a step along the scanline and a step across it. Here scanlines are walked one by one; the columns are in columns.rt.
-// A run of at least the least length from a place covers the place that far on, so each step probes there and scans back; each run across is
-// measured once and kept.
+// A run of at least the least length from a place covers the place that far on, so each step probes there and scans back. A
+// run across is looked at as far as tells whether it is thin, and that is kept.
 ghost use mathlib.Core.Path.{_≡_};
 ghost use mathlib.Core.Bool.{cond, true, false};
-ghost use Prim.Native.Nat.{_+_, _*_, _≤_, _<_};
+ghost use Prim.Native.Nat.{_+_, _-_, _*_, _≤_, _<_, min};
+ghost use lib.Dec.{leb};
 ghost use lib.ListN.{length, getD, set, take, drop};
 ghost use Rattle.memory.specs.rules.Limits.{maxMaskDots};
-ghost use Rattle.extents.specs.rules.Extents.{extent};
+ghost use Rattle.extents.specs.rules.Extents.{behind, ahead, extent};
 ghost use Rattle.rulings.specs.stages.Marks.{RulingsMarked};
 ghost use Rattle.extents.specs.stages.Scans.{ScannedTo, Starts};
 ghost use Rattle.rulings.specs.stages.Sweeps.{RulingsRoom, sweepDown, sweepAcross, spotOf, planeOf, widenedScanline, isThin, isRuling, Laid, ScannedBack, Cached, Marked, Unmarked, Walked};
@@ -15,6 +16,7 @@ use crate::columns::mark_columns;
 use extents::capped;
 use memory::area;
 use memory::fill_words;
+use memory::min_usize;
 
 // Place i of scanline o lies at o * across + i * along; there are `outer` scanlines of `inner` places.
 pub struct Sweep {
@@ -22,6 +24,14 @@ pub struct Sweep {
     pub across: usize,
     pub inner: usize,
     pub outer: usize,
+}
+
+// Thin rulings along a sweep: runs of at least run_min, cut where they are at most thick_max thick. The marks start at word `marks`.
+pub struct Rulings {
+    pub sweep: Sweep,
+    pub run_min: u32,
+    pub thick_max: u32,
+    pub marks: usize,
 }
 
 // How far a walk came, and whether it marked a dot.
@@ -54,16 +64,20 @@ pub fn mark_rulings(
     let h = height as usize;
     let end = marks + area(width, height);
     fill_words(&mut words[marks..end], 0);
-    let vertical = mark_columns(ink, words, marks, down(w, h), run_min, thick_max);
-    let horizontal = mark_scanlines(
-        ink,
-        words,
-        marks,
-        across(w, h),
-        run_min as usize,
+    let columns = Rulings {
+        sweep: down(w, h),
+        run_min,
         thick_max,
-        1,
-    );
+        marks,
+    };
+    let vertical = mark_columns(ink, words, columns);
+    let rows = Rulings {
+        sweep: across(w, h),
+        run_min,
+        thick_max,
+        marks,
+    };
+    let horizontal = mark_scanlines(ink, words, rows);
     Found {
         horizontal,
         vertical,
@@ -94,26 +108,18 @@ fn across(w: usize, h: usize) -> Sweep
     }
 }
 
-// Along every scanline. Answers whether a dot was marked, as those below do.
-fn mark_scanlines(
-    ink: &[u8],
-    words: &mut [u32],
-    marks: usize,
-    g: Sweep,
-    run_min: usize,
-    thick_max: u32,
-    bit: u32,
-) -> bool
-    requires { ⌜ (Laid g (length (now ink))) × (0 < «run_min») × («run_min» ≤ 4294967295) × (bit ≤ 2) × (Unmarked g (length (now ink)) (drop marks (now words)) 0) × (g .inner + g .inner ≤ marks) × (marks ≤ length (now words)) ⌝ }
-    ensures { λ r. ⌜ (Marked g (length (now (ink .entry))) (isRuling g (now (ink .entry)) «run_min» «thick_max») bit (drop marks (now (words .entry))) (drop marks (now (words .exit))) 0 (g .outer * g .inner)) × (r ≡ false → drop marks (now (words .exit)) ≡ drop marks (now (words .entry))) ⌝ }
+// Along every scanline: 1 more at each dot that is cut. Answers whether a dot was marked, as those below do.
+fn mark_scanlines(ink: &[u8], words: &mut [u32], t: Rulings) -> bool
+    requires { ⌜ (Laid (t .sweep) (length (now ink))) × (0 < t .«run_min») × (Unmarked (t .sweep) (length (now ink)) (drop (t .marks) (now words)) 0) × (t .sweep .inner + t .sweep .inner ≤ t .marks) × (t .marks ≤ length (now words)) ⌝ }
+    ensures { λ r. ⌜ (Marked (t .sweep) (length (now (ink .entry))) (isRuling (t .sweep) (now (ink .entry)) (t .«run_min») (t .«thick_max»)) 1 (drop (t .marks) (now (words .entry))) (drop (t .marks) (now (words .exit))) 0 (t .sweep .outer * t .sweep .inner)) × (r ≡ false → drop (t .marks) (now (words .exit)) ≡ drop (t .marks) (now (words .entry))) ⌝ }
 {
-    let inner = g.inner;
-    let outer = g.outer;
+    let inner = t.sweep.inner;
+    let outer = t.sweep.outer;
     fill_words(&mut words[0..inner], 0);
     let mut found = false;
     let mut o: usize = 0;
     while o < outer {
-        let here = mark_scanline(ink, words, marks, g, o, run_min, thick_max, bit);
+        let here = mark_scanline(ink, words, t, o);
         found = found | here;
         o += 1;
     }
@@ -121,24 +127,16 @@ fn mark_scanlines(
 }
 
 // Along one scanline: each step goes on to a place that no run reaches over.
-fn mark_scanline(
-    ink: &[u8],
-    words: &mut [u32],
-    marks: usize,
-    g: Sweep,
-    o: usize,
-    run_min: usize,
-    thick_max: u32,
-    bit: u32,
-) -> bool
-    requires { ⌜ (Laid g (length (now ink))) × (o < g .outer) × (0 < «run_min») × («run_min» ≤ 4294967295) × (bit ≤ 2) × (Unmarked g (length (now ink)) (drop marks (now words)) (o * g .inner)) × (Cached g (now ink) o (take marks (now words))) × (marks ≤ length (now words)) ⌝ }
-    ensures { λ r. ⌜ (Marked g (length (now (ink .entry))) (isRuling g (now (ink .entry)) «run_min» «thick_max») bit (drop marks (now (words .entry))) (drop marks (now (words .exit))) (o * g .inner) (o * g .inner + g .inner)) × (Cached g (now (ink .entry)) o (take marks (now (words .exit)))) × (r ≡ false → drop marks (now (words .exit)) ≡ drop marks (now (words .entry))) ⌝ }
+fn mark_scanline(ink: &[u8], words: &mut [u32], t: Rulings, o: usize) -> bool
+    requires { ⌜ (Laid (t .sweep) (length (now ink))) × (o < t .sweep .outer) × (0 < t .«run_min») × (Unmarked (t .sweep) (length (now ink)) (drop (t .marks) (now words)) (o * t .sweep .inner)) × (Cached (t .sweep) (now ink) (t .«thick_max») o (take (t .marks) (now words))) × (t .marks ≤ length (now words)) ⌝ }
+    ensures { λ r. ⌜ (Marked (t .sweep) (length (now (ink .entry))) (isRuling (t .sweep) (now (ink .entry)) (t .«run_min») (t .«thick_max»)) 1 (drop (t .marks) (now (words .entry))) (drop (t .marks) (now (words .exit))) (o * t .sweep .inner) (o * t .sweep .inner + t .sweep .inner)) × (Cached (t .sweep) (now (ink .entry)) (t .«thick_max») o (take (t .marks) (now (words .exit)))) × (r ≡ false → drop (t .marks) (now (words .exit)) ≡ drop (t .marks) (now (words .entry))) ⌝ }
 {
-    let inner = g.inner;
+    let inner = t.sweep.inner;
+    let run_min = t.run_min as usize;
     let mut found = false;
     let mut x: usize = 0;
     while x + run_min <= inner {
-        let walk = mark_from(ink, words, marks, g, o, x, run_min, thick_max, bit);
+        let walk = mark_from(ink, words, t, o, x);
         x = walk.to;
         found = found | walk.found;
     }
@@ -146,30 +144,20 @@ fn mark_scanline(
 }
 
 // One step: a run of at least run_min from x on covers the place run_min - 1 further, so the walk starts there, backwards.
-fn mark_from(
-    ink: &[u8],
-    words: &mut [u32],
-    marks: usize,
-    g: Sweep,
-    o: usize,
-    x: usize,
-    run_min: usize,
-    thick_max: u32,
-    bit: u32,
-) -> Walk
-    requires { ⌜ (Laid g (length (now ink))) × (o < g .outer) × (0 < «run_min») × (x + «run_min» ≤ g .inner) × (bit ≤ 2) × (Starts (widenedScanline g (now ink) o) x) × (Unmarked g (length (now ink)) (drop marks (now words)) (o * g .inner + x)) × (Cached g (now ink) o (take marks (now words))) × (marks ≤ length (now words)) ⌝ }
-    ensures { λ r. ⌜ (Walked g (now (ink .entry)) «run_min» «thick_max» bit o x (r .to) (drop marks (now (words .entry))) (drop marks (now (words .exit)))) × (Cached g (now (ink .entry)) o (take marks (now (words .exit)))) × (r .found ≡ false → drop marks (now (words .exit)) ≡ drop marks (now (words .entry))) ⌝ }
+fn mark_from(ink: &[u8], words: &mut [u32], t: Rulings, o: usize, x: usize) -> Walk
+    requires { ⌜ (Laid (t .sweep) (length (now ink))) × (o < t .sweep .outer) × (0 < t .«run_min») × (x + t .«run_min» ≤ t .sweep .inner) × (Starts (widenedScanline (t .sweep) (now ink) o) x) × (Unmarked (t .sweep) (length (now ink)) (drop (t .marks) (now words)) (o * t .sweep .inner + x)) × (Cached (t .sweep) (now ink) (t .«thick_max») o (take (t .marks) (now words))) × (t .marks ≤ length (now words)) ⌝ }
+    ensures { λ r. ⌜ (Walked (t .sweep) (now (ink .entry)) (t .«run_min») (t .«thick_max») 1 o x (r .to) (drop (t .marks) (now (words .entry))) (drop (t .marks) (now (words .exit)))) × (Cached (t .sweep) (now (ink .entry)) (t .«thick_max») o (take (t .marks) (now (words .exit)))) × (r .found ≡ false → drop (t .marks) (now (words .exit)) ≡ drop (t .marks) (now (words .entry))) ⌝ }
 {
-    let probe = x + run_min;
-    let start = run_start(ink, g, o, x, probe);
+    let probe = x + t.run_min as usize;
+    let start = run_start(ink, t.sweep, o, x, probe);
     if x < start {
         return Walk {
             to: start,
             found: false,
         };
     }
-    let found = cut_run(ink, words, marks, g, o, x, probe, thick_max, bit);
-    let walk = cut_on(ink, words, marks, g, o, probe, thick_max, bit);
+    let found = cut_run(ink, words, t, o, x, probe);
+    let walk = cut_on(ink, words, t, o, probe);
     Walk {
         to: walk.to,
         found: found | walk.found,
@@ -177,24 +165,14 @@ fn mark_from(
 }
 
 // The thin dots of a run, from place `from` up to `to`.
-fn cut_run(
-    ink: &[u8],
-    words: &mut [u32],
-    marks: usize,
-    g: Sweep,
-    o: usize,
-    from: usize,
-    to: usize,
-    thick_max: u32,
-    bit: u32,
-) -> bool
-    requires { ⌜ (Laid g (length (now ink))) × (o < g .outer) × (from ≤ to) × (to ≤ g .inner) × (bit ≤ 2) × (Unmarked g (length (now ink)) (drop marks (now words)) (o * g .inner + from)) × (Cached g (now ink) o (take marks (now words))) × (marks ≤ length (now words)) ⌝ }
-    ensures { λ r. ⌜ (Marked g (length (now (ink .entry))) (isThin g (now (ink .entry)) «thick_max») bit (drop marks (now (words .entry))) (drop marks (now (words .exit))) (o * g .inner + from) (o * g .inner + to)) × (Cached g (now (ink .entry)) o (take marks (now (words .exit)))) × (r ≡ false → drop marks (now (words .exit)) ≡ drop marks (now (words .entry))) ⌝ }
+fn cut_run(ink: &[u8], words: &mut [u32], t: Rulings, o: usize, from: usize, to: usize) -> bool
+    requires { ⌜ (Laid (t .sweep) (length (now ink))) × (o < t .sweep .outer) × (from ≤ to) × (to ≤ t .sweep .inner) × (Unmarked (t .sweep) (length (now ink)) (drop (t .marks) (now words)) (o * t .sweep .inner + from)) × (Cached (t .sweep) (now ink) (t .«thick_max») o (take (t .marks) (now words))) × (t .marks ≤ length (now words)) ⌝ }
+    ensures { λ r. ⌜ (Marked (t .sweep) (length (now (ink .entry))) (isThin (t .sweep) (now (ink .entry)) (t .«thick_max»)) 1 (drop (t .marks) (now (words .entry))) (drop (t .marks) (now (words .exit))) (o * t .sweep .inner + from) (o * t .sweep .inner + to)) × (Cached (t .sweep) (now (ink .entry)) (t .«thick_max») o (take (t .marks) (now (words .exit)))) × (r ≡ false → drop (t .marks) (now (words .exit)) ≡ drop (t .marks) (now (words .entry))) ⌝ }
 {
     let mut found = false;
     let mut i = from;
     while i < to {
-        let here = cut_dot(ink, words, marks, g, i, o, thick_max, bit);
+        let here = cut_dot(ink, words, t, i, o);
         found = found | here;
         i += 1;
     }
@@ -202,27 +180,18 @@ fn cut_run(
 }
 
 // The thin dots of the run that goes on at `from`, up to its end, which is told: each place is looked at once.
-fn cut_on(
-    ink: &[u8],
-    words: &mut [u32],
-    marks: usize,
-    g: Sweep,
-    o: usize,
-    from: usize,
-    thick_max: u32,
-    bit: u32,
-) -> Walk
-    requires { ⌜ (Laid g (length (now ink))) × (o < g .outer) × (from ≤ g .inner) × (bit ≤ 2) × (Unmarked g (length (now ink)) (drop marks (now words)) (o * g .inner + from)) × (Cached g (now ink) o (take marks (now words))) × (marks ≤ length (now words)) ⌝ }
-    ensures { λ r. ⌜ (ScannedTo (widenedScanline g (now (ink .entry)) o) true from (g .inner) (r .to)) × (Marked g (length (now (ink .entry))) (isThin g (now (ink .entry)) «thick_max») bit (drop marks (now (words .entry))) (drop marks (now (words .exit))) (o * g .inner + from) (o * g .inner + r .to)) × (Cached g (now (ink .entry)) o (take marks (now (words .exit)))) × (r .found ≡ false → drop marks (now (words .exit)) ≡ drop marks (now (words .entry))) ⌝ }
+fn cut_on(ink: &[u8], words: &mut [u32], t: Rulings, o: usize, from: usize) -> Walk
+    requires { ⌜ (Laid (t .sweep) (length (now ink))) × (o < t .sweep .outer) × (from ≤ t .sweep .inner) × (Unmarked (t .sweep) (length (now ink)) (drop (t .marks) (now words)) (o * t .sweep .inner + from)) × (Cached (t .sweep) (now ink) (t .«thick_max») o (take (t .marks) (now words))) × (t .marks ≤ length (now words)) ⌝ }
+    ensures { λ r. ⌜ (ScannedTo (widenedScanline (t .sweep) (now (ink .entry)) o) true from (t .sweep .inner) (r .to)) × (Marked (t .sweep) (length (now (ink .entry))) (isThin (t .sweep) (now (ink .entry)) (t .«thick_max»)) 1 (drop (t .marks) (now (words .entry))) (drop (t .marks) (now (words .exit))) (o * t .sweep .inner + from) (o * t .sweep .inner + r .to)) × (Cached (t .sweep) (now (ink .entry)) (t .«thick_max») o (take (t .marks) (now (words .exit)))) × (r .found ≡ false → drop (t .marks) (now (words .exit)) ≡ drop (t .marks) (now (words .entry))) ⌝ }
 {
-    let inner = g.inner;
+    let inner = t.sweep.inner;
     let mut found = false;
     let mut i = from;
     while i < inner {
-        if !is_widened(ink, g, i, o) {
+        if !is_widened(ink, t.sweep, i, o) {
             return Walk { to: i, found };
         }
-        let here = cut_dot(ink, words, marks, g, i, o, thick_max, bit);
+        let here = cut_dot(ink, words, t, i, o);
         found = found | here;
         i += 1;
     }
@@ -230,77 +199,72 @@ fn cut_on(
 }
 
 // One dot, marked where it is ink and thin across.
-fn cut_dot(
-    ink: &[u8],
-    words: &mut [u32],
-    marks: usize,
-    g: Sweep,
-    i: usize,
-    o: usize,
-    thick_max: u32,
-    bit: u32,
-) -> bool
-    requires { ⌜ (Laid g (length (now ink))) × (i < g .inner) × (o < g .outer) × (bit ≤ 2) × (length (now ink) ≤ length (drop marks (now words))) × (getD (drop marks (now words)) (spotOf g i o) 0 ≤ 2) × (Cached g (now ink) o (take marks (now words))) × (marks ≤ length (now words)) ⌝ }
-    ensures { λ r. ⌜ (drop marks (now (words .exit)) ≡ cond (isThin g (now (ink .entry)) «thick_max» i o) (set (drop marks (now (words .entry))) (spotOf g i o) (getD (drop marks (now (words .entry))) (spotOf g i o) 0 + bit)) (drop marks (now (words .entry)))) × (Cached g (now (ink .entry)) o (take marks (now (words .exit)))) × (r ≡ false → drop marks (now (words .exit)) ≡ drop marks (now (words .entry))) ⌝ }
+fn cut_dot(ink: &[u8], words: &mut [u32], t: Rulings, i: usize, o: usize) -> bool
+    requires { ⌜ (Laid (t .sweep) (length (now ink))) × (i < t .sweep .inner) × (o < t .sweep .outer) × (length (now ink) ≤ length (drop (t .marks) (now words))) × (getD (drop (t .marks) (now words)) (spotOf (t .sweep) i o) 0 ≤ 2) × (Cached (t .sweep) (now ink) (t .«thick_max») o (take (t .marks) (now words))) × (t .marks ≤ length (now words)) ⌝ }
+    ensures { λ r. ⌜ (drop (t .marks) (now (words .exit)) ≡ cond (isThin (t .sweep) (now (ink .entry)) (t .«thick_max») i o) (set (drop (t .marks) (now (words .entry))) (spotOf (t .sweep) i o) (getD (drop (t .marks) (now (words .entry))) (spotOf (t .sweep) i o) 0 + 1)) (drop (t .marks) (now (words .entry)))) × (Cached (t .sweep) (now (ink .entry)) (t .«thick_max») o (take (t .marks) (now (words .exit)))) × (r ≡ false → drop (t .marks) (now (words .exit)) ≡ drop (t .marks) (now (words .entry))) ⌝ }
 {
-    if is_ink(ink, g, i, o) {
-        let thickness = extent_across(ink, &mut words[0..marks], g, i, o);
-        if thickness <= thick_max {
-            let at = marks + spot(g, i, o);
-            words[at] = words[at] + bit;
+    let marks = t.marks;
+    if is_ink(ink, t.sweep, i, o) {
+        let thickness = extent_across(ink, &mut words[0..marks], t.sweep, i, o, t.thick_max);
+        if thickness <= t.thick_max {
+            let at = marks + spot(t.sweep, i, o);
+            words[at] = words[at] + 1;
             return true;
         }
     }
     false
 }
 
-// The extent of an ink dot across its scanline. Each run across is walked once: its end and its extent are kept by place.
-fn extent_across(ink: &[u8], cache: &mut [u32], g: Sweep, i: usize, o: usize) -> u32
-    requires { ⌜ (Laid g (length (now ink))) × (i < g .inner) × (o < g .outer) × (planeOf g (now ink) i o ≡ true) × (Cached g (now ink) o (now cache)) ⌝ }
-    ensures { λ r. ⌜ (r ≡ extent (planeOf g (now (ink .entry)) i) (g .outer) o) × (Cached g (now (ink .entry)) o (now (cache .exit))) ⌝ }
+// The extent of an ink dot across its scanline, where it is at most thick_max, else more than thick_max. No more than thick_max dots on
+// either side are looked at; how far they go on and the extent are kept by place, for the scanlines that follow.
+fn extent_across(ink: &[u8], cache: &mut [u32], g: Sweep, i: usize, o: usize, thick_max: u32) -> u32
+    requires { ⌜ (Laid g (length (now ink))) × (i < g .inner) × (o < g .outer) × (planeOf g (now ink) i o ≡ true) × (Cached g (now ink) «thick_max» o (now cache)) ⌝ }
+    ensures { λ r. ⌜ (leb r «thick_max» ≡ leb (extent (planeOf g (now (ink .entry)) i) (g .outer) o) «thick_max») × (Cached g (now (ink .entry)) «thick_max» o (now (cache .exit))) ⌝ }
 {
     let inner = g.inner;
     let kept = cache[i] as usize;
     if o < kept {
         return cache[inner + i];
     }
-    let first = first_scanline(ink, g, i, o);
-    let end = end_scanline(ink, g, i, o + 1);
-    let thickness = capped(end - first);
-    cache[i] = end as u32;
+    let most = thick_max as usize;
+    let before = ink_before(ink, g, i, o, most);
+    let after = ink_after(ink, g, i, o + 1, most);
+    let thickness = capped(before + 1 + after);
+    cache[i] = (o + 1 + after) as u32;
     cache[inner + i] = thickness;
     thickness
 }
 
-// The first scanline of the run of ink across that ends before scanline o.
-fn first_scanline(ink: &[u8], g: Sweep, i: usize, o: usize) -> usize
+// How many ink dots in a row end before scanline o at place i, of at most `most`.
+pub fn ink_before(ink: &[u8], g: Sweep, i: usize, o: usize, most: usize) -> usize
     requires { ⌜ (Laid g (length (now ink))) × (i < g .inner) × (o < g .outer) ⌝ }
-    ensures { λ r. ⌜ ScannedBack (planeOf g (now (ink .entry)) i) 0 o r ⌝ }
+    ensures { λ r. ⌜ r ≡ min (behind (planeOf g (now (ink .entry)) i) o) most ⌝ }
 {
-    let mut s = o;
-    while 0 < s {
-        if !is_ink(ink, g, i, s - 1) {
-            return s;
+    let end = min_usize(most, o);
+    let mut n: usize = 0;
+    while n < end {
+        if !is_ink(ink, g, i, o - 1 - n) {
+            return n;
         }
-        s -= 1;
+        n += 1;
     }
-    s
+    n
 }
 
-// The first scanline from o on without ink at place i.
-fn end_scanline(ink: &[u8], g: Sweep, i: usize, o: usize) -> usize
+// How many in a row from scanline o on, of at most `most`.
+pub fn ink_after(ink: &[u8], g: Sweep, i: usize, o: usize, most: usize) -> usize
     requires { ⌜ (Laid g (length (now ink))) × (i < g .inner) × (o ≤ g .outer) ⌝ }
-    ensures { λ r. ⌜ ScannedTo (planeOf g (now (ink .entry)) i) true o (g .outer) r ⌝ }
+    ensures { λ r. ⌜ r ≡ min (ahead (planeOf g (now (ink .entry)) i) o (g .outer - o)) most ⌝ }
 {
-    let outer = g.outer;
-    let mut e = o;
-    while e < outer {
-        if !is_ink(ink, g, i, e) {
-            return e;
+    let end = min_usize(most, g.outer - o);
+    let mut n: usize = 0;
+    while n < end {
+        if !is_ink(ink, g, i, o + n) {
+            return n;
         }
-        e += 1;
+        n += 1;
     }
-    e
+    n
 }
 
 // The first place, from `from` on, of the widened run that ends before `to`.

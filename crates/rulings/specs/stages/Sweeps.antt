@@ -55,10 +55,10 @@ pub record ScannedBack (p : ℕ → Bool) (from to r : ℕ) : Type 0 where
   pub all : (k : ℕ) → r ≤ k → k < to → p k ≡ true
   pub stop : (k : ℕ) → from ≤ k → k + 1 ≡ r → p k ≡ false
 
--- for each place the end and the extent of the run across that was met last: they hold from scanline o on
-pub record Cached (g : Sweep) (m : List ℕ) (o : ℕ) (cache : List ℕ) : Type 0 where
+-- for each place how far the run across that was met last is known to go on, and an extent that is as thick or thin: they hold from scanline o on
+pub record Cached (g : Sweep) (m : List ℕ) (thick-max o : ℕ) (cache : List ℕ) : Type 0 where
   pub room : g .inner + g .inner ≤ length cache
-  pub told : (i q : ℕ) → i < g .inner → o ≤ q → q < getD cache i 0 → getD cache (g .inner + i) 0 ≡ extent (planeOf g m i) (g .outer) q
+  pub told : (i q : ℕ) → i < g .inner → o ≤ q → q < getD cache i 0 → leb (getD cache (g .inner + i) 0) thick-max ≡ leb (extent (planeOf g m i) (g .outer) q) thick-max
 
 -- marks before and after: v more at the dots that pass the test, of those from the c-th up to the d-th, counted scanline by scanline
 pub record Marked (g : Sweep) (n : ℕ) (p : Plane) (v : ℕ) (before after : List ℕ) (c d : ℕ) : Type 0 where

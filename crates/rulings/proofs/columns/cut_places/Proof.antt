@@ -11,22 +11,22 @@ use Rattle.rulings.proofs.columns.cut_places.Statement.{statement}
 use Rattle.rulings.proofs.columns.cut_places.Tie as tie
 
 abbrev Inv-loop : tie.InvT-loop
-Inv-loop ink words₀ marks g o from to thick-max found₀ i₀ words found i = (from ≤ i) × (i ≤ to) × (Marked g (length ink) (isThin g ink thick-max) 2 (drop marks words₀) (drop marks words) (o * g .inner + from) (o * g .inner + i)) × (take marks words ≡ take marks words₀) × (length words ≡ length words₀) × (found ≡ false → drop marks words ≡ drop marks words₀)
+Inv-loop ink words₀ t o from to found₀ i₀ words found i = (from ≤ i) × (i ≤ to) × (Marked (t .sweep) (length ink) (isThin (t .sweep) ink (t .«thick_max»)) 2 (drop (t .marks) words₀) (drop (t .marks) words) (o * t .sweep .inner + from) (o * t .sweep .inner + i)) × (take (t .marks) words ≡ take (t .marks) words₀) × (length words ≡ length words₀) × (found ≡ false → drop (t .marks) words ≡ drop (t .marks) words₀)
 
 abbrev μ-loop : tie.MeasureT-loop
-μ-loop ink words₀ marks g o from to thick-max found₀ i₀ words found i = to - i
+μ-loop ink words₀ t o from to found₀ i₀ words found i = to - i
 
 loop-holds : tie.Need-loop-holds Inv-loop μ-loop
 loop-holds c =
     let a = (c .before .before) .args in
-    (le-refl _, omega arith, marked-none (a .g) (length (a .ink .now)) (isThin (a .g) (a .ink .now) (a .thick-max)) 2 (drop (a .marks) (a .words .now)) _ _ (λ i j li lj x y. absurd (omega arith)), refl, refl, λ e. refl)
+    (le-refl _, omega arith, marked-none (a .t .sweep) (length (a .ink .now)) (isThin (a .t .sweep) (a .ink .now) (a .t .«thick_max»)) 2 (drop (a .t .marks) (a .words .now)) _ _ (λ i j li lj x y. absurd (omega arith)), refl, refl, λ e. refl)
 
 cut-place-requires : tie.Need-cut-place-requires Inv-loop μ-loop
 cut-place-requires c κs =
     let a = (c .before .before .before .before .before) .args in
     let p = (c .before .before .before .before .before) .pre in
     let l = (c .before .before .loop) in
-    (p .0, omega arith, p .1, marked-more (a .g) (length (a .ink .now)) (isThin (a .g) (a .ink .now) (a .thick-max)) 8 (a .o * a .g .inner + a .from) (a .o * a .g .inner + l .i) (drop (a .marks) (a .words .now)) (drop (a .marks) (l .words)) (l .inv .2) (p .4), omega (arith, l .inv .4, p .5))
+    (p .0, omega arith, p .1, marked-more (a .t .sweep) (length (a .ink .now)) (isThin (a .t .sweep) (a .ink .now) (a .t .«thick_max»)) 8 (a .o * a .t .sweep .inner + a .from) (a .o * a .t .sweep .inner + l .i) (drop (a .t .marks) (a .words .now)) (drop (a .t .marks) (l .words)) (l .inv .2) (p .4), omega (arith, l .inv .4, p .5))
 
 add-i : tie.Need-add-i Inv-loop μ-loop
 add-i c = omega arith
@@ -41,10 +41,10 @@ loop-again c =
     let l = (c .before .before .before .before .before .loop) in (
       omega arith,
       omega arith,
-      run-loop (a .g) (length (a .ink .now)) (isThin (a .g) (a .ink .now) (a .thick-max)) 2 (drop (a .marks) (a .words .now)) (drop (a .marks) (l .words)) _ (a .from) (l .i) (a .o) (p .0) (l .inv .0) (omega arith) (p .1) (p .4 .room) (l .inv .2) ((c .before .before .cut-place) .ensures .0),
+      run-loop (a .t .sweep) (length (a .ink .now)) (isThin (a .t .sweep) (a .ink .now) (a .t .«thick_max»)) 2 (drop (a .t .marks) (a .words .now)) (drop (a .t .marks) (l .words)) _ (a .from) (l .i) (a .o) (p .0) (l .inv .0) (omega arith) (p .1) (p .4 .room) (l .inv .2) ((c .before .before .cut-place) .ensures .0),
       (c .before .before .cut-place) .ensures .1 ∙ l .inv .3,
       omega arith,
-      still-both (l .found) ((c .before .before .cut-place) .result) _ (drop (a .marks) (l .words)) _ (l .inv .5) ((c .before .before .cut-place) .ensures .2),
+      still-both (l .found) ((c .before .before .cut-place) .result) _ (drop (a .t .marks) (l .words)) _ (l .inv .5) ((c .before .before .cut-place) .ensures .2),
     )
 
 same-length : tie.Need-same-length Inv-loop μ-loop
@@ -55,7 +55,7 @@ returns c =
     let a = (c .before .before .before .before) .args in
     let l = (c .before .loop) in
     let e : l .i ≡ a .to = omega arith in
-    (subst (λ k. Marked (a .g) (length (a .ink .now)) (isThin (a .g) (a .ink .now) (a .thick-max)) 2 (drop (a .marks) (a .words .now)) (drop (a .marks) (l .words)) (a .o * a .g .inner + a .from) (a .o * a .g .inner + k)) e (l .inv .2), l .inv .3, l .inv .5)
+    (subst (λ k. Marked (a .t .sweep) (length (a .ink .now)) (isThin (a .t .sweep) (a .ink .now) (a .t .«thick_max»)) 2 (drop (a .t .marks) (a .words .now)) (drop (a .t .marks) (l .words)) (a .o * a .t .sweep .inner + a .from) (a .o * a .t .sweep .inner + k)) e (l .inv .2), l .inv .3, l .inv .5)
 
 pub cut-places-spec : {M : Type 1} → statement M
 cut-places-spec =

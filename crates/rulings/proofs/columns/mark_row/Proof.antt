@@ -21,8 +21,8 @@ mark-reached-requires c κs =
     let p = (c .before .before .before .before .before .before .before .before .before .before) .pre in
     let t = (c .before .before .before .before .before .before .count-row) .last .1 .0 in
     let R = (c .before .before .before .before .before .before .count-row) .ensures in
-    let D : drop (a .marks) t ≡ drop (a .marks) (a .words .now) = within-drop {a = a .a} {e = a .b} (record { len = ((c .before .before .before .before .before .words) .given); before = R .below; past = R .above }) (a .marks) (omega arith) in
-    (p .0, p .2, p .3, p .4, p .5, subst (λ r. UpTo (a .g) (length (a .ink .now)) r 6) (sym D) (p .6), recounted-counted (a .g) (a .ink .now) (a .a) (a .b) (a .y) (a .words .now) t R, p .8, omega (arith, (c .before .before .before .before .before .words) .given, p .9))
+    let D : drop (a .t .marks) t ≡ drop (a .t .marks) (a .words .now) = within-drop {a = a .a} {e = a .b} (record { len = ((c .before .before .before .before .before .words) .given); before = R .below; past = R .above }) (a .t .marks) (omega arith) in
+    (p .0, p .2, p .3, p .4, p .5, subst (λ r. UpTo (a .t .sweep) (length (a .ink .now)) r 6) (sym D) (p .6), recounted-counted (a .t .sweep) (a .ink .now) (a .a) (a .b) (a .y) (a .words .now) t R, p .8, omega (arith, (c .before .before .before .before .before .words) .given, p .9))
 
 same-length : tie.Need-same-length
 same-length c = search needs
@@ -33,10 +33,10 @@ returns c =
     let p = (c .before .before .before .before .before .before .before .before .before .before .before .before .before) .pre in
     let t = (c .before .before .before .before .before .before .before .before .before .count-row) .last .1 .0 in
     let R = (c .before .before .before .before .before .before .before .before .before .count-row) .ensures in
-    let D : drop (a .marks) t ≡ drop (a .marks) (a .words .now) = within-drop {a = a .a} {e = a .b} (record { len = ((c .before .before .before .before .before .before .before .before .words) .given); before = R .below; past = R .above }) (a .marks) (omega arith) in
+    let D : drop (a .t .marks) t ≡ drop (a .t .marks) (a .words .now) = within-drop {a = a .a} {e = a .b} (record { len = ((c .before .before .before .before .before .before .before .before .words) .given); before = R .below; past = R .above }) (a .t .marks) (omega arith) in
     let M = (c .before .before .mark-reached) .ensures in (
-      subst (λ r. Risen (a .g) (a .ink .now) (a .run-min) (a .thick-max) (a .a) (a .b) (a .y) (a .y + 1) r (drop (a .marks) ((c .before .before .mark-reached) .last .1 .0))) D (M .0),
-      counted-kept (a .g) (a .ink .now) (a .a) (a .b) (a .y + 1) (a .marks) t ((c .before .before .mark-reached) .last .1 .0) (omega arith) (M .1) (recounted-counted (a .g) (a .ink .now) (a .a) (a .b) (a .y) (a .words .now) t R),
+      subst (λ r. Risen (a .t .sweep) (a .ink .now) (a .t .«run_min») (a .t .«thick_max») (a .a) (a .b) (a .y) (a .y + 1) r (drop (a .t .marks) ((c .before .before .mark-reached) .last .1 .0))) D (M .0),
+      counted-kept (a .t .sweep) (a .ink .now) (a .a) (a .b) (a .y + 1) (a .t .marks) t ((c .before .before .mark-reached) .last .1 .0) (omega arith) (M .1) (recounted-counted (a .t .sweep) (a .ink .now) (a .a) (a .b) (a .y) (a .words .now) t R),
       λ e. M .2 e ∙ D,
     )
 
@@ -49,10 +49,10 @@ returns-2 c =
     let p = (c .before .before .before .before .before .before .before .before .before) .pre in
     let t = (c .before .before .before .before .before .count-row) .last .1 .0 in
     let R = (c .before .before .before .before .before .count-row) .ensures in
-    let D : drop (a .marks) t ≡ drop (a .marks) (a .words .now) = within-drop {a = a .a} {e = a .b} (record { len = ((c .before .before .before .before .words) .given); before = R .below; past = R .above }) (a .marks) (omega arith) in (
-      subst (λ r. Risen (a .g) (a .ink .now) (a .run-min) (a .thick-max) (a .a) (a .b) (a .y) (a .y + 1) (drop (a .marks) (a .words .now)) r) (sym D)
-          (risen-still (a .g) (a .ink .now) (a .run-min) (a .thick-max) (a .a) (a .b) (a .y) (drop (a .marks) (a .words .now)) (λ o h k. let x = R .inside o h k in let z = (c .before .any-reached) .ensures ((c .if1) .left) o h k in omega arith)),
-      recounted-counted (a .g) (a .ink .now) (a .a) (a .b) (a .y) (a .words .now) t R,
+    let D : drop (a .t .marks) t ≡ drop (a .t .marks) (a .words .now) = within-drop {a = a .a} {e = a .b} (record { len = ((c .before .before .before .before .words) .given); before = R .below; past = R .above }) (a .t .marks) (omega arith) in (
+      subst (λ r. Risen (a .t .sweep) (a .ink .now) (a .t .«run_min») (a .t .«thick_max») (a .a) (a .b) (a .y) (a .y + 1) (drop (a .t .marks) (a .words .now)) r) (sym D)
+          (risen-still (a .t .sweep) (a .ink .now) (a .t .«run_min») (a .t .«thick_max») (a .a) (a .b) (a .y) (drop (a .t .marks) (a .words .now)) (λ o h k. let x = R .inside o h k in let z = (c .before .any-reached) .ensures ((c .if1) .left) o h k in omega arith)),
+      recounted-counted (a .t .sweep) (a .ink .now) (a .a) (a .b) (a .y) (a .words .now) t R,
       λ e. D,
     )
 

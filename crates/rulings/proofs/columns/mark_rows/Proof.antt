@@ -12,10 +12,10 @@ use Rattle.rulings.proofs.columns.mark_rows.Statement.{statement}
 use Rattle.rulings.proofs.columns.mark_rows.Tie as tie
 
 abbrev Inv-loop : tie.InvT-loop
-Inv-loop ink words₀ marks g a b run-min thick-max inner found₀ y₀ words found y = (y ≤ g .inner) × (Risen g ink run-min thick-max a b 0 y (drop marks words₀) (drop marks words)) × (Counted g ink a b y words) × (length words ≡ length words₀) × (found ≡ false → drop marks words ≡ drop marks words₀)
+Inv-loop ink words₀ t a b inner found₀ y₀ words found y = (y ≤ t .sweep .inner) × (Risen (t .sweep) ink (t .«run_min») (t .«thick_max») a b 0 y (drop (t .marks) words₀) (drop (t .marks) words)) × (Counted (t .sweep) ink a b y words) × (length words ≡ length words₀) × (found ≡ false → drop (t .marks) words ≡ drop (t .marks) words₀)
 
 abbrev μ-loop : tie.MeasureT-loop
-μ-loop ink words₀ marks g a b run-min thick-max inner found₀ y₀ words found y = g .inner - y
+μ-loop ink words₀ t a b inner found₀ y₀ words found y = t .sweep .inner - y
 
 mul-fill-words : tie.Need-mul-fill-words Inv-loop μ-loop
 mul-fill-words c = omega arith
@@ -38,7 +38,7 @@ loop-holds c =
     let p = (c .before .before .before .before .before .before) .pre in
     let s = putMid (a .a) (a .b - a .a) (a .words .now) ((c .before .before .fill-words) .last .0) in
     let f = stored-filled 0 (a .a) (a .b) (a .words .now) ((c .before .before .fill-words) .last .0) (omega arith) (omega arith) ((c .before .before .fill-words) .ensures) in
-    (omega arith, risen-none (a .g) (a .ink .now) (a .run-min) (a .thick-max) (a .a) (a .b) 0 (drop (a .marks) s), counted-zero (a .g) (a .ink .now) (a .a) (a .b) s (λ o k b. stored-at f o k (omega arith)), refl, λ e. refl)
+    (omega arith, risen-none (a .t .sweep) (a .ink .now) (a .t .«run_min») (a .t .«thick_max») (a .a) (a .b) 0 (drop (a .t .marks) s), counted-zero (a .t .sweep) (a .ink .now) (a .a) (a .b) s (λ o k b. stored-at f o k (omega arith)), refl, λ e. refl)
 
 mark-row-requires : tie.Need-mark-row-requires Inv-loop μ-loop
 mark-row-requires c κs =
@@ -46,7 +46,7 @@ mark-row-requires c κs =
     let p = (c .before .before .before .before .before .before .before .before .before) .pre in
     let s = putMid (a .a) (a .b - a .a) (a .words .now) ((c .before .before .before .before .before .fill-words) .last .0) in
     let f = stored-filled 0 (a .a) (a .b) (a .words .now) ((c .before .before .before .before .before .fill-words) .last .0) (omega arith) (omega arith) ((c .before .before .before .before .before .fill-words) .ensures) in
-    let D : drop (a .marks) s ≡ drop (a .marks) (a .words .now) = within-drop (f .within) (a .marks) (omega arith) in
+    let D : drop (a .t .marks) s ≡ drop (a .t .marks) (a .words .now) = within-drop (f .within) (a .t .marks) (omega arith) in
     let l = (c .before .before .loop) in (
       p .0,
       p .1,
@@ -54,7 +54,7 @@ mark-row-requires c κs =
       p .3,
       omega arith,
       p .4,
-      risen-small (a .g) (a .ink .now) (a .run-min) (a .thick-max) (a .a) (a .b) 0 (l .y) 4 (drop (a .marks) s) (drop (a .marks) (l .words)) (l .inv .1) (subst (λ r. UpTo (a .g) (length (a .ink .now)) r 4) (sym D) (p .5)),
+      risen-small (a .t .sweep) (a .ink .now) (a .t .«run_min») (a .t .«thick_max») (a .a) (a .b) 0 (l .y) 4 (drop (a .t .marks) s) (drop (a .t .marks) (l .words)) (l .inv .1) (subst (λ r. UpTo (a .t .sweep) (length (a .ink .now)) r 4) (sym D) (p .5)),
       l .inv .2,
       p .6,
       omega (arith, l .inv .3, f .within .len, p .7),
@@ -74,10 +74,10 @@ loop-again c =
     let f = stored-filled 0 (a .a) (a .b) (a .words .now) ((c .before .before .before .before .before .before .before .before .fill-words) .last .0) (omega arith) (omega arith) ((c .before .before .before .before .before .before .before .before .fill-words) .ensures) in
     let l = (c .before .before .before .before .before .loop) in (
       omega arith,
-      risen-places (a .g) (a .ink .now) (a .run-min) (a .thick-max) (a .a) (a .b) 0 (l .y) (l .y + 1) (drop (a .marks) s) (drop (a .marks) (l .words)) _ (l .inv .1) ((c .before .before .mark-row) .ensures .0),
+      risen-places (a .t .sweep) (a .ink .now) (a .t .«run_min») (a .t .«thick_max») (a .a) (a .b) 0 (l .y) (l .y + 1) (drop (a .t .marks) s) (drop (a .t .marks) (l .words)) _ (l .inv .1) ((c .before .before .mark-row) .ensures .0),
       (c .before .before .mark-row) .ensures .1,
       omega arith,
-      still-both (l .found) ((c .before .before .mark-row) .result) _ (drop (a .marks) (l .words)) _ (l .inv .4) ((c .before .before .mark-row) .ensures .2),
+      still-both (l .found) ((c .before .before .mark-row) .result) _ (drop (a .t .marks) (l .words)) _ (l .inv .4) ((c .before .before .mark-row) .ensures .2),
     )
 
 same-length : tie.Need-same-length Inv-loop μ-loop
@@ -94,11 +94,11 @@ returns c =
     let p = (c .before .before .before .before .before .before .before .before) .pre in
     let s = putMid (a .a) (a .b - a .a) (a .words .now) ((c .before .before .before .before .fill-words) .last .0) in
     let f = stored-filled 0 (a .a) (a .b) (a .words .now) ((c .before .before .before .before .fill-words) .last .0) (omega arith) (omega arith) ((c .before .before .before .before .fill-words) .ensures) in
-    let D : drop (a .marks) s ≡ drop (a .marks) (a .words .now) = within-drop (f .within) (a .marks) (omega arith) in
+    let D : drop (a .t .marks) s ≡ drop (a .t .marks) (a .words .now) = within-drop (f .within) (a .t .marks) (omega arith) in
     let l = (c .before .loop) in
-    let e : l .y ≡ a .g .inner = omega arith in
-    let M = subst (λ k. Risen (a .g) (a .ink .now) (a .run-min) (a .thick-max) (a .a) (a .b) 0 k (drop (a .marks) s) (drop (a .marks) (l .words))) e (l .inv .1) in
-    (subst (λ r. Risen (a .g) (a .ink .now) (a .run-min) (a .thick-max) (a .a) (a .b) 0 (a .g .inner) r (drop (a .marks) (l .words))) D M, λ e. l .inv .4 e ∙ D)
+    let e : l .y ≡ a .t .sweep .inner = omega arith in
+    let M = subst (λ k. Risen (a .t .sweep) (a .ink .now) (a .t .«run_min») (a .t .«thick_max») (a .a) (a .b) 0 k (drop (a .t .marks) s) (drop (a .t .marks) (l .words))) e (l .inv .1) in
+    (subst (λ r. Risen (a .t .sweep) (a .ink .now) (a .t .«run_min») (a .t .«thick_max») (a .a) (a .b) 0 (a .t .sweep .inner) r (drop (a .t .marks) (l .words))) D M, λ e. l .inv .4 e ∙ D)
 
 pub mark-rows-spec : {M : Type 1} → statement M
 mark-rows-spec =

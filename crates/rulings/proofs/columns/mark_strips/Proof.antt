@@ -6,6 +6,9 @@ use borrow.Author.Needs.{needs}
 use Rattle.rulings.proofs.columns.mark_strips.Statement.{statement}
 use Rattle.rulings.proofs.columns.mark_strips.Tie as tie
 
+cast-least : tie.Need-cast-least
+cast-least c = search needs
+
 chunk-end-requires : tie.Need-chunk-end-requires
 chunk-end-requires c κs = search needs
 
@@ -14,8 +17,8 @@ any-long-run-requires c κs = search needs
 
 returns : tie.Need-returns
 returns c =
-    let a = (c .before .before .before .before .before) .args in
-    ((c .before .before .chunk-end) .ensures .0, (c .before .before .chunk-end) .ensures .1, risen-short (a .g) (a .ink .now) (a .run-min) (a .thick-max) (a .a) _ (drop (a .marks) (a .words .now)) ((c .before .any-long-run) .ensures (not-true _ ((c .if1) .taken))), λ e. refl)
+    let a = (c .before .before .before .before .before .before) .args in
+    ((c .before .before .chunk-end) .ensures .0, (c .before .before .chunk-end) .ensures .1, risen-short (a .t .sweep) (a .ink .now) (a .t .«run_min») (a .t .«thick_max») (a .a) _ (drop (a .t .marks) (a .words .now)) ((c .before .any-long-run) .ensures (not-true _ ((c .if1) .taken))), λ e. refl)
 
 long-end-requires : tie.Need-long-end-requires
 long-end-requires c κs = search needs
@@ -33,6 +36,7 @@ pub mark-strips-spec : {M : Type 1} → statement M
 mark-strips-spec =
     tie.close
     (tie.spec
+    cast-least
     chunk-end-requires
     any-long-run-requires
     returns

@@ -11,15 +11,15 @@ use Rattle.rulings.proofs.scanlines.cut_on.Statement.{statement}
 use Rattle.rulings.proofs.scanlines.cut_on.Tie as tie
 
 abbrev Inv-loop : tie.InvT-loop
-Inv-loop ink words₀ marks g o from thick-max bit inner found₀ i₀ words found i = (from ≤ i) × (i ≤ g .inner) × ((k : ℕ) → from ≤ k → k < i → widenedScanline g ink o k ≡ true) × (Marked g (length ink) (isThin g ink thick-max) bit (drop marks words₀) (drop marks words) (o * g .inner + from) (o * g .inner + i)) × (Cached g ink o (take marks words)) × (length words ≡ length words₀) × (found ≡ false → drop marks words ≡ drop marks words₀)
+Inv-loop ink words₀ t o from inner found₀ i₀ words found i = (from ≤ i) × (i ≤ t .sweep .inner) × ((k : ℕ) → from ≤ k → k < i → widenedScanline (t .sweep) ink o k ≡ true) × (Marked (t .sweep) (length ink) (isThin (t .sweep) ink (t .«thick_max»)) 1 (drop (t .marks) words₀) (drop (t .marks) words) (o * t .sweep .inner + from) (o * t .sweep .inner + i)) × (Cached (t .sweep) ink (t .«thick_max») o (take (t .marks) words)) × (length words ≡ length words₀) × (found ≡ false → drop (t .marks) words ≡ drop (t .marks) words₀)
 
 abbrev μ-loop : tie.MeasureT-loop
-μ-loop ink words₀ marks g o from thick-max bit inner found₀ i₀ words found i = g .inner - i
+μ-loop ink words₀ t o from inner found₀ i₀ words found i = t .sweep .inner - i
 
 loop-holds : tie.Need-loop-holds Inv-loop μ-loop
 loop-holds c =
     let p = (c .before .before) .pre in let a = (c .before .before) .args in
-    (le-refl _, p .2, scan-none (widenedScanline (a .g) (a .ink .now) (a .o)) true (a .from), marked-none (a .g) (length (a .ink .now)) (isThin (a .g) (a .ink .now) (a .thick-max)) (a .bit) (drop (a .marks) (a .words .now)) _ _ (λ i j li lj x y. absurd (omega arith)), p .5, refl, λ e. refl)
+    (le-refl _, p .2, scan-none (widenedScanline (a .t .sweep) (a .ink .now) (a .o)) true (a .from), marked-none (a .t .sweep) (length (a .ink .now)) (isThin (a .t .sweep) (a .ink .now) (a .t .«thick_max»)) 1 (drop (a .t .marks) (a .words .now)) _ _ (λ i j li lj x y. absurd (omega arith)), p .4, refl, λ e. refl)
 
 is-widened-requires : tie.Need-is-widened-requires Inv-loop μ-loop
 is-widened-requires c κs = let p = (c .before .before .before .before) .pre in let a = (c .before .before .before .before) .args in (p .0, omega arith, p .1)
@@ -36,8 +36,8 @@ cut-dot-requires : tie.Need-cut-dot-requires Inv-loop μ-loop
 cut-dot-requires c κs =
     let p = (c .before .before .before .before .before .before .before) .pre in let a = (c .before .before .before .before .before .before .before) .args in
     let l = (c .before .before .before .before .loop) in
-    let u = unmarked-later (a .g) (length (a .ink .now)) (isThin (a .g) (a .ink .now) (a .thick-max)) (a .bit) (drop (a .marks) (a .words .now)) (drop (a .marks) (l .words)) (a .o * a .g .inner + a .from) (a .o * a .g .inner + l .i) (omega arith) (l .inv .3) (p .4) in
-    (p .0, omega arith, p .1, p .3, u .room, u .small (l .i) (a .o) (omega arith) (p .1) (le-refl _), l .inv .4, omega (arith, l .inv .5, p .6))
+    let u = unmarked-later (a .t .sweep) (length (a .ink .now)) (isThin (a .t .sweep) (a .ink .now) (a .t .«thick_max»)) 1 (drop (a .t .marks) (a .words .now)) (drop (a .t .marks) (l .words)) (a .o * a .t .sweep .inner + a .from) (a .o * a .t .sweep .inner + l .i) (omega arith) (l .inv .3) (p .3) in
+    (p .0, omega arith, p .1, u .room, u .small (l .i) (a .o) (omega arith) (p .1) (le-refl _), l .inv .4, omega (arith, l .inv .5, p .5))
 
 add-i : tie.Need-add-i Inv-loop μ-loop
 add-i c = omega arith
@@ -51,11 +51,11 @@ loop-again c =
     let l = (c .before .before .before .before .before .before .before .loop) in (
       omega arith,
       omega arith,
-      scan-more (widenedScanline (a .g) (a .ink .now) (a .o)) true (a .from) (l .i) (l .inv .2) (test-on _ _ ((c .before .before .before .before .before .is-widened) .ensures) ((c .before .before .before .before .if1) .left)),
-      run-loop (a .g) (length (a .ink .now)) (isThin (a .g) (a .ink .now) (a .thick-max)) (a .bit) (drop (a .marks) (a .words .now)) (drop (a .marks) (l .words)) _ (a .from) (l .i) (a .o) (p .0) (l .inv .0) (omega arith) (p .1) (p .4 .room) (l .inv .3) ((c .before .before .cut-dot) .ensures .0),
+      scan-more (widenedScanline (a .t .sweep) (a .ink .now) (a .o)) true (a .from) (l .i) (l .inv .2) (test-on _ _ ((c .before .before .before .before .before .is-widened) .ensures) ((c .before .before .before .before .if1) .left)),
+      run-loop (a .t .sweep) (length (a .ink .now)) (isThin (a .t .sweep) (a .ink .now) (a .t .«thick_max»)) 1 (drop (a .t .marks) (a .words .now)) (drop (a .t .marks) (l .words)) _ (a .from) (l .i) (a .o) (p .0) (l .inv .0) (omega arith) (p .1) (p .3 .room) (l .inv .3) ((c .before .before .cut-dot) .ensures .0),
       (c .before .before .cut-dot) .ensures .1,
       omega arith,
-      still-both (l .found) ((c .before .before .cut-dot) .result) _ (drop (a .marks) (l .words)) _ (l .inv .6) ((c .before .before .cut-dot) .ensures .2),
+      still-both (l .found) ((c .before .before .cut-dot) .result) _ (drop (a .t .marks) (l .words)) _ (l .inv .6) ((c .before .before .cut-dot) .ensures .2),
     )
 
 same-length-2 : tie.Need-same-length-2 Inv-loop μ-loop

@@ -10,23 +10,23 @@ use Rattle.rulings.proofs.scanlines.cut_run.Statement.{statement}
 use Rattle.rulings.proofs.scanlines.cut_run.Tie as tie
 
 abbrev Inv-loop : tie.InvT-loop
-Inv-loop ink words₀ marks g o from to thick-max bit found₀ i₀ words found i = (from ≤ i) × (i ≤ to) × (Marked g (length ink) (isThin g ink thick-max) bit (drop marks words₀) (drop marks words) (o * g .inner + from) (o * g .inner + i)) × (Cached g ink o (take marks words)) × (length words ≡ length words₀) × (found ≡ false → drop marks words ≡ drop marks words₀)
+Inv-loop ink words₀ t o from to found₀ i₀ words found i = (from ≤ i) × (i ≤ to) × (Marked (t .sweep) (length ink) (isThin (t .sweep) ink (t .«thick_max»)) 1 (drop (t .marks) words₀) (drop (t .marks) words) (o * t .sweep .inner + from) (o * t .sweep .inner + i)) × (Cached (t .sweep) ink (t .«thick_max») o (take (t .marks) words)) × (length words ≡ length words₀) × (found ≡ false → drop (t .marks) words ≡ drop (t .marks) words₀)
 
 abbrev μ-loop : tie.MeasureT-loop
-μ-loop ink words₀ marks g o from to thick-max bit found₀ i₀ words found i = to - i
+μ-loop ink words₀ t o from to found₀ i₀ words found i = to - i
 
 loop-holds : tie.Need-loop-holds Inv-loop μ-loop
 loop-holds c =
     let a = (c .before .before) .args in
-    (le-refl _, omega arith, marked-none (a .g) (length (a .ink .now)) (isThin (a .g) (a .ink .now) (a .thick-max)) (a .bit) (drop (a .marks) (a .words .now)) _ _ (λ i j li lj x y. absurd (omega arith)), (c .before .before) .pre .6, refl, λ e. refl)
+    (le-refl _, omega arith, marked-none (a .t .sweep) (length (a .ink .now)) (isThin (a .t .sweep) (a .ink .now) (a .t .«thick_max»)) 1 (drop (a .t .marks) (a .words .now)) _ _ (λ i j li lj x y. absurd (omega arith)), (c .before .before) .pre .5, refl, λ e. refl)
 
 cut-dot-requires : tie.Need-cut-dot-requires Inv-loop μ-loop
 cut-dot-requires c κs =
     let p = (c .before .before .before .before .before) .pre in
     let a = (c .before .before .before .before .before) .args in
     let l = (c .before .before .loop) in
-    let u = unmarked-later (a .g) (length (a .ink .now)) (isThin (a .g) (a .ink .now) (a .thick-max)) (a .bit) (drop (a .marks) (a .words .now)) (drop (a .marks) (l .words)) (a .o * a .g .inner + a .from) (a .o * a .g .inner + l .i) (omega arith) (l .inv .2) (p .5) in
-    (p .0, omega arith, p .1, p .4, u .room, u .small (l .i) (a .o) (omega arith) (p .1) (le-refl _), l .inv .3, omega (arith, l .inv .4, p .7))
+    let u = unmarked-later (a .t .sweep) (length (a .ink .now)) (isThin (a .t .sweep) (a .ink .now) (a .t .«thick_max»)) 1 (drop (a .t .marks) (a .words .now)) (drop (a .t .marks) (l .words)) (a .o * a .t .sweep .inner + a .from) (a .o * a .t .sweep .inner + l .i) (omega arith) (l .inv .2) (p .4) in
+    (p .0, omega arith, p .1, u .room, u .small (l .i) (a .o) (omega arith) (p .1) (le-refl _), l .inv .3, omega (arith, l .inv .4, p .6))
 
 add-i : tie.Need-add-i Inv-loop μ-loop
 add-i c = omega arith
@@ -41,10 +41,10 @@ loop-again c =
     let l = (c .before .before .before .before .before .loop) in (
       omega arith,
       omega arith,
-      run-loop (a .g) (length (a .ink .now)) (isThin (a .g) (a .ink .now) (a .thick-max)) (a .bit) (drop (a .marks) (a .words .now)) (drop (a .marks) (l .words)) _ (a .from) (l .i) (a .o) (p .0) (l .inv .0) (omega arith) (p .1) (p .5 .room) (l .inv .2) ((c .before .before .cut-dot) .ensures .0),
+      run-loop (a .t .sweep) (length (a .ink .now)) (isThin (a .t .sweep) (a .ink .now) (a .t .«thick_max»)) 1 (drop (a .t .marks) (a .words .now)) (drop (a .t .marks) (l .words)) _ (a .from) (l .i) (a .o) (p .0) (l .inv .0) (omega arith) (p .1) (p .4 .room) (l .inv .2) ((c .before .before .cut-dot) .ensures .0),
       (c .before .before .cut-dot) .ensures .1,
       omega arith,
-      still-both (l .found) ((c .before .before .cut-dot) .result) _ (drop (a .marks) (l .words)) _ (l .inv .5) ((c .before .before .cut-dot) .ensures .2),
+      still-both (l .found) ((c .before .before .cut-dot) .result) _ (drop (a .t .marks) (l .words)) _ (l .inv .5) ((c .before .before .cut-dot) .ensures .2),
     )
 
 same-length : tie.Need-same-length Inv-loop μ-loop
@@ -55,7 +55,7 @@ returns c =
     let a = (c .before .before .before .before) .args in
     let l = (c .before .loop) in
     let e : l .i ≡ a .to = omega arith in
-    (subst (λ k. Marked (a .g) (length (a .ink .now)) (isThin (a .g) (a .ink .now) (a .thick-max)) (a .bit) (drop (a .marks) (a .words .now)) (drop (a .marks) (l .words)) (a .o * a .g .inner + a .from) (a .o * a .g .inner + k)) e (l .inv .2), l .inv .3, l .inv .5)
+    (subst (λ k. Marked (a .t .sweep) (length (a .ink .now)) (isThin (a .t .sweep) (a .ink .now) (a .t .«thick_max»)) 1 (drop (a .t .marks) (a .words .now)) (drop (a .t .marks) (l .words)) (a .o * a .t .sweep .inner + a .from) (a .o * a .t .sweep .inner + k)) e (l .inv .2), l .inv .3, l .inv .5)
 
 pub cut-run-spec : {M : Type 1} → statement M
 cut-run-spec =

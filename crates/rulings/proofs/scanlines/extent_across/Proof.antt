@@ -1,8 +1,13 @@
 use native.Mathlib.Omega.{arith}
-use mathlib.Core.Path.{sym, _∙_}
+use mathlib.Core.Path.{_≡_, ap, _∙_}
+use Prim.Native.Nat.{_+_, _-_}
 use native.Mathlib.Nat.{le-refl}
 use lib.ListN.{length-set}
-use Rattle.rulings.proofs.SweepLaws.{run-extent, cached-run}
+use lib.Dec.{leb}
+use Rattle.extents.specs.rules.Extents.{extent}
+use Rattle.rulings.specs.stages.Sweeps.{planeOf}
+use Rattle.extents.proofs.RunLaws.{behind-le, ahead-le}
+use Rattle.rulings.proofs.SweepLaws.{run-thin, cached-run}
 use borrow.Author.Needs.{needs}
 use Rattle.rulings.proofs.scanlines.extent_across.Statement.{statement}
 use Rattle.rulings.proofs.scanlines.extent_across.Tie as tie
@@ -28,23 +33,68 @@ slice-read-result c = search needs
 returns : tie.Need-returns
 returns c = let p = c .before .before .before .before .before .pre in (p .4 .told (c .before .before .before .before .before .args .i) (c .before .before .before .before .before .args .o) (p .1) (le-refl _) (c .before .if1 .taken), p .4)
 
-first-scanline-requires : tie.Need-first-scanline-requires
-first-scanline-requires c κs = search needs
+ink-before-requires : tie.Need-ink-before-requires
+ink-before-requires c κs = search needs
 
-add-end-scanline : tie.Need-add-end-scanline
-add-end-scanline c = search needs
+add-ink-after : tie.Need-add-ink-after
+add-ink-after c = search needs
 
-end-scanline-requires : tie.Need-end-scanline-requires
-end-scanline-requires c κs = search needs
+ink-after-requires : tie.Need-ink-after-requires
+ink-after-requires c κs = search needs
 
-sub-capped : tie.Need-sub-capped
-sub-capped c = search needs
+add-capped : tie.Need-add-capped
+add-capped c =
+    let a = c .before .before .before .before .before .before .args in
+    let p = c .before .before .before .before .before .before .pre in
+    let l = p .0 .low in
+    let x = behind-le (planeOf (a .g) (a .ink .now) (a .i)) (a .o) in
+    let y = ahead-le (planeOf (a .g) (a .ink .now) (a .i)) (a .o + 1) (a .g .outer - (a .o + 1)) in
+    omega (arith, c .before .ink-before .ensures, c .ink-after .ensures)
+
+add-capped-2 : tie.Need-add-capped-2
+add-capped-2 c =
+    let a = c .before .before .before .before .before .before .args in
+    let p = c .before .before .before .before .before .before .pre in
+    let l = p .0 .low in
+    let x = behind-le (planeOf (a .g) (a .ink .now) (a .i)) (a .o) in
+    let y = ahead-le (planeOf (a .g) (a .ink .now) (a .i)) (a .o + 1) (a .g .outer - (a .o + 1)) in
+    omega (arith, c .before .ink-before .ensures, c .ink-after .ensures)
 
 capped-requires : tie.Need-capped-requires
-capped-requires c κs = search needs
+capped-requires c κs =
+    let a = c .before .before .before .before .before .before .args in
+    let p = c .before .before .before .before .before .before .pre in
+    let l = p .0 .low in
+    let x = behind-le (planeOf (a .g) (a .ink .now) (a .i)) (a .o) in
+    let y = ahead-le (planeOf (a .g) (a .ink .now) (a .i)) (a .o + 1) (a .g .outer - (a .o + 1)) in
+    omega (arith, c .before .ink-before .ensures, c .ink-after .ensures)
+
+add-cache : tie.Need-add-cache
+add-cache c =
+    let a = c .before .before .before .before .before .before .before .args in
+    let p = c .before .before .before .before .before .before .before .pre in
+    let l = p .0 .low in
+    let x = behind-le (planeOf (a .g) (a .ink .now) (a .i)) (a .o) in
+    let y = ahead-le (planeOf (a .g) (a .ink .now) (a .i)) (a .o + 1) (a .g .outer - (a .o + 1)) in
+    omega (arith, c .before .before .ink-before .ensures, c .before .ink-after .ensures)
+
+add-cache-2 : tie.Need-add-cache-2
+add-cache-2 c =
+    let a = c .before .before .before .before .before .before .before .args in
+    let p = c .before .before .before .before .before .before .before .pre in
+    let l = p .0 .low in
+    let x = behind-le (planeOf (a .g) (a .ink .now) (a .i)) (a .o) in
+    let y = ahead-le (planeOf (a .g) (a .ink .now) (a .i)) (a .o + 1) (a .g .outer - (a .o + 1)) in
+    omega (arith, c .before .before .ink-before .ensures, c .before .ink-after .ensures)
 
 cast-cache : tie.Need-cast-cache
-cast-cache c = search needs
+cast-cache c =
+    let a = c .before .before .before .before .before .before .before .args in
+    let p = c .before .before .before .before .before .before .before .pre in
+    let l = p .0 .low in
+    let x = behind-le (planeOf (a .g) (a .ink .now) (a .i)) (a .o) in
+    let y = ahead-le (planeOf (a .g) (a .ink .now) (a .i)) (a .o + 1) (a .g .outer - (a .o + 1)) in
+    omega (arith, c .before .before .ink-before .ensures, c .before .ink-after .ensures)
 
 mul-cache : tie.Need-mul-cache
 mul-cache c = search needs
@@ -52,8 +102,8 @@ mul-cache c = search needs
 slice-write-cache : tie.Need-slice-write-cache
 slice-write-cache c = search needs
 
-add-cache : tie.Need-add-cache
-add-cache c = search needs
+add-cache-3 : tie.Need-add-cache-3
+add-cache-3 c = search needs
 
 mul-cache-2 : tie.Need-mul-cache-2
 mul-cache-2 c = search needs
@@ -66,12 +116,12 @@ same-length c = search needs
 
 returns-2 : tie.Need-returns-2
 returns-2 c =
-    let p = c .before .before .before .before .before .before .before .pre in
     let a = c .before .before .before .before .before .before .before .args in
-    let B = c .before .before .first-scanline .ensures in
-    let E = c .before .end-scanline .ensures in (
-      c .capped .ensures ∙ sym (run-extent (a .g) (a .ink .now) (a .i) (a .o) (c .before .before .first-scanline .result) (c .before .end-scanline .result) (p .3) B E (a .o) (B .high) (let l = E .low in omega arith)),
-      cached-run (a .g) (a .ink .now) (a .i) (a .o) (c .before .before .first-scanline .result) (c .before .end-scanline .result) (p .3) B E (a .cache .now) (c .capped .result) (p .1) (c .capped .ensures) (p .4),
+    let p = c .before .before .before .before .before .before .before .pre in
+    let z : a .o + 0 ≡ a .o = omega arith in (
+      run-thin (a .g) (a .ink .now) (a .thick-max) (a .i) (a .o) (c .before .before .ink-before .result) (c .before .ink-after .result) (p .2) (p .3) (c .before .before .ink-before .ensures) (c .before .ink-after .ensures) (c .capped .result) 0 (c .capped .ensures) (omega arith)
+          ∙ ap (λ k. leb (extent (planeOf (a .g) (a .ink .now) (a .i)) (a .g .outer) k) (a .thick-max)) z,
+      cached-run (a .g) (a .ink .now) (a .thick-max) (a .i) (a .o) (c .before .before .ink-before .result) (c .before .ink-after .result) (p .2) (p .3) (c .before .before .ink-before .ensures) (c .before .ink-after .ensures) (a .cache .now) (c .capped .result) (p .1) (c .capped .ensures) (p .4),
     )
 
 pub extent-across-spec : {M : Type 1} → statement M
@@ -85,15 +135,18 @@ extent-across-spec =
     mul-result
     slice-read-result
     returns
-    first-scanline-requires
-    add-end-scanline
-    end-scanline-requires
-    sub-capped
+    ink-before-requires
+    add-ink-after
+    ink-after-requires
+    add-capped
+    add-capped-2
     capped-requires
+    add-cache
+    add-cache-2
     cast-cache
     mul-cache
     slice-write-cache
-    add-cache
+    add-cache-3
     mul-cache-2
     slice-write-cache-2
     same-length

@@ -41,7 +41,7 @@ mark-columns-requires c κs =
     let p = (c .before .before .before .before .before .before .before .before .before) .pre .0 in
     let f = marks-cleared (a .marks) ((c .before .before .before .before .before .before .area) .result) (a .width * a .height) (a .words .now) ((c .before .before .before .before .fill-words) .last .0) ((c .before .before .before .before .before .before .area) .ensures) (p .plane .room) (p .before) ((c .before .before .before .before .fill-words) .ensures) in
     let L = fit-down (a .width) (a .height) _ _ (p .plane) in
-    subst (λ (g : Sweep). (Laid g (length (a .ink .now))) × (g .across ≡ 1) × (0 < a .run-min) × (UpTo g (length (a .ink .now)) (drop (a .marks) (putMid (a .marks) (a .marks + (c .before .before .before .before .before .before .area) .result - a .marks) (a .words .now) ((c .before .before .before .before .fill-words) .last .0))) 2) × (g .outer ≤ a .marks) × (a .marks ≤ length (putMid (a .marks) (a .marks + (c .before .before .before .before .before .before .area) .result - a .marks) (a .words .now) ((c .before .before .before .before .fill-words) .last .0)))) (sym ((c .down) .ensures)) (
+    subst (λ (g : Sweep). (Laid g (length (a .ink .now))) × (g .across ≡ 1) × (0 < a .run-min) × (UpTo g (length (a .ink .now)) (drop (a .marks) (putMid (a .marks) (a .marks + (c .before .before .before .before .before .before .area) .result - a .marks) (a .words .now) ((c .before .before .before .before .fill-words) .last .0))) 2) × (g .outer ≤ a .marks) × (a .marks ≤ length (putMid (a .marks) (a .marks + (c .before .before .before .before .before .before .area) .result - a .marks) (a .words .now) ((c .before .before .before .before .fill-words) .last .0)))) (sym ((c .before .down) .ensures)) (
       L,
       refl,
       omega (arith, (c .before .before .before .before .before .before .before .before .before) .pre .1),
@@ -59,12 +59,10 @@ mark-scanlines-requires c κs =
     let p = (c .before .before .before .before .before .before .before .before .before .before .before .before .before .before) .pre .0 in
     let f = marks-cleared (a .marks) ((c .before .before .before .before .before .before .before .before .before .before .before .area) .result) (a .width * a .height) (a .words .now) ((c .before .before .before .before .before .before .before .before .before .fill-words) .last .0) ((c .before .before .before .before .before .before .before .before .before .before .before .area) .ensures) (p .plane .room) (p .before) ((c .before .before .before .before .before .before .before .before .before .fill-words) .ensures) in
     let L = fit-across (a .width) (a .height) _ _ (p .plane) in
-    let A = subst (λ (g : Sweep). Marked g (length (a .ink .now)) (isRuling g (a .ink .now) (a .run-min) (a .thick-max)) 2 (drop (a .marks) (putMid (a .marks) (a .marks + (c .before .before .before .before .before .before .before .before .before .before .before .area) .result - a .marks) (a .words .now) ((c .before .before .before .before .before .before .before .before .before .fill-words) .last .0))) (drop (a .marks) ((c .before .before .before .before .mark-columns) .last .1 .0)) 0 (g .outer * g .inner)) ((c .before .before .before .before .before .down) .ensures) ((c .before .before .before .before .mark-columns) .ensures .0) in
-    subst (λ (g : Sweep). (Laid g (length (a .ink .now))) × (0 < a .run-min) × (a .run-min ≤ 4294967295) × (1 ≤ 2) × (Unmarked g (length (a .ink .now)) (drop (a .marks) ((c .before .before .before .before .mark-columns) .last .1 .0)) 0) × (g .inner + g .inner ≤ a .marks) × (a .marks ≤ length ((c .before .before .before .before .mark-columns) .last .1 .0))) (sym ((c .across) .ensures)) (
+    let A = subst (λ (g : Sweep). Marked g (length (a .ink .now)) (isRuling g (a .ink .now) (a .run-min) (a .thick-max)) 2 (drop (a .marks) (putMid (a .marks) (a .marks + (c .before .before .before .before .before .before .before .before .before .before .before .area) .result - a .marks) (a .words .now) ((c .before .before .before .before .before .before .before .before .before .fill-words) .last .0))) (drop (a .marks) ((c .before .before .before .before .mark-columns) .last .1 .0)) 0 (g .outer * g .inner)) ((c .before .before .before .before .before .before .down) .ensures) ((c .before .before .before .before .mark-columns) .ensures .0) in
+    subst (λ (g : Sweep). (Laid g (length (a .ink .now))) × (0 < a .run-min) × (Unmarked g (length (a .ink .now)) (drop (a .marks) ((c .before .before .before .before .mark-columns) .last .1 .0)) 0) × (g .inner + g .inner ≤ a .marks) × (a .marks ≤ length ((c .before .before .before .before .mark-columns) .last .1 .0))) (sym ((c .before .across) .ensures)) (
       L,
       omega (arith, (c .before .before .before .before .before .before .before .before .before .before .before .before .before .before) .pre .1),
-      omega (arith, (c .before .before .before .before .before .before .before .before .before .before .before .before .before .before) .fits .run-min .fits),
-      omega arith,
       unmarked-all _ (length (a .ink .now)) (drop (a .marks) ((c .before .before .before .before .mark-columns) .last .1 .0)) L (omega (arith, A .size, f .room, p .plane .dots)) (marked-small (a .run-min) (a .thick-max) (a .width) (a .height) (a .ink .now) (p .plane .wide) (p .plane .dots) _ (drop (a .marks) ((c .before .before .before .before .mark-columns) .last .1 .0)) (f .zeros) A),
       p .across,
       omega (arith, (c .before .before .before .words2) .given, f .size, p .before),
@@ -78,8 +76,8 @@ returns c =
     let a = (c .before .before .before .before .before .before .before .before .before .before .before .before .before .before .before .before .before) .args in
     let p = (c .before .before .before .before .before .before .before .before .before .before .before .before .before .before .before .before .before) .pre .0 in
     let f = marks-cleared (a .marks) ((c .before .before .before .before .before .before .before .before .before .before .before .before .before .before .area) .result) (a .width * a .height) (a .words .now) ((c .before .before .before .before .before .before .before .before .before .before .before .before .fill-words) .last .0) ((c .before .before .before .before .before .before .before .before .before .before .before .before .before .before .area) .ensures) (p .plane .room) (p .before) ((c .before .before .before .before .before .before .before .before .before .before .before .before .fill-words) .ensures) in
-    let A = subst (λ (g : Sweep). Marked g (length (a .ink .now)) (isRuling g (a .ink .now) (a .run-min) (a .thick-max)) 2 (drop (a .marks) (putMid (a .marks) (a .marks + (c .before .before .before .before .before .before .before .before .before .before .before .before .before .before .area) .result - a .marks) (a .words .now) ((c .before .before .before .before .before .before .before .before .before .before .before .before .fill-words) .last .0))) (drop (a .marks) ((c .before .before .before .before .before .before .before .mark-columns) .last .1 .0)) 0 (g .outer * g .inner)) ((c .before .before .before .before .before .before .before .before .down) .ensures) ((c .before .before .before .before .before .before .before .mark-columns) .ensures .0) in
-    let B = subst (λ (g : Sweep). Marked g (length (a .ink .now)) (isRuling g (a .ink .now) (a .run-min) (a .thick-max)) 1 (drop (a .marks) ((c .before .before .before .before .before .before .before .mark-columns) .last .1 .0)) (drop (a .marks) ((c .before .before .mark-scanlines) .last .1 .0)) 0 (g .outer * g .inner)) ((c .before .before .before .across) .ensures) ((c .before .before .mark-scanlines) .ensures .0) in
+    let A = subst (λ (g : Sweep). Marked g (length (a .ink .now)) (isRuling g (a .ink .now) (a .run-min) (a .thick-max)) 2 (drop (a .marks) (putMid (a .marks) (a .marks + (c .before .before .before .before .before .before .before .before .before .before .before .before .before .before .area) .result - a .marks) (a .words .now) ((c .before .before .before .before .before .before .before .before .before .before .before .before .fill-words) .last .0))) (drop (a .marks) ((c .before .before .before .before .before .before .before .mark-columns) .last .1 .0)) 0 (g .outer * g .inner)) ((c .before .before .before .before .before .before .before .before .before .down) .ensures) ((c .before .before .before .before .before .before .before .mark-columns) .ensures .0) in
+    let B = subst (λ (g : Sweep). Marked g (length (a .ink .now)) (isRuling g (a .ink .now) (a .run-min) (a .thick-max)) 1 (drop (a .marks) ((c .before .before .before .before .before .before .before .mark-columns) .last .1 .0)) (drop (a .marks) ((c .before .before .mark-scanlines) .last .1 .0)) 0 (g .outer * g .inner)) ((c .before .before .before .before .across) .ensures) ((c .before .before .mark-scanlines) .ensures .0) in
     record {
       len = (c .before .words3) .given ∙ ((c .before .before .before .before .before .before .words2) .given ∙ f .size);
       marked = rulings-marked (a .run-min) (a .thick-max) (a .width) (a .height) (a .ink .now) (p .plane .wide) (p .plane .dots) (drop (a .marks) (a .words .now)) _ (drop (a .marks) ((c .before .before .before .before .before .before .before .mark-columns) .last .1 .0)) (drop (a .marks) ((c .before .before .mark-scanlines) .last .1 .0)) (omega (arith, p .plane .room, length-drop (a .marks) (a .words .now))) (f .behind) (f .zeros) (f .past) A B;

@@ -5,8 +5,8 @@ use Rattle.extents.specs.rules.Extents.{ahead}
 use Rattle.rulings.specs.stages.Sweeps.{planeOf}
 use Rattle.rulings.proofs.SweepLaws.{test-off, test-on}
 use Rattle.rulings.proofs.ColumnLaws.{ahead-blank, ahead-ended, ahead-step}
-use Rattle.rulings.proofs.columns.ink_after.Statement.{statement}
-use Rattle.rulings.proofs.columns.ink_after.Tie as tie
+use Rattle.rulings.proofs.scanlines.ink_after.Statement.{statement}
+use Rattle.rulings.proofs.scanlines.ink_after.Tie as tie
 
 abbrev Inv-loop : tie.InvT-loop
 Inv-loop ink g i o most end n₀ n = (n ≤ end) × (ahead (planeOf g ink i) o (g .outer - o) ≡ n + ahead (planeOf g ink i) (o + n) (g .outer - o - n))

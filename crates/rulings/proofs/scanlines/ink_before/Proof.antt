@@ -5,8 +5,8 @@ use Rattle.extents.specs.rules.Extents.{behind}
 use Rattle.rulings.specs.stages.Sweeps.{planeOf}
 use Rattle.rulings.proofs.SweepLaws.{test-off, test-on}
 use Rattle.rulings.proofs.ColumnLaws.{behind-blank, behind-ended, behind-step}
-use Rattle.rulings.proofs.columns.ink_before.Statement.{statement}
-use Rattle.rulings.proofs.columns.ink_before.Tie as tie
+use Rattle.rulings.proofs.scanlines.ink_before.Statement.{statement}
+use Rattle.rulings.proofs.scanlines.ink_before.Tie as tie
 
 abbrev Inv-loop : tie.InvT-loop
 Inv-loop ink g i o most end n₀ n = (n ≤ end) × (behind (planeOf g ink i) o ≡ n + behind (planeOf g ink i) (o - n))
