@@ -2,7 +2,7 @@
 use mathlib.Core.Path.{_≡_, refl, sym, ap, _∙_, subst}
 use mathlib.Core.List.{List, [], _∷_, _++_, map, append-assoc, append-nil, map-append, map-map, map-congr-left}
 use mathlib.Core.Bool.{Bool, true, false, not, Bool·beq}
-use Prim.Native.Nat.{ℕ, zero, suc, _+_, _-_, _%_, _≤_, _<_, min}
+use Prim.Native.Nat.{ℕ, zero, suc, _+_, _-_, _*_, _%_, _≤_, _<_, min}
 use native.Mathlib.Nat.{le-refl}
 use native.Mathlib.Numerals.{add-one}
 use native.Mathlib.Decide.{ℕ-discrete}
@@ -11,6 +11,7 @@ use lib.ListN.{getD, length, set, take, drop, length-set, length-map, length-app
 use lib.Seq.{length-take-le, getD-set-same, getD-set-other, take-all, take-take, drop-drop, drop-set-lt}
 use lib.Dec.{ltb}
 use mir.Val.{boolByte}
+use Rattle.memory.specs.rules.Limits.{maxMaskDots}
 use Rattle.memory.specs.rules.Masks.{isInk}
 use Rattle.labelling.specs.stages.InkRuns.{inkBefore, differ, appendIf, turns}
 use Rattle.labelling.specs.stages.Extraction.{RowScan, ScanRoom, Scanned, TurnsTold, toldTurns, ToldRoom, ToldWritten}
@@ -104,6 +105,40 @@ module _ {told : List ℕ} {i start : ℕ} {s₀ s : List ℕ} {at k : ℕ} (S :
               ∙ (drop-drop 1 (at + i) s₀ ∙ ap (λ z. drop z s₀) (let e : at + i + 1 ≡ at + (i + 1) = omega arith in e)))));
           rest = rest-on s s₀ (suc k) (suc (k + getD told i 0)) k (start + i) (omega arith) (omega arith) (S .rest);
         }
+
+    -- what writing dot i asks, and what is written then
+    pub written-asks : (i < 32) × (getD told i 0 ≤ 1) × (start + i ≤ maxMaskDots) × (k < length s)
+    written-asks = let f = A .few in let d = A .dots in (omega arith, A .bits i l, omega arith, written-room)
+
+    written-on : (m : ℕ) → m ≡ i + 1 → {s' : List ℕ} {r : ℕ} → (s' ≡ set s k (start + i)) × (r ≡ k + getD told i 0) → ToldWritten told m start s₀ s' at r
+    written-on m e {s'} {r} x =
+        subst (λ z. ToldWritten told z start s₀ s' at r) (sym e)
+        (subst (λ z. ToldWritten told (i + 1) start s₀ s' at z) (sym (x .1))
+        (subst (λ z. ToldWritten told (i + 1) start s₀ z at (k + getD told i 0)) (sym (x .0)) written-more))
+
+-- dot i is written to word k, and the next to word r
+abbrev pub TurnWritten : List ℕ → ℕ → ℕ → List ℕ → ℕ → List ℕ → ℕ → Type 0
+TurnWritten told i start s k s' r = (s' ≡ set s k (start + i)) × (r ≡ k + getD told i 0)
+
+pub four-inside : {i n : ℕ} → ((q : ℕ) × (i ≡ 4 * q)) → n ≡ 32 → i < n → i + 3 < n
+four-inside {i} {n} f e l = let q = f .0 in let g : i ≡ 4 * q = f .1 in omega arith
+
+-- four dots one after the other
+module _ {told : List ℕ} {i start : ℕ} {s₀ s : List ℕ} {at k n : ℕ} (S : ToldWritten told i start s₀ s at k) (A : ToldRoom told n start s₀ at) (h : i + 3 < n)
+    {s₁ : List ℕ} {k₁ : ℕ} (x₁ : TurnWritten told i start s k s₁ k₁) where
+  pub written-one : ToldWritten told (i + 1) start s₀ s₁ at k₁
+  written-one = written-on S A (omega arith) (i + 1) refl x₁
+
+  module _ {s₂ : List ℕ} {k₂ : ℕ} (x₂ : TurnWritten told (i + 1) start s₁ k₁ s₂ k₂) where
+    pub written-two : ToldWritten told (i + 2) start s₀ s₂ at k₂
+    written-two = written-on written-one A (omega arith) (i + 2) (omega arith) x₂
+
+    module _ {s₃ : List ℕ} {k₃ : ℕ} (x₃ : TurnWritten told (i + 2) start s₂ k₂ s₃ k₃) where
+      pub written-three : ToldWritten told (i + 3) start s₀ s₃ at k₃
+      written-three = written-on written-two A (omega arith) (i + 3) (omega arith) x₃
+
+      pub written-four : {s₄ : List ℕ} {k₄ : ℕ} → TurnWritten told (i + 3) start s₃ k₃ s₄ k₄ → ToldWritten told (i + 4) start s₀ s₄ at k₄
+      written-four x₄ = written-on written-three A h (i + 4) (omega arith) x₄
 
 -- what a list keeps of its own start keeps what is written there
 pub written-within : {told : List ℕ} {n start : ℕ} {s s' : List ℕ} {at r : ℕ} → ToldWritten told n start s s' at r → (m : ℕ) → at + n ≤ m

@@ -16,6 +16,13 @@ use union_find::unite;
 // How many runs back a parent is near. One farther off lies in slower memory when the numbering reads it.
 const NEAR: usize = 65536;
 
+// Where a run list lies in its words: c runs are known, their parents begin at the word `parents`, and the rows are w dots wide.
+pub struct RunTable {
+    pub c: usize,
+    pub parents: usize,
+    pub w: usize,
+}
+
 // The first run, from i on, that does not end left of the dot `start`, which is a run's first dot, moved up one row. It is run `to` at the
 // latest, the first of that run's own row, so that no bound is looked at.
 fn skip_left(runs: &[u32], i: usize, to: usize, start: usize) -> usize
@@ -45,23 +52,22 @@ fn join(parents: &mut [u32], member: usize, k: usize) -> usize
 // at the dot `end`, moved up one row.
 fn join_touching(
     words: &mut [u32],
-    c: usize,
-    parents: usize,
-    w: usize,
+    list: RunTable,
     first: usize,
     to: usize,
     j: usize,
     end: usize,
 ) -> usize
-    requires { ⌜ Joinable w c parents (now words) first to j × (first < to) × (startOf (take (2 * c) (now words)) first ≤ end) × (end + w ≡ endOf (take (2 * c) (now words)) 0 j) ⌝ }
-    ensures { λ r. ⌜ Parented w c parents (now (words .entry)) (now (words .exit)) j r ⌝ }
+    requires { ⌜ Joinable (list .w) (list .c) (list .parents) (now words) first to j × (first < to) × (startOf (take (2 * list .c) (now words)) first ≤ end) × (end + list .w ≡ endOf (take (2 * list .c) (now words)) 0 j) ⌝ }
+    ensures { λ r. ⌜ Parented (list .w) (list .c) (list .parents) (now (words .entry)) (now (words .exit)) j r ⌝ }
 {
-    let mut member = wide(words[parents + first]);
+    let mut member = wide(words[list.parents + first]);
     let mut k = first + 1;
     while k < to {
         if end < wide(words[2 * k]) {
             return member;
         }
+        let parents = list.parents;
         member = join(&mut words[parents..], member, k);
         k += 1;
     }
@@ -84,16 +90,14 @@ fn near_parent(words: &[u32], parents: usize, k: usize) -> usize
 // moved up one row.
 fn parent_of(
     words: &mut [u32],
-    c: usize,
-    parents: usize,
-    w: usize,
+    list: RunTable,
     first: usize,
     to: usize,
     j: usize,
     end: usize,
 ) -> usize
-    requires { ⌜ Joinable w c parents (now words) first to j × (end + w ≡ endOf (take (2 * c) (now words)) 0 j) ⌝ }
-    ensures { λ r. ⌜ Parented w c parents (now (words .entry)) (now (words .exit)) j r ⌝ }
+    requires { ⌜ Joinable (list .w) (list .c) (list .parents) (now words) first to j × (end + list .w ≡ endOf (take (2 * list .c) (now words)) 0 j) ⌝ }
+    ensures { λ r. ⌜ Parented (list .w) (list .c) (list .parents) (now (words .entry)) (now (words .exit)) j r ⌝ }
 {
     if to <= first {
         return j;
@@ -103,61 +107,45 @@ fn parent_of(
     }
     let next = first + 1;
     if to <= next {
-        return near_parent(&words[..], parents, first);
+        return near_parent(&words[..], list.parents, first);
     }
     if end < wide(words[2 * next]) {
-        return near_parent(&words[..], parents, first);
+        return near_parent(&words[..], list.parents, first);
     }
-    join_touching(words, c, parents, w, first, to, j, end)
+    join_touching(words, list, first, to, j, end)
 }
 
 // Gives run j its parent, from the runs of the row above, i up to `to`; answers where the next run of the row may look from. Run j is
 // moved up one row, so that it is held against those runs as it is; with none of them left it is its own parent.
-fn link_one(
-    words: &mut [u32],
-    c: usize,
-    parents: usize,
-    w: usize,
-    i: usize,
-    to: usize,
-    j: usize,
-) -> usize
-    requires { ⌜ Linkable w c parents (now words) i to j ⌝ }
-    ensures { λ r. ⌜ LinkedOne w c parents (now (words .entry)) (now (words .exit)) i to j r ⌝ }
+fn link_one(words: &mut [u32], list: RunTable, i: usize, to: usize, j: usize) -> usize
+    requires { ⌜ Linkable (list .w) (list .c) (list .parents) (now words) i to j ⌝ }
+    ensures { λ r. ⌜ LinkedOne (list .w) (list .c) (list .parents) (now (words .entry)) (now (words .exit)) i to j r ⌝ }
 {
     if to <= i {
-        words[parents + j] = j as u32;
+        words[list.parents + j] = j as u32;
         return i;
     }
-    let start = wide(words[2 * j]) - w;
-    let end = wide(words[2 * j + 1]) - w;
+    let start = wide(words[2 * j]) - list.w;
+    let end = wide(words[2 * j + 1]) - list.w;
     let first = skip_left(&words[..], i, to, start);
-    let parent = parent_of(words, c, parents, w, first, to, j, end);
-    words[parents + j] = parent as u32;
+    let parent = parent_of(words, list, first, to, j, end);
+    words[list.parents + j] = parent as u32;
     first
 }
 
 // Gives the runs of a row, those from `here` on that start before dot `limit`, their parents, and answers where they end; the runs of the row
 // above are `above` up to `here`.
-pub fn link_row(
-    words: &mut [u32],
-    c: usize,
-    parents: usize,
-    w: usize,
-    above: usize,
-    here: usize,
-    limit: usize,
-) -> usize
-    requires { ⌜ RowAhead w c parents limit (now words) above here ⌝ }
-    ensures { λ r. ⌜ RowLinked w c parents limit (now (words .entry)) (now (words .exit)) here r ⌝ }
+pub fn link_row(words: &mut [u32], list: RunTable, above: usize, here: usize, limit: usize) -> usize
+    requires { ⌜ RowAhead (list .w) (list .c) (list .parents) limit (now words) above here ⌝ }
+    ensures { λ r. ⌜ RowLinked (list .w) (list .c) (list .parents) limit (now (words .entry)) (now (words .exit)) here r ⌝ }
 {
     let mut i = above;
     let mut j = here;
-    while j < c {
+    while j < list.c {
         if limit <= wide(words[2 * j]) {
             return j;
         }
-        i = link_one(words, c, parents, w, i, here, j);
+        i = link_one(words, list, i, here, j);
         j += 1;
     }
     j
@@ -169,12 +157,17 @@ pub fn link_runs(words: &mut [u32], c: usize, w: usize, h: usize)
     ensures { λ _. ⌜ AllLinked w c (now (words .entry)) (now (words .exit)) ⌝ }
 {
     let parents = 2 * c;
+    let list = RunTable {
+        c: c,
+        parents: parents,
+        w: w,
+    };
     let mut above = 0;
     let mut here = 0;
     let mut base = 0;
     let mut y = 0;
     while y < h {
-        let next = link_row(words, c, parents, w, above, here, base + w);
+        let next = link_row(words, list, above, here, base + w);
         above = here;
         here = next;
         base += w;

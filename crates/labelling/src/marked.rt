@@ -23,6 +23,13 @@ pub enum Test {
     Neither,
 }
 
+// The test of a row's dots: which count, the row's first dot, and the word where the marks of the plane begin.
+pub struct RowTest {
+    pub test: Test,
+    pub base: usize,
+    pub marks: usize,
+}
+
 // 1 where a dot passes, else 0.
 fn passes(test: Test, ink: u8, mark: u32) -> u8
     ensures { λ r. ⌜ r ≡ cond (passes test (ltb 0 ink) mark) 1 0 ⌝ }
@@ -79,25 +86,17 @@ fn count_chunk(test: Test, ink: &[u8], marks: &[u32]) -> u8
 
 // Writes the turns among the dots `from` up to `to` of a row to the words from `at` on, and answers where they end. An odd place is
 // that of a run's end: there the last dot passed. A word is stored at every dot and counts only at a turn.
-fn scan(
-    test: Test,
-    ink: &[u8],
-    from: usize,
-    to: usize,
-    base: usize,
-    words: &mut [u32],
-    at: usize,
-    marks: usize,
-) -> usize
-    requires { ⌜ MarkedScanRoom test (now ink) from to base (now words) at marks ⌝ }
-    ensures { λ r. ⌜ MarkedScanned test (now (ink .entry)) from to base (now (words .entry)) (now (words .exit)) at marks r ⌝ }
+fn scan(row: RowTest, ink: &[u8], from: usize, to: usize, words: &mut [u32], at: usize) -> usize
+    requires { ⌜ MarkedScanRoom (row .test) (now ink) from to (row .base) (now words) at (row .marks) ⌝ }
+    ensures { λ r. ⌜ MarkedScanned (row .test) (now (ink .entry)) from to (row .base) (now (words .entry)) (now (words .exit)) at (row .marks) r ⌝ }
 {
     let mut k = at;
     let mut before = (at % 2) as u8;
     let mut x = from;
     while x < to {
-        let here = passes(test, ink[x], words[marks + base + x]);
-        words[k] = (base + x) as u32;
+        let test = row.test;
+        let here = passes(test, ink[x], words[row.marks + row.base + x]);
+        words[k] = (row.base + x) as u32;
         k += (before != here) as usize;
         before = here;
         x += 1;
@@ -131,59 +130,45 @@ fn tell_chunk(test: Test, ink: &[u8], marks: &[u32], told: &mut [u8; CHUNK])
 
 // The same as `scan` for a chunk of 32 dots, which has no turns where its dots are all as the one before. Else its turns are told at
 // once and then written, as in runs.rt.
-fn scan_chunk(
-    test: Test,
-    ink: &[u8],
-    from: usize,
-    base: usize,
-    words: &mut [u32],
-    at: usize,
-    marks: usize,
-) -> usize
-    requires { ⌜ MarkedScanRoom test (now ink) from (from + 32) base (now words) at marks ⌝ }
-    ensures { λ r. ⌜ MarkedScanned test (now (ink .entry)) from (from + 32) base (now (words .entry)) (now (words .exit)) at marks r ⌝ }
+fn scan_chunk(row: RowTest, ink: &[u8], from: usize, words: &mut [u32], at: usize) -> usize
+    requires { ⌜ MarkedScanRoom (row .test) (now ink) from (from + 32) (row .base) (now words) at (row .marks) ⌝ }
+    ensures { λ r. ⌜ MarkedScanned (row .test) (now (ink .entry)) from (from + 32) (row .base) (now (words .entry)) (now (words .exit)) at (row .marks) r ⌝ }
 {
     let to = from + CHUNK;
-    let first = marks + base + from;
+    let first = row.marks + row.base + from;
     let end = first + CHUNK;
+    let test = row.test;
     let count = count_chunk(test, &ink[from..to], &words[first..end]);
     if count as usize == CHUNK * (at % 2) {
         return at;
     }
     if from == 0 {
-        return scan(test, ink, from, to, base, words, at, marks);
+        return scan(row, ink, from, to, words, at);
     }
     let before = from - 1;
     let mark = first - 1;
     let mut told = [0u8; CHUNK];
     tell_chunk(test, &ink[before..to], &words[mark..end], &mut told);
     let n = min_usize(ink.len() - from, CHUNK);
-    write_turns(&told, n, base + from, words, at)
+    write_turns(&told, n, row.base + from, words, at)
 }
 
-// Writes the turns of a row whose first dot is `base` to the words from `at` on, and answers where they end.
-fn extract_row(
-    test: Test,
-    ink: &[u8],
-    base: usize,
-    words: &mut [u32],
-    at: usize,
-    marks: usize,
-) -> usize
-    requires { ⌜ MarkedRowRoom test (now ink) base (now words) at marks ⌝ }
-    ensures { λ r. ⌜ MarkedRowLeft test (now (ink .entry)) base (now (words .entry)) (now (words .exit)) at marks r ⌝ }
+// Writes the turns of a row to the words from `at` on, and answers where they end.
+fn extract_row(row: RowTest, ink: &[u8], words: &mut [u32], at: usize) -> usize
+    requires { ⌜ MarkedRowRoom (row .test) (now ink) (row .base) (now words) at (row .marks) ⌝ }
+    ensures { λ r. ⌜ MarkedRowLeft (row .test) (now (ink .entry)) (row .base) (now (words .entry)) (now (words .exit)) at (row .marks) r ⌝ }
 {
     let mut k = at;
     let mut x = 0;
     while CHUNK <= ink.len() - x {
-        k = scan_chunk(test, ink, x, base, words, k, marks);
+        k = scan_chunk(row, ink, x, words, k);
         x += CHUNK;
     }
-    k = scan(test, ink, x, ink.len(), base, words, k, marks);
+    k = scan(row, ink, x, ink.len(), words, k);
     if k % 2 == 0 {
         return k;
     }
-    words[k] = (base + ink.len()) as u32;
+    words[k] = (row.base + ink.len()) as u32;
     k + 1
 }
 
@@ -204,7 +189,12 @@ pub fn extract_marked(
     let mut y = 0;
     while y < h {
         let end = base + w;
-        k = extract_row(test, &ink[base..end], base, words, k, marks);
+        let row = RowTest {
+            test: test,
+            base: base,
+            marks: marks,
+        };
+        k = extract_row(row, &ink[base..end], words, k);
         base = end;
         y += 1;
     }

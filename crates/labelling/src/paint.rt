@@ -18,6 +18,12 @@ use memory::wide;
 // How many labels past a run are cleared with it: about what waits to be written while the work goes on.
 const AHEAD: usize = 128;
 
+// So many runs, in rows of w dots.
+pub struct RunRows {
+    pub c: usize,
+    pub w: usize,
+}
+
 // How far painting has come: the next run, how many components it has met, and up to where the labels are cleared.
 pub struct Progress {
     pub next: usize,
@@ -62,17 +68,16 @@ fn paint_run(
 fn paint_span(
     runs: &[u32],
     numbers: &[u32],
-    c: usize,
-    w: usize,
+    rows: RunRows,
     base: usize,
     first: usize,
     cleared: usize,
     labels: &mut [u32],
 ) -> Span
-    requires { ⌜ (2 * c ≤ length (now runs)) × SpanPaintable w c (numbered c (now runs) (now numbers)) (now labels) base first cleared ⌝ }
-    ensures { λ r. ⌜ SpanPainted w c (numbered c (now (runs .entry)) (now (numbers .entry))) (now (labels .entry)) (now (labels .exit)) (base + w) first cleared (r .next) (r .clear) (r .last) (r .dots) (r .sum) ⌝ }
+    requires { ⌜ (2 * rows .c ≤ length (now runs)) × SpanPaintable (rows .w) (rows .c) (numbered (rows .c) (now runs) (now numbers)) (now labels) base first cleared ⌝ }
+    ensures { λ r. ⌜ SpanPainted (rows .w) (rows .c) (numbered (rows .c) (now (runs .entry)) (now (numbers .entry))) (now (labels .entry)) (now (labels .exit)) (base + rows .w) first cleared (r .next) (r .clear) (r .last) (r .dots) (r .sum) ⌝ }
 {
-    let limit = base + w;
+    let limit = base + rows.w;
     let number = numbers[first];
     let start = wide(runs[2 * first]);
     let end = wide(runs[2 * first + 1]);
@@ -81,7 +86,7 @@ fn paint_span(
     let mut dots = end - start;
     let mut sum = column_sum(start - base, last, dots);
     let mut k = first + 1;
-    while goes_on(runs, numbers, c, k, number, limit) {
+    while goes_on(runs, numbers, rows.c, k, number, limit) {
         let from = wide(runs[2 * k]);
         let to = wide(runs[2 * k + 1]);
         clear = paint_run(labels, clear, from, to, limit, number);
@@ -103,22 +108,21 @@ fn paint_span(
 fn paint_row(
     runs: &[u32],
     numbers: &[u32],
-    c: usize,
-    w: usize,
+    rows: RunRows,
     y: usize,
     from: Progress,
     labels: &mut [u32],
     components: &mut [u32],
 ) -> Progress
-    requires { ⌜ (2 * c ≤ length (now runs)) × RowPaintable w c (numbered c (now runs) (now numbers)) (now labels) (now components) y (from .next) (from .count) (from .clear) ⌝ }
-    ensures { λ r. ⌜ RowPainted w c (numbered c (now (runs .entry)) (now (numbers .entry))) (now (labels .entry)) (now (labels .exit)) (now (components .entry)) (now (components .exit)) y (from .next) (from .count) (from .clear) (r .next) (r .count) (r .clear) ⌝ }
+    requires { ⌜ (2 * rows .c ≤ length (now runs)) × RowPaintable (rows .w) (rows .c) (numbered (rows .c) (now runs) (now numbers)) (now labels) (now components) y (from .next) (from .count) (from .clear) ⌝ }
+    ensures { λ r. ⌜ RowPainted (rows .w) (rows .c) (numbered (rows .c) (now (runs .entry)) (now (numbers .entry))) (now (labels .entry)) (now (labels .exit)) (now (components .entry)) (now (components .exit)) y (from .next) (from .count) (from .clear) (r .next) (r .count) (r .clear) ⌝ }
 {
-    let base = y * w;
-    let limit = base + w;
+    let base = y * rows.w;
+    let limit = base + rows.w;
     let mut count = from.count;
     let mut clear = from.clear;
     let mut k = from.next;
-    while k < c {
+    while k < rows.c {
         let start = wide(runs[2 * k]);
         if limit <= start {
             return Progress {
@@ -128,7 +132,7 @@ fn paint_row(
             };
         }
         let number = wide(numbers[k]);
-        let span = paint_span(runs, numbers, c, w, base, k, clear, labels);
+        let span = paint_span(runs, numbers, rows, base, k, clear, labels);
         clear = span.clear;
         k = span.next;
         count = tally_span(components, number, count, start - base, span, y);
@@ -155,6 +159,7 @@ pub fn paint_runs(
     ensures { λ _. ⌜ Painted (numbered c (now (words .entry)) (drop numbers (now (words .entry)))) c (now (labels .entry)) (now (labels .exit)) (w * h) × (now (components .exit) ≡ over (records w c (numbered c (now (words .entry)) (drop numbers (now (words .entry)))) c) (now (components .entry))) ⌝ }
 {
     let dots = w * h;
+    let rows = RunRows { c: c, w: w };
     let mut count = 0;
     let mut k = 0;
     let mut clear = 0;
@@ -165,7 +170,7 @@ pub fn paint_runs(
             count: count,
             clear: clear,
         };
-        let reached = paint_row(words, &words[numbers..], c, w, y, from, labels, components);
+        let reached = paint_row(words, &words[numbers..], rows, y, from, labels, components);
         count = reached.count;
         k = reached.next;
         clear = reached.clear;

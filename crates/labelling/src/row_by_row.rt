@@ -1,5 +1,6 @@
 // Runs and their parents together, row by row: a row's runs are linked while they, and those of the row above, are still near at hand.
 ghost use Rattle.labelling.specs.stages.Linking.{LinkRoom, LinkedRuns};
+use crate::link::RunTable;
 use crate::link::link_row;
 use crate::runs::extract_row;
 
@@ -17,7 +18,12 @@ pub fn extract_linked(mask: &[u8], w: usize, h: usize, words: &mut [u32], parent
     while y < h {
         let end = base + w;
         let known = extract_row(&mask[base..end], base, words, 2 * here) / 2;
-        let next = link_row(words, known, parents, w, above, here, end);
+        let list = RunTable {
+            c: known,
+            parents: parents,
+            w: w,
+        };
+        let next = link_row(words, list, above, here, end);
         above = here;
         here = next;
         base = end;

@@ -1,10 +1,11 @@
 // Runs of ink, row by row: for each run the dot where it starts and the dot after its last, as two words; the end of a row ends a run.
 ghost use mathlib.Core.Path.{_≡_};
 ghost use mathlib.Core.Bool.{cond};
-ghost use Prim.Native.Nat.{_+_, _≤_};
-ghost use lib.ListN.{length};
+ghost use Prim.Native.Nat.{_+_, _≤_, _<_};
+ghost use lib.ListN.{getD, length, set};
 ghost use lib.Dec.{eqb};
 ghost use Rattle.memory.specs.rules.Lists.{countIf};
+ghost use Rattle.memory.specs.rules.Limits.{maxMaskDots};
 ghost use Rattle.memory.specs.rules.Masks.{isInk};
 ghost use Rattle.labelling.specs.stages.Extraction.{ScanRoom, Scanned, TurnsTold, ToldRoom, ToldWritten, RowRoom, RowExtracted, PlaneRoom, Extracted};
 use memory::min_usize;
@@ -75,8 +76,17 @@ fn tell_turns(dots: &[u8], told: &mut [u8; CHUNK])
     }
 }
 
-// Writes the turns told of n dots, the first of which is `start`, to the words from `at` on, and answers where they end. A word is
-// stored at every dot and counts only at a turn.
+// Writes dot i of those from `start` on to word k, and answers where the next is written: at the same word, unless this is a turn.
+fn write_turn(told: &[u8; CHUNK], i: usize, start: usize, words: &mut [u32], k: usize) -> usize
+    requires { ⌜ (i < 32) × (getD (now told) i 0 ≤ 1) × (start + i ≤ maxMaskDots) × (k < length (now words)) ⌝ }
+    ensures { λ r. ⌜ (now (words .exit) ≡ set (now (words .entry)) k (start + i)) × (r ≡ k + getD (now (told .entry)) i 0) ⌝ }
+{
+    words[k] = (start + i) as u32;
+    k + told[i] as usize
+}
+
+// Writes the turns told of n dots, 32, the first of which is `start`, to the words from `at` on, and answers where they end. A word is
+// stored at every dot and counts only at a turn. Four dots a step, which is faster where runs are short.
 pub fn write_turns(
     told: &[u8; CHUNK],
     n: usize,
@@ -84,15 +94,17 @@ pub fn write_turns(
     words: &mut [u32],
     at: usize,
 ) -> usize
-    requires { ⌜ ToldRoom (now told) n start (now words) at ⌝ }
+    requires { ⌜ ToldRoom (now told) n start (now words) at × (n ≡ 32) ⌝ }
     ensures { λ r. ⌜ ToldWritten (now (told .entry)) n start (now (words .entry)) (now (words .exit)) at r ⌝ }
 {
     let mut k = at;
     let mut i = 0;
     while i < n {
-        words[k] = (start + i) as u32;
-        k += told[i] as usize;
-        i += 1;
+        k = write_turn(told, i, start, words, k);
+        k = write_turn(told, i + 1, start, words, k);
+        k = write_turn(told, i + 2, start, words, k);
+        k = write_turn(told, i + 3, start, words, k);
+        i += 4;
     }
     k
 }

@@ -6,10 +6,10 @@ use Rattle.labelling.proofs.link.link_runs.Statement.{statement}
 use Rattle.labelling.proofs.link.link_runs.Tie as tie
 
 abbrev Inv-loop : tie.InvT-loop
-Inv-loop words₀ c w h q above₀ here₀ base₀ y₀ words above here base y = PlaneSweep w c q h words₀ words above here base y
+Inv-loop words₀ c w h parents list above₀ here₀ base₀ y₀ words above here base y = PlaneSweep w c parents h words₀ words above here base y
 
 abbrev μ-loop : tie.MeasureT-loop
-μ-loop words₀ c w h q above₀ here₀ base₀ y₀ words above here base y = h - y
+μ-loop words₀ c w h parents list above₀ here₀ base₀ y₀ words above here base y = h - y
 
 mul-parents : tie.Need-mul-parents Inv-loop μ-loop
 mul-parents c = omega (arith, (c .before) .pre .0 .few)

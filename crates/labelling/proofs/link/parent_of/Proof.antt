@@ -22,7 +22,7 @@ wide-requires : tie.Need-wide-requires
 wide-requires c κs = search needs
 
 returns-2 : tie.Need-returns-2
-returns-2 c = let u = (c .before .before .before .before .before) .pre .0 .under in let lk = (c .before .before .before .if1) .left in none-left ((c .before .before .before .before .before) .pre .0) lk (omega (arith, (c .if2) .taken, (c .before .wide) .ensures, (c .before .before .before .before .before) .pre .1, getD-take (2 * (c .before .before .before .before .before) .args .c) ((c .before .before .before .before .before) .args .words .now) (2 * (c .before .before .before .before .before) .args .first) 0 (omega arith)))
+returns-2 c = let u = (c .before .before .before .before .before) .pre .0 .under in let lk = (c .before .before .before .if1) .left in none-left ((c .before .before .before .before .before) .pre .0) lk (omega (arith, (c .if2) .taken, (c .before .wide) .ensures, (c .before .before .before .before .before) .pre .1, getD-take (2 * (c .before .before .before .before .before) .args .list .c) ((c .before .before .before .before .before) .args .words .now) (2 * (c .before .before .before .before .before) .args .first) 0 (omega arith)))
 
 add-next : tie.Need-add-next
 add-next c = omega (arith, (c .before .before .before .before .before) .pre .0 .list .few, (c .before .before .before .before .before) .pre .0 .list .room, (c .before .before .before .before .before) .pre .0 .list .place, (c .before .before .before .before .before) .pre .0 .under .high, (c .before .before .before .before .before) .pre .0 .under .mid, (c .before .before .before .if1) .left)
@@ -34,7 +34,7 @@ same-length : tie.Need-same-length
 same-length c = search needs
 
 returns-3 : tie.Need-returns-3
-returns-3 c = let u = (c .before .before .before .before .before .before .before .before) .pre .0 .under in let lk = (c .before .before .before .before .before .before .if1) .left in sweep-end (sweep-kin ((c .before .before .before .before .before .before .before .before) .pre .0) lk (omega (arith, (c .before .before .before .if2) .left, (c .before .before .before .before .wide) .ensures, (c .before .before .before .before .before .before .before .before) .pre .1, getD-take (2 * (c .before .before .before .before .before .before .before .before) .args .c) ((c .before .before .before .before .before .before .before .before) .args .words .now) (2 * (c .before .before .before .before .before .before .before .before) .args .first) 0 (omega arith))) ((c .near-parent) .result) ((c .near-parent) .ensures)) ((c .before .before .if3) .taken)
+returns-3 c = let u = (c .before .before .before .before .before .before .before .before) .pre .0 .under in let lk = (c .before .before .before .before .before .before .if1) .left in sweep-end (sweep-kin ((c .before .before .before .before .before .before .before .before) .pre .0) lk (omega (arith, (c .before .before .before .if2) .left, (c .before .before .before .before .wide) .ensures, (c .before .before .before .before .before .before .before .before) .pre .1, getD-take (2 * (c .before .before .before .before .before .before .before .before) .args .list .c) ((c .before .before .before .before .before .before .before .before) .args .words .now) (2 * (c .before .before .before .before .before .before .before .before) .args .first) 0 (omega arith))) ((c .near-parent) .result) ((c .near-parent) .ensures)) ((c .before .before .if3) .taken)
 
 mul-wide-3 : tie.Need-mul-wide-3
 mul-wide-3 c = omega (arith, (c .before .before .before .before .before .before) .pre .0 .list .few, (c .before .before .before .before .before .before) .pre .0 .list .room, (c .before .before .before .before .before .before) .pre .0 .list .place, (c .before .before .before .before .before .before) .pre .0 .under .high, (c .before .before .before .before .before .before) .pre .0 .under .mid, (c .before .before .before .before .if1) .left, (c .if3) .left)
@@ -55,10 +55,10 @@ same-length-2 : tie.Need-same-length-2
 same-length-2 c = search needs
 
 returns-4 : tie.Need-returns-4
-returns-4 c = let u = (c .before .before .before .before .before .before .before .before .before .before .before) .pre .0 .under in let lk = (c .before .before .before .before .before .before .before .before .before .if1) .left in let ln = (c .before .before .before .before .before .if3) .left in sweep-stop (sweep-kin ((c .before .before .before .before .before .before .before .before .before .before .before) .pre .0) lk (omega (arith, (c .before .before .before .before .before .before .if2) .left, (c .before .before .before .before .before .before .before .wide) .ensures, (c .before .before .before .before .before .before .before .before .before .before .before) .pre .1, getD-take (2 * (c .before .before .before .before .before .before .before .before .before .before .before) .args .c) ((c .before .before .before .before .before .before .before .before .before .before .before) .args .words .now) (2 * (c .before .before .before .before .before .before .before .before .before .before .before) .args .first) 0 (omega arith))) ((c .near-parent2) .result) ((c .near-parent2) .ensures)) (omega arith) (omega (arith, (c .before .before .if4) .taken, (c .before .before .before .wide2) .ensures, (c .before .before .before .before .before .before .before .before .before .before .before) .pre .1, getD-take (2 * (c .before .before .before .before .before .before .before .before .before .before .before) .args .c) ((c .before .before .before .before .before .before .before .before .before .before .before) .args .words .now) (2 * ((c .before .before .before .before .before .before .before .before .before .before .before) .args .first + 1)) 0 (omega arith)))
+returns-4 c = let u = (c .before .before .before .before .before .before .before .before .before .before .before) .pre .0 .under in let lk = (c .before .before .before .before .before .before .before .before .before .if1) .left in let ln = (c .before .before .before .before .before .if3) .left in sweep-stop (sweep-kin ((c .before .before .before .before .before .before .before .before .before .before .before) .pre .0) lk (omega (arith, (c .before .before .before .before .before .before .if2) .left, (c .before .before .before .before .before .before .before .wide) .ensures, (c .before .before .before .before .before .before .before .before .before .before .before) .pre .1, getD-take (2 * (c .before .before .before .before .before .before .before .before .before .before .before) .args .list .c) ((c .before .before .before .before .before .before .before .before .before .before .before) .args .words .now) (2 * (c .before .before .before .before .before .before .before .before .before .before .before) .args .first) 0 (omega arith))) ((c .near-parent2) .result) ((c .near-parent2) .ensures)) (omega arith) (omega (arith, (c .before .before .if4) .taken, (c .before .before .before .wide2) .ensures, (c .before .before .before .before .before .before .before .before .before .before .before) .pre .1, getD-take (2 * (c .before .before .before .before .before .before .before .before .before .before .before) .args .list .c) ((c .before .before .before .before .before .before .before .before .before .before .before) .args .words .now) (2 * ((c .before .before .before .before .before .before .before .before .before .before .before) .args .first + 1)) 0 (omega arith)))
 
 join-touching-requires : tie.Need-join-touching-requires
-join-touching-requires c κs = let u = (c .before .before .before .before .before .before .before .before .before .before) .pre .0 .under in let lk = (c .before .before .before .before .before .before .before .before .if1) .left in ((c .before .before .before .before .before .before .before .before .before .before) .pre .0, lk, omega (arith, (c .before .before .before .before .before .if2) .left, (c .before .before .before .before .before .before .wide) .ensures, getD-take (2 * (c .before .before .before .before .before .before .before .before .before .before) .args .c) ((c .before .before .before .before .before .before .before .before .before .before) .args .words .now) (2 * (c .before .before .before .before .before .before .before .before .before .before) .args .first) 0 (omega arith)), (c .before .before .before .before .before .before .before .before .before .before) .pre .1)
+join-touching-requires c κs = let u = (c .before .before .before .before .before .before .before .before .before .before) .pre .0 .under in let lk = (c .before .before .before .before .before .before .before .before .if1) .left in ((c .before .before .before .before .before .before .before .before .before .before) .pre .0, lk, omega (arith, (c .before .before .before .before .before .if2) .left, (c .before .before .before .before .before .before .wide) .ensures, getD-take (2 * (c .before .before .before .before .before .before .before .before .before .before) .args .list .c) ((c .before .before .before .before .before .before .before .before .before .before) .args .words .now) (2 * (c .before .before .before .before .before .before .before .before .before .before) .args .first) 0 (omega arith)), (c .before .before .before .before .before .before .before .before .before .before) .pre .1)
 
 same-length-3 : tie.Need-same-length-3
 same-length-3 c = (c .before .before .join-touching) .ensures .kept .len

@@ -9,10 +9,10 @@ use Rattle.labelling.proofs.marked.extract_row.Statement.{statement}
 use Rattle.labelling.proofs.marked.extract_row.Tie as tie
 
 abbrev Inv-loop : tie.InvT-loop
-Inv-loop test ink base words₀ at marks k₀ x₀ words k x = MarkedRowScan test ink base words₀ words at marks k x
+Inv-loop row ink words₀ at k₀ x₀ words k x = MarkedRowScan (row .test) ink (row .base) words₀ words at (row .marks) k x
 
 abbrev μ-loop : tie.MeasureT-loop
-μ-loop test ink base words₀ at marks k₀ x₀ words k x = length ink - x
+μ-loop row ink words₀ at k₀ x₀ words k x = length ink - x
 
 loop-holds : tie.Need-loop-holds Inv-loop μ-loop
 loop-holds c = marked-start ((c .before .before) .pre)
@@ -42,25 +42,25 @@ returns : tie.Need-returns Inv-loop μ-loop
 returns c = marked-blank (marked-read ((c .before .before .before .before .before .before .loop) .inv) _ _ _ ((c .before .before .before .scan) .ensures)) (le-refl _) ((c .if1) .taken)
 
 add-words : tie.Need-add-words Inv-loop μ-loop
-add-words c = omega (arith, marked-dots ((c .before .before .before .before .before .before .before .before .before) .pre))
+add-words c = omega (arith, marked-dots ((c .before .before .before .before .before .before .before .before .before .before) .pre))
 
 cast-words : tie.Need-cast-words Inv-loop μ-loop
-cast-words c = omega (arith, marked-dots ((c .before .before .before .before .before .before .before .before .before) .pre))
+cast-words c = omega (arith, marked-dots ((c .before .before .before .before .before .before .before .before .before .before) .pre))
 
 mul-words : tie.Need-mul-words Inv-loop μ-loop
-mul-words c = let h = marked-fits-end (marked-read ((c .before .before .before .before .before .before .loop) .inv) _ _ _ ((c .before .before .before .scan) .ensures)) (le-refl _) ((c .if1) .left) in let e = (c .before .before .before .before .before .before .loop) .inv .len in let f = (c .before .before .before .scan) .ensures .len in omega (arith, (c .before .before .before .before .before .before .before .before .before) .good)
+mul-words c = let h = marked-fits-end (marked-read ((c .before .before .before .before .before .before .before .loop) .inv) _ _ _ ((c .before .before .before .before .scan) .ensures)) (le-refl _) ((c .before .if1) .left) in let e = (c .before .before .before .before .before .before .before .loop) .inv .len in let f = (c .before .before .before .before .scan) .ensures .len in omega (arith, (c .before .before .before .before .before .before .before .before .before .before) .good)
 
 slice-write-words : tie.Need-slice-write-words Inv-loop μ-loop
-slice-write-words c = marked-fits-end (marked-read ((c .before .before .before .before .before .before .loop) .inv) _ _ _ ((c .before .before .before .scan) .ensures)) (le-refl _) ((c .if1) .left)
+slice-write-words c = marked-fits-end (marked-read ((c .before .before .before .before .before .before .before .loop) .inv) _ _ _ ((c .before .before .before .before .scan) .ensures)) (le-refl _) ((c .before .if1) .left)
 
 add-result : tie.Need-add-result Inv-loop μ-loop
-add-result c = let h = marked-fits-end (marked-read ((c .before .before .before .before .before .before .loop) .inv) _ _ _ ((c .before .before .before .scan) .ensures)) (le-refl _) ((c .if1) .left) in let e = (c .before .before .before .before .before .before .loop) .inv .len in let f = (c .before .before .before .scan) .ensures .len in omega (arith, (c .before .before .before .before .before .before .before .before .before) .good)
+add-result c = let h = marked-fits-end (marked-read ((c .before .before .before .before .before .before .before .loop) .inv) _ _ _ ((c .before .before .before .before .scan) .ensures)) (le-refl _) ((c .before .if1) .left) in let e = (c .before .before .before .before .before .before .before .loop) .inv .len in let f = (c .before .before .before .before .scan) .ensures .len in omega (arith, (c .before .before .before .before .before .before .before .before .before .before) .good)
 
 same-length-2 : tie.Need-same-length-2 Inv-loop μ-loop
-same-length-2 c = simp length-set ((c .before .before .before .scan) .ensures .len ∙ (c .before .before .before .before .before .before .loop) .inv .len)
+same-length-2 c = simp length-set ((c .before .before .before .before .scan) .ensures .len ∙ (c .before .before .before .before .before .before .before .loop) .inv .len)
 
 returns-2 : tie.Need-returns-2 Inv-loop μ-loop
-returns-2 c = marked-ink (marked-read ((c .before .before .before .before .before .before .loop) .inv) _ _ _ ((c .before .before .before .scan) .ensures)) (le-refl _) ((c .if1) .left)
+returns-2 c = marked-ink (marked-read ((c .before .before .before .before .before .before .before .loop) .inv) _ _ _ ((c .before .before .before .before .scan) .ensures)) (le-refl _) ((c .before .if1) .left)
 
 pub extract-row-spec : {M : Type 1} → statement M
 extract-row-spec =

@@ -9,10 +9,10 @@ use Rattle.labelling.proofs.marked.scan.Statement.{statement}
 use Rattle.labelling.proofs.marked.scan.Tie as tie
 
 abbrev Inv-loop : tie.InvT-loop
-Inv-loop test ink from to base words₀ at marks k₀ before₀ x₀ words k before x = MarkedSweep test ink from to base words₀ words at marks k before x
+Inv-loop row ink from to words₀ at k₀ before₀ x₀ words k before x = MarkedSweep (row .test) ink from to (row .base) words₀ words at (row .marks) k before x
 
 abbrev μ-loop : tie.MeasureT-loop
-μ-loop test ink from to base words₀ at marks k₀ before₀ x₀ words k before x = to - x
+μ-loop row ink from to words₀ at k₀ before₀ x₀ words k before x = to - x
 
 cast-before : tie.Need-cast-before Inv-loop μ-loop
 cast-before c = search needs
@@ -24,37 +24,37 @@ shared-slice-read-passes : tie.Need-shared-slice-read-passes Inv-loop μ-loop
 shared-slice-read-passes c = marked-inside ((c .before .before .loop) .inv) ((c .before .loop-test) .taken)
 
 add-passes : tie.Need-add-passes Inv-loop μ-loop
-add-passes c = let h = marked-mark ((c .before .before .loop) .inv) ((c .before .loop-test) .taken) in let e = (c .before .before .loop) .inv .len in omega (arith, (c .before .before .before .before .before) .good)
+add-passes c = let h = marked-mark ((c .before .before .before .loop) .inv) ((c .before .before .loop-test) .taken) in let e = (c .before .before .before .loop) .inv .len in omega (arith, (c .before .before .before .before .before .before) .good)
 
 add-passes-2 : tie.Need-add-passes-2 Inv-loop μ-loop
-add-passes-2 c = let h = marked-mark ((c .before .before .loop) .inv) ((c .before .loop-test) .taken) in let e = (c .before .before .loop) .inv .len in omega (arith, (c .before .before .before .before .before) .good)
+add-passes-2 c = let h = marked-mark ((c .before .before .before .loop) .inv) ((c .before .before .loop-test) .taken) in let e = (c .before .before .before .loop) .inv .len in omega (arith, (c .before .before .before .before .before .before) .good)
 
 mul-passes : tie.Need-mul-passes Inv-loop μ-loop
-mul-passes c = let h = marked-mark ((c .before .before .loop) .inv) ((c .before .loop-test) .taken) in let e = (c .before .before .loop) .inv .len in omega (arith, (c .before .before .before .before .before) .good)
+mul-passes c = let h = marked-mark ((c .before .before .before .loop) .inv) ((c .before .before .loop-test) .taken) in let e = (c .before .before .before .loop) .inv .len in omega (arith, (c .before .before .before .before .before .before) .good)
 
 slice-read-passes : tie.Need-slice-read-passes Inv-loop μ-loop
-slice-read-passes c = marked-mark ((c .before .before .before .loop) .inv) ((c .before .before .loop-test) .taken)
+slice-read-passes c = marked-mark ((c .before .before .before .before .loop) .inv) ((c .before .before .before .loop-test) .taken)
 
 passes-requires : tie.Need-passes-requires Inv-loop μ-loop
 passes-requires c κs = search needs
 
 add-words : tie.Need-add-words Inv-loop μ-loop
-add-words c = omega (arith, (c .before .before .before .before .before .before .before) .pre .asks .dots, (c .before .before .before .loop-test) .taken)
+add-words c = omega (arith, (c .before .before .before .before .before .before .before .before .before) .pre .asks .dots, (c .before .before .before .before .before .loop-test) .taken)
 
 cast-words : tie.Need-cast-words Inv-loop μ-loop
-cast-words c = omega (arith, (c .before .before .before .before .before .before .before) .pre .asks .dots, (c .before .before .before .loop-test) .taken)
+cast-words c = omega (arith, (c .before .before .before .before .before .before .before .before .before) .pre .asks .dots, (c .before .before .before .before .before .loop-test) .taken)
 
 mul-words : tie.Need-mul-words Inv-loop μ-loop
-mul-words c = let h = marked-fits ((c .before .before .before .before .loop) .inv) ((c .before .before .before .loop-test) .taken) in let e = (c .before .before .before .before .loop) .inv .len in omega (arith, (c .before .before .before .before .before .before .before) .good)
+mul-words c = let h = marked-fits ((c .before .before .before .before .before .before .loop) .inv) ((c .before .before .before .before .before .loop-test) .taken) in let e = (c .before .before .before .before .before .before .loop) .inv .len in omega (arith, (c .before .before .before .before .before .before .before .before .before) .good)
 
 slice-write-words : tie.Need-slice-write-words Inv-loop μ-loop
-slice-write-words c = marked-fits ((c .before .before .before .before .loop) .inv) ((c .before .before .before .loop-test) .taken)
+slice-write-words c = marked-fits ((c .before .before .before .before .before .before .loop) .inv) ((c .before .before .before .before .before .loop-test) .taken)
 
 cast-k : tie.Need-cast-k Inv-loop μ-loop
 cast-k c = search needs
 
 add-k : tie.Need-add-k Inv-loop μ-loop
-add-k c = let h = marked-fits ((c .before .before .before .before .loop) .inv) ((c .before .before .before .loop-test) .taken) in let e = (c .before .before .before .before .loop) .inv .len in let b = byte-small (not (eqb ((c .before .before .before .before .loop) .before) ((c .passes) .result))) in omega (arith, (c .before .before .before .before .before .before .before) .good)
+add-k c = let h = marked-fits ((c .before .before .before .before .before .before .loop) .inv) ((c .before .before .before .before .before .loop-test) .taken) in let e = (c .before .before .before .before .before .before .loop) .inv .len in let b = byte-small (not (eqb ((c .before .before .before .before .before .before .loop) .before) ((c .before .passes) .result))) in omega (arith, (c .before .before .before .before .before .before .before .before .before) .good)
 
 add-x : tie.Need-add-x Inv-loop μ-loop
 add-x c = search needs
@@ -64,7 +64,7 @@ loop-less c = search needs
 
 loop-again : tie.Need-loop-again Inv-loop μ-loop
 unfolding isInk
-loop-again c = marked-more ((c .before .before .before .before .loop) .inv) ((c .before .before .before .loop-test) .taken) ((c .passes) .result) _ ((c .passes) .ensures) (byte-turn (eqb ((c .before .before .before .before .loop) .before) ((c .passes) .result)))
+loop-again c = marked-more ((c .before .before .before .before .before .before .loop) .inv) ((c .before .before .before .before .before .loop-test) .taken) ((c .before .passes) .result) _ ((c .before .passes) .ensures) (byte-turn (eqb ((c .before .before .before .before .before .before .loop) .before) ((c .before .passes) .result)))
 
 same-length : tie.Need-same-length Inv-loop μ-loop
 same-length c = (c .before .loop) .inv .len

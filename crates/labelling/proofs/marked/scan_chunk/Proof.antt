@@ -25,7 +25,7 @@ part-count-chunk-start : tie.Need-part-count-chunk-start
 part-count-chunk-start c = search needs
 
 part-count-chunk-end : tie.Need-part-count-chunk-end
-part-count-chunk-end c = chunk-high ((c .before .before) .pre)
+part-count-chunk-end c = chunk-high ((c .before .before .before) .pre)
 
 mul-count-chunk : tie.Need-mul-count-chunk
 mul-count-chunk c = search needs
@@ -52,7 +52,7 @@ same-length : tie.Need-same-length
 same-length c = search needs
 
 returns : tie.Need-returns
-returns c = chunk-passed ((c .before .before .before .before .before .before .before) .pre) ((c .before .count-chunk) .result) ((c .before .count-chunk) .ensures) ((c .if1) .taken)
+returns c = chunk-passed ((c .before .before .before .before .before .before .before .before) .pre) ((c .before .count-chunk) .result) ((c .before .count-chunk) .ensures) ((c .if1) .taken)
 
 scan-requires : tie.Need-scan-requires
 scan-requires c κs = search needs
@@ -76,10 +76,10 @@ part-tell-chunk-start : tie.Need-part-tell-chunk-start
 part-tell-chunk-start c = search needs
 
 part-tell-chunk-end : tie.Need-part-tell-chunk-end
-part-tell-chunk-end c = chunk-high ((c .before .before .before .before .before .before .before .before) .pre)
+part-tell-chunk-end c = chunk-high ((c .before .before .before .before .before .before .before .before .before) .pre)
 
 mul-tell-chunk : tie.Need-mul-tell-chunk
-mul-tell-chunk c = mark-fits ((c .before .before .before .before .before .before .before .before .before) .args .marks + (c .before .before .before .before .before .before .before .before .before) .args .base + (c .before .before .before .before .before .before .before .before .before) .args .from) (search needs)
+mul-tell-chunk c = mark-fits ((c .before .before .before .before .before .before .before .before .before .before) .args .row .marks + (c .before .before .before .before .before .before .before .before .before .before) .args .row .base + (c .before .before .before .before .before .before .before .before .before .before) .args .from) (search needs)
 
 sub-tell-chunk-2 : tie.Need-sub-tell-chunk-2
 sub-tell-chunk-2 c = search needs
@@ -91,10 +91,10 @@ part-tell-chunk-end-2 : tie.Need-part-tell-chunk-end-2
 part-tell-chunk-end-2 c = search needs
 
 tell-chunk-requires : tie.Need-tell-chunk-requires
-tell-chunk-requires c κs = let l = chunk-lengths ((c .before .before .before .before .before .before .before .before .before .before .before .before) .pre) ((c .before .before .before .before .if2) .left) in (l .0, l .1, refl)
+tell-chunk-requires c κs = let l = chunk-lengths ((c .before .before .before .before .before .before .before .before .before .before .before .before .before) .pre) ((c .before .before .before .before .if2) .left) in (l .0, l .1, refl)
 
 sub-min-usize : tie.Need-sub-min-usize
-sub-min-usize c = chunk-inside ((c .before .before .before .before .before .before .before .before .before .before .before .before .before) .pre)
+sub-min-usize c = chunk-inside ((c .before .before .before .before .before .before .before .before .before .before .before .before .before .before) .pre)
 
 min-usize-requires : tie.Need-min-usize-requires
 min-usize-requires c κs = search needs
@@ -103,13 +103,13 @@ add-write-turns : tie.Need-add-write-turns
 add-write-turns c = search needs
 
 write-turns-requires : tie.Need-write-turns-requires
-write-turns-requires c κs = marked-told ((c .before .before .before .before .before .before .before .before .before .before .before .before .before .before .before .before) .pre) _ (chunk-count _ _ _ (chunk-high ((c .before .before .before .before .before .before .before .before .before .before .before .before .before .before .before .before) .pre)) ((c .before .before .min-usize) .ensures)) ((c .before .before .before .tell-chunk) .ensures)
+write-turns-requires c κs = let e = chunk-count _ _ _ (chunk-high ((c .before .before .before .before .before .before .before .before .before .before .before .before .before .before .before .before .before .before) .pre)) ((c .before .before .before .min-usize) .ensures) in (marked-told ((c .before .before .before .before .before .before .before .before .before .before .before .before .before .before .before .before .before .before) .pre) _ e ((c .before .before .before .before .tell-chunk) .ensures), e)
 
 same-length-3 : tie.Need-same-length-3
 same-length-3 c = search needs
 
 returns-3 : tie.Need-returns-3
-returns-3 c = marked-written ((c .before .before .before .before .before .before .before .before .before .before .before .before .before .before .before .before .before .before .before) .pre) _ (chunk-count _ _ _ (chunk-high ((c .before .before .before .before .before .before .before .before .before .before .before .before .before .before .before .before .before .before .before) .pre)) ((c .before .before .before .before .before .min-usize) .ensures)) ((c .before .before .before .before .before .before .before .before .before .before .before .if2) .left) ((c .before .before .before .before .before .before .tell-chunk) .ensures) ((c .before .before .write-turns) .ensures)
+returns-3 c = marked-written ((c .before .before .before .before .before .before .before .before .before .before .before .before .before .before .before .before .before .before .before .before .before) .pre) _ (chunk-count _ _ _ (chunk-high ((c .before .before .before .before .before .before .before .before .before .before .before .before .before .before .before .before .before .before .before .before .before) .pre)) ((c .before .before .before .before .before .before .min-usize) .ensures)) ((c .before .before .before .before .before .before .before .before .before .before .before .before .if2) .left) ((c .before .before .before .before .before .before .before .tell-chunk) .ensures) ((c .before .before .write-turns) .ensures)
 
 pub scan-chunk-spec : {M : Type 1} → statement M
 scan-chunk-spec =

@@ -13,10 +13,10 @@ use Rattle.labelling.proofs.paint.paint_runs.Statement.{statement}
 use Rattle.labelling.proofs.paint.paint_runs.Tie as tie
 
 abbrev Inv-loop : tie.InvT-loop
-Inv-loop words numbers c w h labels₀ components₀ dots count₀ k₀ clear₀ labels components count k clear = PlaneSweep w c h (numbered c words (drop numbers words)) labels₀ labels components₀ components k count clear
+Inv-loop words numbers c w h labels₀ components₀ dots rows count₀ k₀ clear₀ labels components count k clear = PlaneSweep w c h (numbered c words (drop numbers words)) labels₀ labels components₀ components k count clear
 
 abbrev μ-loop : tie.MeasureT-loop
-μ-loop words numbers c w h labels₀ components₀ dots count₀ k₀ clear₀ labels components count k clear = c - k
+μ-loop words numbers c w h labels₀ components₀ dots rows count₀ k₀ clear₀ labels components count k clear = c - k
 
 -- the words, the numbers among them, and that both have room
 abbrev words : tie.Start Inv-loop μ-loop → List ℕ

@@ -61,7 +61,7 @@ add-write-turns : tie.Need-add-write-turns
 add-write-turns c = search needs
 
 write-turns-requires : tie.Need-write-turns-requires
-write-turns-requires c κs = told-room ((c .before .before .before .before .before .before .before .before .before .before .before) .pre .0) ((c .before .before .tell-turns) .ensures) _ ((c .before .before .before .before .before .before .before .before .before .before .before) .pre .1)
+write-turns-requires c κs = (told-room ((c .before .before .before .before .before .before .before .before .before .before .before) .pre .0) ((c .before .before .tell-turns) .ensures) _ ((c .before .before .before .before .before .before .before .before .before .before .before) .pre .1), (c .before .before .before .before .before .before .before .before .before .before .before) .pre .1)
 
 same-length-2 : tie.Need-same-length-2
 same-length-2 c = search needs

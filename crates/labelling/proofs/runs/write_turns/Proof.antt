@@ -1,56 +1,61 @@
 use borrow.Author.Needs.{needs}
 use native.Mathlib.Omega.{arith}
-use Prim.Native.Nat.{_-_, _≤_}
-use mathlib.Core.Path.{_≡_, subst}
+use Prim.Native.Nat.{ℕ, _+_, _-_, _*_, _≤_}
+use mathlib.Core.Path.{_≡_, refl, subst}
 use Rattle.labelling.specs.stages.Extraction.{ToldWritten}
-use Rattle.labelling.proofs.ToldLaws.{written-none, written-room, written-more}
+use Rattle.labelling.proofs.ToldLaws.{written-none, written-asks, four-inside, written-one, written-two, written-three, written-four}
 use Rattle.labelling.proofs.runs.write_turns.Statement.{statement}
 use Rattle.labelling.proofs.runs.write_turns.Tie as tie
 
 abbrev Inv-loop : tie.InvT-loop
-Inv-loop told n start words₀ at k₀ i₀ words k i = (i ≤ n) × ToldWritten told i start words₀ words at k
+Inv-loop told n start words₀ at k₀ i₀ words k i = (i ≤ n) × ToldWritten told i start words₀ words at k × ((q : ℕ) × (i ≡ 4 * q))
 
 abbrev μ-loop : tie.MeasureT-loop
 μ-loop told n start words₀ at k₀ i₀ words k i = n - i
 
 loop-holds : tie.Need-loop-holds Inv-loop μ-loop
-loop-holds c = (omega arith, written-none _ _ _ _)
+loop-holds c = (omega arith, written-none _ _ _ _, (0, refl))
 
-add-words : tie.Need-add-words Inv-loop μ-loop
-add-words c = search needs
+write-turn-requires : tie.Need-write-turn-requires Inv-loop μ-loop
+write-turn-requires c κs = written-asks ((c .before .before .loop) .inv .1) ((c .before .before .before .before) .pre .0) ((c .before .loop-test) .taken)
 
-cast-words : tie.Need-cast-words Inv-loop μ-loop
-cast-words c = search needs
+add-write-turn : tie.Need-add-write-turn Inv-loop μ-loop
+add-write-turn c = let h = four-inside ((c .before .before .before .before .before .loop) .inv .2) ((c .before .before .before .before .before .before .before) .pre .1) ((c .before .before .before .before .loop-test) .taken) in let e = (c .before .before .before .before .before .before .before) .pre .1 in omega arith
 
-mul-words : tie.Need-mul-words Inv-loop μ-loop
-mul-words c = let h = written-room ((c .before .loop) .inv .1) ((c .before .before) .pre) ((c .loop-test) .taken) in let e = (c .before .loop) .inv .1 .len in omega (arith, (c .before .before) .good)
+write-turn-requires-2 : tie.Need-write-turn-requires-2 Inv-loop μ-loop
+write-turn-requires-2 c κs = let h = four-inside ((c .before .before .before .before .before .before .loop) .inv .2) ((c .before .before .before .before .before .before .before .before) .pre .1) ((c .before .before .before .before .before .loop-test) .taken) in written-asks (written-one ((c .before .before .before .before .before .before .loop) .inv .1) ((c .before .before .before .before .before .before .before .before) .pre .0) h ((c .before .before .before .write-turn) .ensures)) ((c .before .before .before .before .before .before .before .before) .pre .0) (omega arith)
 
-slice-write-words : tie.Need-slice-write-words Inv-loop μ-loop
-slice-write-words c = written-room ((c .before .loop) .inv .1) ((c .before .before) .pre) ((c .loop-test) .taken)
+add-write-turn-2 : tie.Need-add-write-turn-2 Inv-loop μ-loop
+add-write-turn-2 c = let h = four-inside ((c .before .before .before .before .before .before .before .before .before .loop) .inv .2) ((c .before .before .before .before .before .before .before .before .before .before .before) .pre .1) ((c .before .before .before .before .before .before .before .before .loop-test) .taken) in let e = (c .before .before .before .before .before .before .before .before .before .before .before) .pre .1 in omega arith
 
-element-copy-out-k : tie.Need-element-copy-out-k Inv-loop μ-loop
-element-copy-out-k c = search needs
+write-turn-requires-3 : tie.Need-write-turn-requires-3 Inv-loop μ-loop
+write-turn-requires-3 c κs = let h = four-inside ((c .before .before .before .before .before .before .before .before .before .before .loop) .inv .2) ((c .before .before .before .before .before .before .before .before .before .before .before .before) .pre .1) ((c .before .before .before .before .before .before .before .before .before .loop-test) .taken) in written-asks (written-two ((c .before .before .before .before .before .before .before .before .before .before .loop) .inv .1) ((c .before .before .before .before .before .before .before .before .before .before .before .before) .pre .0) h ((c .before .before .before .before .before .before .before .write-turn) .ensures) ((c .before .before .before .write-turn2) .ensures)) ((c .before .before .before .before .before .before .before .before .before .before .before .before) .pre .0) (omega arith)
 
-cast-k : tie.Need-cast-k Inv-loop μ-loop
-cast-k c = let h = (c .before .before .before) .pre .bits ((c .before .before .loop) .i) (omega arith) in omega arith
+add-write-turn-3 : tie.Need-add-write-turn-3 Inv-loop μ-loop
+add-write-turn-3 c = let h = four-inside ((c .before .before .before .before .before .before .before .before .before .before .before .before .before .loop) .inv .2) ((c .before .before .before .before .before .before .before .before .before .before .before .before .before .before .before) .pre .1) ((c .before .before .before .before .before .before .before .before .before .before .before .before .loop-test) .taken) in let e = (c .before .before .before .before .before .before .before .before .before .before .before .before .before .before .before) .pre .1 in omega arith
 
-add-k : tie.Need-add-k Inv-loop μ-loop
-add-k c = let h = written-room ((c .before .before .loop) .inv .1) ((c .before .before .before) .pre) ((c .before .loop-test) .taken) in let e = (c .before .before .loop) .inv .1 .len in let b = (c .before .before .before) .pre .bits ((c .before .before .loop) .i) ((c .before .loop-test) .taken) in omega (arith, (c .before .before .before) .good)
+write-turn-requires-4 : tie.Need-write-turn-requires-4 Inv-loop μ-loop
+write-turn-requires-4 c κs = let h = four-inside ((c .before .before .before .before .before .before .before .before .before .before .before .before .before .before .loop) .inv .2) ((c .before .before .before .before .before .before .before .before .before .before .before .before .before .before .before .before) .pre .1) ((c .before .before .before .before .before .before .before .before .before .before .before .before .before .loop-test) .taken) in written-asks (written-three ((c .before .before .before .before .before .before .before .before .before .before .before .before .before .before .loop) .inv .1) ((c .before .before .before .before .before .before .before .before .before .before .before .before .before .before .before .before) .pre .0) h ((c .before .before .before .before .before .before .before .before .before .before .before .write-turn) .ensures) ((c .before .before .before .before .before .before .before .write-turn2) .ensures) ((c .before .before .before .write-turn3) .ensures)) ((c .before .before .before .before .before .before .before .before .before .before .before .before .before .before .before .before) .pre .0) h
 
 add-i : tie.Need-add-i Inv-loop μ-loop
-add-i c = search needs
+add-i c = let h = four-inside ((c .before .before .before .before .before .before .before .before .before .before .before .before .before .before .before .before .before .loop) .inv .2) ((c .before .before .before .before .before .before .before .before .before .before .before .before .before .before .before .before .before .before .before) .pre .1) ((c .before .before .before .before .before .before .before .before .before .before .before .before .before .before .before .before .loop-test) .taken) in let e = (c .before .before .before .before .before .before .before .before .before .before .before .before .before .before .before .before .before .before .before) .pre .1 in omega arith
 
 loop-less : tie.Need-loop-less Inv-loop μ-loop
-loop-less c = search needs
+loop-less c = omega (arith, (c .before .before .before .before .before .before .before .before .before .before .before .before .before .before .before .before .loop-test) .taken)
 
 loop-again : tie.Need-loop-again Inv-loop μ-loop
-loop-again c = (omega arith, written-more ((c .before .before .loop) .inv .1) ((c .before .before .before) .pre) ((c .before .loop-test) .taken))
+loop-again c =
+    let f = (c .before .before .before .before .before .before .before .before .before .before .before .before .before .before .before .before .before .loop) .inv .2 in
+    let h = four-inside f ((c .before .before .before .before .before .before .before .before .before .before .before .before .before .before .before .before .before .before .before) .pre .1) ((c .before .before .before .before .before .before .before .before .before .before .before .before .before .before .before .before .loop-test) .taken) in
+    let q = f .0 in
+    let e : (c .before .before .before .before .before .before .before .before .before .before .before .before .before .before .before .before .before .loop) .i ≡ 4 * q = f .1 in
+    (omega arith, written-four ((c .before .before .before .before .before .before .before .before .before .before .before .before .before .before .before .before .before .loop) .inv .1) ((c .before .before .before .before .before .before .before .before .before .before .before .before .before .before .before .before .before .before .before) .pre .0) h ((c .before .before .before .before .before .before .before .before .before .before .before .before .before .before .write-turn) .ensures) ((c .before .before .before .before .before .before .before .before .before .before .write-turn2) .ensures) ((c .before .before .before .before .before .before .write-turn3) .ensures) ((c .before .before .write-turn4) .ensures), (q + 1, omega arith))
 
 same-length : tie.Need-same-length Inv-loop μ-loop
 same-length c = (c .before .loop) .inv .1 .len
 
 returns : tie.Need-returns Inv-loop μ-loop
-returns c = subst (λ z. ToldWritten ((c .before .before) .args .told .now) z ((c .before .before) .args .start) ((c .before .before) .args .words .now) ((c .before .loop) .words) ((c .before .before) .args .at) ((c .before .loop) .k)) (let e : (c .before .loop) .i ≡ (c .before .before) .args .n = omega arith in e) ((c .before .loop) .inv .1)
+returns c = subst (λ z. ToldWritten ((c .before .before .before) .args .told .now) z ((c .before .before .before) .args .start) ((c .before .before .before) .args .words .now) ((c .before .loop) .words) ((c .before .before .before) .args .at) ((c .before .loop) .k)) (let e : (c .before .loop) .i ≡ (c .before .before .before) .args .n = omega (arith, (c .before .loop) .inv .0, (c .loop-test) .left) in e) ((c .before .loop) .inv .1)
 
 pub write-turns-spec : {M : Type 1} → statement M
 write-turns-spec =
@@ -59,13 +64,13 @@ write-turns-spec =
     Inv-loop
     μ-loop
     loop-holds
-    add-words
-    cast-words
-    mul-words
-    slice-write-words
-    element-copy-out-k
-    cast-k
-    add-k
+    write-turn-requires
+    add-write-turn
+    write-turn-requires-2
+    add-write-turn-2
+    write-turn-requires-3
+    add-write-turn-3
+    write-turn-requires-4
     add-i
     loop-less
     loop-again
