@@ -3,6 +3,54 @@
 
 use original::pixel::layout::LayoutParams;
 
+/// A sheet as the exports take it: the record of `crates/params`, by value.
+#[repr(C)]
+pub struct Sheet {
+    glyph_min_area: u32,
+    glyph_max_extent_frac: f64,
+    xheight_min_area: u32,
+    xheight_fallback_px: f64,
+    rule_min_len_xh: f64,
+    rule_max_thick_xh: f64,
+    rule_run_xh: f64,
+    graphic_min_xh: f64,
+    smear_xh: f64,
+    line_min_glyphs: u32,
+    line_min_height_xh: f64,
+    line_max_height_xh: f64,
+    block_min_overlap: f64,
+    block_gap_margin_lines: f64,
+    block_max_gap_lines: f64,
+    column_gap_xh: f64,
+    column_cover_frac: f64,
+    shear_min_deg: f64,
+}
+
+impl Sheet {
+    fn of(p: &LayoutParams) -> Sheet {
+        Sheet {
+            glyph_min_area: p.glyph_min_area,
+            glyph_max_extent_frac: p.glyph_max_extent_frac,
+            xheight_min_area: p.xheight_min_area,
+            xheight_fallback_px: p.xheight_fallback_px,
+            rule_min_len_xh: p.rule_min_len_xh,
+            rule_max_thick_xh: p.rule_max_thick_xh,
+            rule_run_xh: p.rule_run_xh,
+            graphic_min_xh: p.graphic_min_xh,
+            smear_xh: p.smear_xh,
+            line_min_glyphs: p.line_min_glyphs,
+            line_min_height_xh: p.line_min_height_xh,
+            line_max_height_xh: p.line_max_height_xh,
+            block_min_overlap: p.block_min_overlap,
+            block_gap_margin_lines: p.block_gap_margin_lines,
+            block_max_gap_lines: p.block_max_gap_lines,
+            column_gap_xh: p.column_gap_xh,
+            column_cover_frac: p.column_cover_frac,
+            shear_min_deg: p.shear_min_deg,
+        }
+    }
+}
+
 mod c {
     extern "C" {
         pub fn novlizeb_round(x: f64) -> f64;
@@ -12,26 +60,7 @@ mod c {
         pub fn novlizeb_round_to_i64(x: f64) -> i64;
         pub fn novlizeb_round_output(x: f64) -> f64;
         pub fn novlizeb_pairwise_sum(values: *const f64, length: usize) -> f64;
-        pub fn novlizeb_validate(
-            glyph_min_area: u32,
-            glyph_max_extent_frac: f64,
-            xheight_min_area: u32,
-            xheight_fallback_px: f64,
-            rule_min_len_xh: f64,
-            rule_max_thick_xh: f64,
-            rule_run_xh: f64,
-            graphic_min_xh: f64,
-            smear_xh: f64,
-            line_min_glyphs: u32,
-            line_min_height_xh: f64,
-            line_max_height_xh: f64,
-            block_min_overlap: f64,
-            block_gap_margin_lines: f64,
-            block_max_gap_lines: f64,
-            column_gap_xh: f64,
-            column_cover_frac: f64,
-            shear_min_deg: f64,
-        ) -> u8;
+        pub fn novlizeb_validate(sheet: super::Sheet) -> u8;
         pub fn novlizeb_label(
             mask: *const u8,
             mask_length: usize,
@@ -119,24 +148,7 @@ mod c {
             ink_length: usize,
             width: u32,
             height: u32,
-            glyph_min_area: u32,
-            glyph_max_extent_frac: f64,
-            xheight_min_area: u32,
-            xheight_fallback_px: f64,
-            rule_min_len_xh: f64,
-            rule_max_thick_xh: f64,
-            rule_run_xh: f64,
-            graphic_min_xh: f64,
-            smear_xh: f64,
-            line_min_glyphs: u32,
-            line_min_height_xh: f64,
-            line_max_height_xh: f64,
-            block_min_overlap: f64,
-            block_gap_margin_lines: f64,
-            block_max_gap_lines: f64,
-            column_gap_xh: f64,
-            column_cover_frac: f64,
-            shear_min_deg: f64,
+            sheet: super::Sheet,
             capacity: u32,
             words: *mut u32,
             words_length: usize,
@@ -152,24 +164,7 @@ mod c {
             ink_length: usize,
             width: u32,
             height: u32,
-            glyph_min_area: u32,
-            glyph_max_extent_frac: f64,
-            xheight_min_area: u32,
-            xheight_fallback_px: f64,
-            rule_min_len_xh: f64,
-            rule_max_thick_xh: f64,
-            rule_run_xh: f64,
-            graphic_min_xh: f64,
-            smear_xh: f64,
-            line_min_glyphs: u32,
-            line_min_height_xh: f64,
-            line_max_height_xh: f64,
-            block_min_overlap: f64,
-            block_gap_margin_lines: f64,
-            block_max_gap_lines: f64,
-            column_gap_xh: f64,
-            column_cover_frac: f64,
-            shear_min_deg: f64,
+            sheet: super::Sheet,
             capacity: u32,
             words: *mut u32,
             words_length: usize,
@@ -242,28 +237,7 @@ pub fn pairwise_sum(values: &[f64]) -> f64 {
 }
 
 pub fn validate(p: &LayoutParams) -> bool {
-    flag(unsafe {
-        c::novlizeb_validate(
-            p.glyph_min_area,
-            p.glyph_max_extent_frac,
-            p.xheight_min_area,
-            p.xheight_fallback_px,
-            p.rule_min_len_xh,
-            p.rule_max_thick_xh,
-            p.rule_run_xh,
-            p.graphic_min_xh,
-            p.smear_xh,
-            p.line_min_glyphs,
-            p.line_min_height_xh,
-            p.line_max_height_xh,
-            p.block_min_overlap,
-            p.block_gap_margin_lines,
-            p.block_max_gap_lines,
-            p.column_gap_xh,
-            p.column_cover_frac,
-            p.shear_min_deg,
-        )
-    })
+    flag(unsafe { c::novlizeb_validate(Sheet::of(p)) })
 }
 
 /// Labelling by itself. The value is the count of pieces.
@@ -440,24 +414,7 @@ pub fn segment(ink: &[u8], width: u32, height: u32, p: &LayoutParams, capacity: 
             ink.len(),
             width,
             height,
-            p.glyph_min_area,
-            p.glyph_max_extent_frac,
-            p.xheight_min_area,
-            p.xheight_fallback_px,
-            p.rule_min_len_xh,
-            p.rule_max_thick_xh,
-            p.rule_run_xh,
-            p.graphic_min_xh,
-            p.smear_xh,
-            p.line_min_glyphs,
-            p.line_min_height_xh,
-            p.line_max_height_xh,
-            p.block_min_overlap,
-            p.block_gap_margin_lines,
-            p.block_max_gap_lines,
-            p.column_gap_xh,
-            p.column_cover_frac,
-            p.shear_min_deg,
+            Sheet::of(p),
             capacity,
             lent.words.as_mut_ptr(),
             lent.words.len(),
@@ -487,24 +444,7 @@ pub fn sort(
             ink.len(),
             width,
             height,
-            p.glyph_min_area,
-            p.glyph_max_extent_frac,
-            p.xheight_min_area,
-            p.xheight_fallback_px,
-            p.rule_min_len_xh,
-            p.rule_max_thick_xh,
-            p.rule_run_xh,
-            p.graphic_min_xh,
-            p.smear_xh,
-            p.line_min_glyphs,
-            p.line_min_height_xh,
-            p.line_max_height_xh,
-            p.block_min_overlap,
-            p.block_gap_margin_lines,
-            p.block_max_gap_lines,
-            p.column_gap_xh,
-            p.column_cover_frac,
-            p.shear_min_deg,
+            Sheet::of(p),
             capacity,
             words.as_mut_ptr(),
             words.len(),

@@ -45,7 +45,7 @@ use Rattle.store.proofs.read_summary as read-summary
 use Rattle.store.proofs.read_summary.Reads as read-summary-reads
 use Rattle.store.proofs.write_sheet as write-sheet
 use Rattle.store.proofs.write_sheet.Reads as write-sheet-reads
-use Rattle.judging.specs.rules.Leaves.{leafOf}
+use Rattle.store.specs.rules.Handed.{leafHanded}
 use Rattle.store.specs.rules.Readings.{LevelReading, ResultReading, Which}
 use Rattle.store.specs.rules.Readings.Output.{words, integers, none, floats}
 use Rattle.store.specs.rules.Answers.{outcomeNumber, answerNumber, answerValue}
@@ -59,8 +59,8 @@ pub record Did (act : Act) (u : World) (r : Told) (u' : World) : Type 0 where
 
 pub level-tied : (κs : Lfts 3) (a : ArgsD level.signature κs) (r : ResD level.signature κs) (s : AtExit level.ended κs) (kinds : List ℕ)
     → level-reads.Post κs a r s
-    → Did (Act.level (leafOf (now (a .0)) (a .1 .0) (a .1 .1 .0) (a .1 .1 .1 .0) (a .1 .1 .1 .1 .0) (a .1 .1 .1 .1 .1 .0) (a .1 .1 .1 .1 .1 .1 .0)))
-    (world (now (a .1 .1 .1 .1 .1 .1 .1 .0)) (now (a .1 .1 .1 .1 .1 .1 .1 .1 .0)) kinds) (numbered (outcomeNumber r)) (world (now (s .1 .1 .1 .1 .1 .1 .1 .0)) (now (s .1 .1 .1 .1 .1 .1 .1 .1 .0)) kinds)
+    → Did (Act.level (leafHanded (now (a .0)) (a .1 .0) (a .1 .1 .0)))
+    (world (now (a .1 .1 .1 .0)) (now (a .1 .1 .1 .1 .0)) kinds) (numbered (outcomeNumber r)) (world (now (s .1 .1 .1 .0)) (now (s .1 .1 .1 .1 .0)) kinds)
 level-tied κs a r s kinds h = record { left = ap (λ (y : Left). world (y .store) (y .plane) kinds) h; said = ap (λ (y : Left). numbered (y .number)) h }
 
 pub clear-tied : (κs : Lfts 1) (a : ArgsD clear.signature κs) (r : ResD clear.signature κs) (s : AtExit clear.ended κs) (ink kinds : List ℕ)

@@ -13,7 +13,6 @@ mod summary;
 pub use block::blocks;
 pub use column::Column;
 pub use column::columns;
-pub use dots::Sides;
 pub use dots::count_dots;
 pub use dots::write_dots;
 pub use pitch::median_pitch;

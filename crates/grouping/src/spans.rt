@@ -5,7 +5,7 @@ ghost use lib.ListN.{getD, length};
 ghost use lib.Dec.{ltb};
 ghost use Rattle.levelling.specs.rules.Frames.{rowOf, columnOf};
 ghost use Rattle.grouping.specs.stages.Dots.{frameBy, Sheared, RowSpan, ColumnSpan, isShort, FirstReached};
-use crate::dots::Sides;
+use levelling::Sides;
 use memory::Rect;
 use memory::max_usize;
 use memory::min_usize;
@@ -15,6 +15,13 @@ use memory::wide;
 pub struct Span {
     pub from: usize,
     pub to: usize,
+}
+
+// An end of a box on the way of a page row, which goes up where the shear falls: where the box starts, or where it ends.
+struct BoxEnd {
+    r: Rect,
+    falls: bool,
+    start: bool,
 }
 
 // The page rows, from the first to the last, that can hold a dot of the box. Shears run one way, so over a range each is greatest and
@@ -68,30 +75,32 @@ pub fn column_span(shear: &[u32], shear_x: &[u32], sides: Sides, r: Rect, y: usi
 {
     let last = sides.page_w - 1;
     let falls = wide(shear[last]) < wide(shear[0]);
+    let start = BoxEnd {
+        r,
+        falls,
+        start: true,
+    };
+    let end = BoxEnd {
+        r,
+        falls,
+        start: false,
+    };
     Span {
-        from: first_reached(shear, shear_x, sides, r, falls, true, y),
-        to: first_reached(shear, shear_x, sides, r, falls, false, y),
+        from: first_reached(shear, shear_x, sides, start, y),
+        to: first_reached(shear, shear_x, sides, end, y),
     }
 }
 
 // The first column of page row y whose dot is no longer before the box (`start`), or no longer short of its end.
-fn first_reached(
-    shear: &[u32],
-    shear_x: &[u32],
-    sides: Sides,
-    r: Rect,
-    falls: bool,
-    start: bool,
-    y: usize,
-) -> usize
-    requires { ⌜ Sheared (frameBy sides (now shear) (now «shear_x»)) × (falls ≡ ltb (getD (now shear) (sides .«page_w» - 1) 0) (getD (now shear) 0 0)) × (y < sides .«page_h») ⌝ }
-    ensures { λ n. ⌜ FirstReached (frameBy sides (now (shear .entry)) (now («shear_x» .entry))) r falls start y n ⌝ }
+fn first_reached(shear: &[u32], shear_x: &[u32], sides: Sides, end: BoxEnd, y: usize) -> usize
+    requires { ⌜ Sheared (frameBy sides (now shear) (now «shear_x»)) × (end .falls ≡ ltb (getD (now shear) (sides .«page_w» - 1) 0) (getD (now shear) 0 0)) × (y < sides .«page_h») ⌝ }
+    ensures { λ n. ⌜ FirstReached (frameBy sides (now (shear .entry)) (now («shear_x» .entry))) (end .r) (end .falls) (end .start) y n ⌝ }
 {
     let mut low = 0;
     let mut high = sides.page_w;
     while low < high {
         let middle = (low + high) / 2;
-        if is_short(shear, shear_x, sides, r, falls, start, middle, y) {
+        if is_short(shear, shear_x, sides, end, middle, y) {
             low = middle + 1;
         } else {
             high = middle;
@@ -101,35 +110,27 @@ fn first_reached(
 }
 
 // Whether the page dot in column c and row y is before the box (`start`), or short of its end.
-fn is_short(
-    shear: &[u32],
-    shear_x: &[u32],
-    sides: Sides,
-    r: Rect,
-    falls: bool,
-    start: bool,
-    c: usize,
-    y: usize,
-) -> bool
+fn is_short(shear: &[u32], shear_x: &[u32], sides: Sides, end: BoxEnd, c: usize, y: usize) -> bool
     requires { ⌜ Sheared (frameBy sides (now shear) (now «shear_x»)) × (c < sides .«page_w») × (y < sides .«page_h») ⌝ }
-    ensures { λ t. ⌜ t ≡ isShort r falls start (columnOf (frameBy sides (now (shear .entry)) (now («shear_x» .entry))) c y) (rowOf (frameBy sides (now (shear .entry)) (now («shear_x» .entry))) c y) ⌝ }
+    ensures { λ t. ⌜ t ≡ isShort (end .r) (end .falls) (end .start) (columnOf (frameBy sides (now (shear .entry)) (now («shear_x» .entry))) c y) (rowOf (frameBy sides (now (shear .entry)) (now («shear_x» .entry))) c y) ⌝ }
 {
     let row = y + wide(shear[c]);
     let column = c + wide(shear_x[row]);
-    point_short(r, falls, start, column as u32, row as u32)
+    point_short(end, column as u32, row as u32)
 }
 
 // The same of its frame point, which moves right along the page row, and up where the shear falls, else down.
-fn point_short(r: Rect, falls: bool, start: bool, x: u32, y: u32) -> bool
-    ensures { λ t. ⌜ t ≡ isShort r falls start x y ⌝ }
+fn point_short(end: BoxEnd, x: u32, y: u32) -> bool
+    ensures { λ t. ⌜ t ≡ isShort (end .r) (end .falls) (end .start) x y ⌝ }
 {
-    if start {
-        if falls {
+    let r = end.r;
+    if end.start {
+        if end.falls {
             return (x < r.x0) | (r.y1 < y);
         }
         return (x < r.x0) | (y < r.y0);
     }
-    if falls {
+    if end.falls {
         return (x <= r.x1) & (r.y0 <= y);
     }
     (x <= r.x1) & (y <= r.y1)

@@ -140,44 +140,34 @@ fn unit_ok(case: u32, x: f64) -> bool
     }
 }
 
-// How many records each list may have.
-fn counts_ok(
+// How many records each list has.
+struct ListCounts {
     rules: u32,
     graphics: u32,
     glyphs: u32,
     lines: u32,
     blocks: u32,
     columns: u32,
-    w: u32,
-    capacity: u32,
-) -> bool
+}
+
+// How many records each list may have.
+fn counts_ok(n: ListCounts, w: u32, capacity: u32) -> bool
     requires { ⌜ capacity ≤ maxCapacity ⌝ }
-    ensures { λ r. ⌜ r ≡ (leb rules (3 * capacity) && leb graphics capacity && leb glyphs capacity && leb lines capacity && leb lines maxLines && leb blocks capacity && leb columns w) ⌝ }
+    ensures { λ r. ⌜ r ≡ (leb (n .rules) (3 * capacity) && leb (n .graphics) capacity && leb (n .glyphs) capacity && leb (n .lines) capacity && leb (n .lines) maxLines && leb (n .blocks) capacity && leb (n .columns) w) ⌝ }
 {
-    (rules <= 3 * capacity)
-        & (graphics <= capacity)
-        & (glyphs <= capacity)
-        & (lines <= capacity)
-        & (lines <= MAX_LINES)
-        & (blocks <= capacity)
-        & (columns <= w)
+    (n.rules <= 3 * capacity)
+        & (n.graphics <= capacity)
+        & (n.glyphs <= capacity)
+        & (n.lines <= capacity)
+        & (n.lines <= MAX_LINES)
+        & (n.blocks <= capacity)
+        & (n.columns <= w)
 }
 
 // The words of lists whose counts are right: a line's glyph height, a block's line count, boxes, line and block numbers.
-fn lists_ok(
-    store: &[u32],
-    at: usize,
-    w: u32,
-    h: u32,
-    capacity: u32,
-    rules: u32,
-    graphics: u32,
-    glyphs: u32,
-    lines: u32,
-    blocks: u32,
-) -> bool
-    requires { ⌜ (at + resultWords w capacity ≤ length (now store)) × (at ≤ listsAt maxPageSide maxFrameHeight) × (w ≤ maxFrameWidth) × (h ≤ maxFrameHeight) × (capacity ≤ maxCapacity) ⌝ ∗ ⌜ (rules ≤ 3 * capacity) × (graphics ≤ capacity) × (glyphs ≤ capacity) × (lines ≤ capacity) × (blocks ≤ capacity) ⌝ }
-    ensures { λ r. ⌜ r ≡ listsOk w h (now (store .entry)) at capacity rules graphics glyphs lines blocks ⌝ }
+fn lists_ok(store: &[u32], at: usize, w: u32, h: u32, capacity: u32, n: ListCounts) -> bool
+    requires { ⌜ (at + resultWords w capacity ≤ length (now store)) × (at ≤ listsAt maxPageSide maxFrameHeight) × (w ≤ maxFrameWidth) × (h ≤ maxFrameHeight) × (capacity ≤ maxCapacity) ⌝ ∗ ⌜ (n .rules ≤ 3 * capacity) × (n .graphics ≤ capacity) × (n .glyphs ≤ capacity) × (n .lines ≤ capacity) × (n .blocks ≤ capacity) ⌝ }
+    ensures { λ r. ⌜ r ≡ listsOk w h (now (store .entry)) at capacity (n .rules) (n .graphics) (n .glyphs) (n .lines) (n .blocks) ⌝ }
 {
     let places = result_places(w as usize, capacity as usize);
     let rules_at = at + places.rules;
@@ -185,22 +175,22 @@ fn lists_ok(
     let glyphs_at = at + places.glyphs;
     let lines_at = at + places.lines;
     let blocks_at = at + places.blocks;
-    let a = fields_below(store, lines_at, LINE_WORDS, GLYPH_HEIGHT, lines, h + 1);
+    let a = fields_below(store, lines_at, LINE_WORDS, GLYPH_HEIGHT, n.lines, h + 1);
     let b = fields_below(
         store,
         blocks_at,
         BLOCK_WORDS,
         BLOCK_LINES,
-        blocks,
-        lines + 1,
+        n.blocks,
+        n.lines + 1,
     );
-    let c = boxes_ok(store, rules_at, BOX_WORDS, rules, w, h);
-    let d = boxes_ok(store, graphics_at, BOX_WORDS, graphics, w, h);
-    let e = boxes_ok(store, glyphs_at, GLYPH_WORDS, glyphs, w, h);
-    let f = boxes_ok(store, lines_at, LINE_WORDS, lines, w, h);
-    let g = boxes_ok(store, blocks_at, BLOCK_WORDS, blocks, w, h);
-    let i = fields_marked(store, glyphs_at, GLYPH_WORDS, GLYPH_LINE, glyphs, lines);
-    let j = fields_below(store, lines_at, LINE_WORDS, LINE_BLOCK, lines, blocks);
+    let c = boxes_ok(store, rules_at, BOX_WORDS, n.rules, w, h);
+    let d = boxes_ok(store, graphics_at, BOX_WORDS, n.graphics, w, h);
+    let e = boxes_ok(store, glyphs_at, GLYPH_WORDS, n.glyphs, w, h);
+    let f = boxes_ok(store, lines_at, LINE_WORDS, n.lines, w, h);
+    let g = boxes_ok(store, blocks_at, BLOCK_WORDS, n.blocks, w, h);
+    let i = fields_marked(store, glyphs_at, GLYPH_WORDS, GLYPH_LINE, n.glyphs, n.lines);
+    let j = fields_below(store, lines_at, LINE_WORDS, LINE_BLOCK, n.lines, n.blocks);
     a & b & c & d & e & f & g & i & j
 }
 
@@ -214,32 +204,21 @@ pub fn words_ok(store: &[u32], page_w: u32, w: u32, h: u32, capacity: u32) -> bo
     let glyphs = store[GLYPHS];
     let lines = store[LINES];
     let blocks = store[BLOCKS];
-    let x = float_at(store, UNIT);
-    let unit = unit_ok(store[FIGURES], x);
-    let few = counts_ok(
+    let columns = store[COLUMNS];
+    let n = ListCounts {
         rules,
         graphics,
         glyphs,
         lines,
         blocks,
-        store[COLUMNS],
-        w,
-        capacity,
-    );
+        columns,
+    };
+    let x = float_at(store, UNIT);
+    let unit = unit_ok(store[FIGURES], x);
+    let few = counts_ok(n, w, capacity);
     if !(unit & few) {
         return false;
     }
     let at = lists_at(page_w, h);
-    lists_ok(
-        store,
-        at,
-        w,
-        h,
-        capacity,
-        rules,
-        graphics,
-        glyphs,
-        lines,
-        blocks,
-    )
+    lists_ok(store, at, w, h, capacity, n)
 }

@@ -15,11 +15,11 @@ use borrow.Rule.Slice.PartMut.{putMid}
 use lib.Dec.{ltb, leb}
 use Rattle.memory.specs.rules.Lists.{table}
 use Rattle.memory.specs.rules.Words.{over}
-use Rattle.memory.proofs.TableLaws.{length-table, table-ext, table-whole, table-filled}
+use Rattle.memory.proofs.TableLaws.{length-table, table-ext, table-filled}
 use Rattle.memory.proofs.PartLaws.{over-all, part-is-table, part-filled, table-add}
 use Rattle.memory.proofs.PlaneLaws.{row-end, dot-column, dot-row}
 use Rattle.levelling.specs.rules.Shears.{natural}
-use Rattle.levelling.specs.rules.Frames.{Frame, frameOf}
+use Rattle.levelling.specs.rules.Frames.{Frame}
 use Rattle.levelling.specs.declared.Point.{Point}
 use Rattle.levelling.proofs.Integers.{sub-at-least}
 use Rattle.levelling.specs.rules.Mapping.{toPage}
@@ -140,55 +140,39 @@ module _ (f : Frame) (fill : ℕ) (page : List ℕ) (r : ℕ) where
       go s (yes k) = rw (lt-ltb i (f .page-w) l, le-ltb r s k, le-leb s r k)
       go s (no k) = rw (lt-ltb i (f .page-w) l, lt-ltb r s (omega arith), lt-leb s r (omega arith))
 
-  abbrev row : ℕ → ℕ
-  row x = levelAt f fill page x r
-
-  -- the row as the code puts it together: added dots, the page's columns, added dots
-  pub row-put : (s a b c : List ℕ) → left + f .page-w ≤ length s → a ≡ table (λ _. fill) left → b ≡ table (columnsAt page fill (f .page-w) (f .page-h) (f .shear) r) (f .page-w)
-      → c ≡ table (λ _. fill) (length s - (left + f .page-w))
-      → putMid (left + f .page-w) (length s - (left + f .page-w)) (putMid left (f .page-w) (putMid 0 left s a) b) c ≡ table row (length s)
-  row-put s a b c k ea eb ec =
-      let w = f .page-w in
-      let n = length s - (left + w) in
-      let one : putMid 0 left s a ≡ table row left ++ drop left s =
-      part-filled row s s a 0 left (unfold table in refl) (ea ∙ table-ext _ _ left (λ i l. sym (levelAt-left (0 + i) (omega arith))))
-      ∙ ap (λ z. table row z ++ drop z s) (let e : 0 + left ≡ left = omega arith in e) in
-      let two : putMid left w (putMid 0 left s a) b ≡ table row (left + w) ++ drop (left + w) s =
-      part-filled row s (putMid 0 left s a) b left w one (eb ∙ table-ext _ _ w (λ i l. sym (levelAt-column i l))) in
-      let three : putMid (left + w) n (putMid left w (putMid 0 left s a) b) c ≡ table row (left + w + n) ++ drop (left + w + n) s =
-      part-filled row s (putMid left w (putMid 0 left s a) b) c (left + w) n two (ec ∙ table-ext _ _ n (λ i l. sym (levelAt-right (left + w + i) (omega arith)))) in
-      table-whole row s _ (left + w + n) three (omega arith)
-
-  -- the same, with the parts' lengths as the code has them
-  pub row-put-by : (s a b c : List ℕ) (la lc n₁ n₂ n₃ : ℕ) → a ≡ table (λ _. fill) la → b ≡ table (columnsAt page fill (f .page-w) (f .page-h) (f .shear) r) (f .page-w) → c ≡ table (λ _. fill) lc
-      → left + f .page-w ≤ length s → la ≡ left → lc ≡ length s - (left + f .page-w)
-      → n₁ ≡ left → n₂ ≡ f .page-w → n₃ ≡ length s - (left + f .page-w)
-      → putMid (left + f .page-w) n₃ (putMid left n₂ (putMid 0 n₁ s a) b) c ≡ table row (length s)
-  row-put-by s a b c la lc n₁ n₂ n₃ ea eb ec k qa qc e₁ e₂ e₃ =
-      (λ t. putMid (left + f .page-w) (e₃ t) (putMid left (e₂ t) (putMid 0 (e₁ t) s a) b) c)
-      ∙ row-put s a b c k (ea ∙ ap (table (λ _. fill)) qa) eb (ec ∙ ap (table (λ _. fill)) qc)
-
 -- ---- row by row
 abbrev pub planeAt : Frame → ℕ → List ℕ → ℕ → ℕ
 planeAt f fill page i = levelAt f fill page (i % f .w) (i / f .w)
 
--- what lies in the frame does not go by its sides
-levelAt-any-sides : (page-w page-h : ℕ) (shear shear-x : List ℕ) (w h w' h' fill : ℕ) (page : List ℕ) (x r : ℕ)
-    → levelAt (frameOf page-w page-h shear shear-x w' h') fill page x r ≡ levelAt (frameOf page-w page-h shear shear-x w h) fill page x r
-unfolding levelAt toPage
-levelAt-any-sides page-w page-h shear shear-x w h w' h' fill page x r = refl
+-- dot x of row r
+row-dot : (f : Frame) (fill : ℕ) (page : List ℕ) (r x : ℕ) → x < f .w → levelAt f fill page x r ≡ planeAt f fill page (r * f .w + x)
+row-dot f fill page r x l t = levelAt f fill page (sym (dot-column (f .w) x r l) t) (sym (dot-row (f .w) x r l) t)
 
--- one more row put in, n dots long
-pub rows-put : (page-w page-h : ℕ) (shear shear-x : List ℕ) (w h h' fill : ℕ) (page s out v : List ℕ) (r m n : ℕ)
-    → out ≡ table (planeAt (frameOf page-w page-h shear shear-x w h) fill page) (r * w) ++ drop (r * w) s
-    → v ≡ table (λ x. levelAt (frameOf page-w page-h shear shear-x m h') fill page x r) m → m ≡ w → n ≡ w
-    → putMid (r * w) n out v ≡ table (planeAt (frameOf page-w page-h shear shear-x w h) fill page) ((r + 1) * w) ++ drop ((r + 1) * w) s
-rows-put page-w page-h shear shear-x w h h' fill page s out v r m n o q k e =
-    let f = frameOf page-w page-h shear shear-x w h in
-    (λ t. putMid (r * w) (e t) out v)
-    ∙ (part-filled (planeAt f fill page) s out v (r * w) w o
-    (q ∙ (ap (table _) k ∙ table-ext _ _ w (λ i l. levelAt-any-sides page-w page-h shear shear-x w h m h' fill page i r ∙ (λ t. levelAt f fill page (sym (dot-column w i r l) t) (sym (dot-row w i r l) t)))))
-    ∙ ap (λ z. table (planeAt f fill page) z ++ drop z s) (sym (suc-mul r w) ∙ ap (λ z. z * w) (sym (add-one r))))
+-- one more row put in, as the code does it: added dots, the page's columns, added dots, with the parts' lengths as the code has them
+pub row-put : (f : Frame) (fill : ℕ) (page s out a b c : List ℕ) (r la lc n₁ n₂ n₃ : ℕ) → out ≡ table (planeAt f fill page) (r * f .w) ++ drop (r * f .w) s
+    → a ≡ table (λ _. fill) la → b ≡ table (columnsAt page fill (f .page-w) (f .page-h) (f .shear) r) (f .page-w) → c ≡ table (λ _. fill) lc
+    → getD (f .shear-x) r 0 + f .page-w ≤ f .w → la ≡ getD (f .shear-x) r 0 → lc ≡ f .w - (getD (f .shear-x) r 0 + f .page-w)
+    → n₁ ≡ getD (f .shear-x) r 0 → n₂ ≡ f .page-w → n₃ ≡ f .w - (getD (f .shear-x) r 0 + f .page-w)
+    → putMid (r * f .w + getD (f .shear-x) r 0 + f .page-w) n₃ (putMid (r * f .w + getD (f .shear-x) r 0) n₂ (putMid (r * f .w) n₁ out a) b) c
+    ≡ table (planeAt f fill page) ((r + 1) * f .w) ++ drop ((r + 1) * f .w) s
+row-put f fill page s out a b c r la lc n₁ n₂ n₃ o ea eb ec k qa qc e₁ e₂ e₃ =
+    let P = planeAt f fill page in
+    let w = f .w in
+    let v = f .page-w in
+    let l = getD (f .shear-x) r 0 in
+    let at = r * w in
+    let n = w - (l + v) in
+    let dot = row-dot f fill page r in
+    let one : putMid at l out a ≡ table P (at + l) ++ drop (at + l) s =
+    part-filled P s out a at l o (ea ∙ (ap (table (λ _. fill)) qa ∙ table-ext _ _ l (λ i q. sym (levelAt-left f fill page r i q) ∙ dot i (omega arith)))) in
+    let two : putMid (at + l) v (putMid at l out a) b ≡ table P (at + l + v) ++ drop (at + l + v) s =
+    part-filled P s (putMid at l out a) b (at + l) v one
+    (eb ∙ table-ext _ _ v (λ i q. sym (levelAt-column f fill page r i q) ∙ (dot (l + i) (omega arith) ∙ ap P (sym (add-assoc at l i))))) in
+    let three : putMid (at + l + v) n (putMid (at + l) v (putMid at l out a) b) c ≡ table P (at + l + v + n) ++ drop (at + l + v + n) s =
+    part-filled P s (putMid (at + l) v (putMid at l out a) b) c (at + l + v) n two
+    (ec ∙ (ap (table (λ _. fill)) qc ∙ table-ext _ _ n (λ i q. sym (levelAt-right f fill page r (l + v + i) (omega arith)) ∙ (dot (l + v + i) (omega arith) ∙ ap P (let z : at + (l + v + i) ≡ at + l + v + i = omega arith in z))))) in
+    (λ t. putMid (at + l + v) (e₃ t) (putMid (at + l) (e₂ t) (putMid at (e₁ t) out a) b) c)
+    ∙ (three ∙ ap (λ z. table P z ++ drop z s) ((let z : at + l + v + n ≡ at + w = omega arith in z) ∙ (sym (suc-mul r w) ∙ ap (λ z. z * w) (sym (add-one r)))))
 
 pub rows-all : (f : Frame) (fill : ℕ) (page s out : List ℕ) (r : ℕ) → out ≡ table (planeAt f fill page) (r * f .w) ++ drop (r * f .w) s → r ≡ f .h → out ≡ over (levelled f fill page) s
 unfolding levelled

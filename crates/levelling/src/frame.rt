@@ -17,6 +17,14 @@ pub struct FrameSize {
     pub h: u32,
 }
 
+// The sides of a page and of its frame, as lengths.
+pub struct Sides {
+    pub page_w: usize,
+    pub page_h: usize,
+    pub w: usize,
+    pub h: usize,
+}
+
 // The page's sides and what the two shears add.
 pub fn frame_size(page_w: u32, page_h: u32, slope: f64) -> FrameSize
     requires { ⌜ PageSides «page_w» «page_h» ⌝ ∗ ⌜ WithinOne slope ⌝ }

@@ -8,6 +8,7 @@ mod shears;
 mod tiles;
 
 pub use frame::FrameSize;
+pub use frame::Sides;
 pub use frame::fill_shears;
 pub use frame::frame_size;
 pub use mapping::rect_to_page;

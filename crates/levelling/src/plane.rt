@@ -1,4 +1,5 @@
 // A page plane moved into the frame, in one of two ways that meet one equation: which is taken carries no promise.
+use crate::Sides;
 use crate::plateaus::level_by_plateaus;
 use crate::tiles::level_by_tiles;
 ghost use mathlib.Core.Path.{_≡_};
@@ -16,22 +17,19 @@ const SHORT: usize = 16;
 pub fn level_plane(
     page: &[u8],
     fill: u8,
-    page_w: usize,
-    page_h: usize,
+    sides: Sides,
     shear: &[u32],
     shear_x: &[u32],
-    w: usize,
-    h: usize,
     out: &mut [u8],
 )
-    requires { ⌜ PlaneFits (frameOf «page_w» «page_h» (now shear) (now «shear_x») w h) (now page) (now out) ⌝ ∗ ⌜ «page_w» ≤ maxPageSide ⌝ }
-    ensures { λ _. ⌜ now (out .exit) ≡ over (levelled (frameOf «page_w» «page_h» (now (shear .entry)) (now («shear_x» .entry)) w h) fill (now (page .entry))) (now (out .entry)) ⌝ }
+    requires { ⌜ PlaneFits (frameOf (sides .«page_w») (sides .«page_h») (now shear) (now «shear_x») (sides .w) (sides .h)) (now page) (now out) ⌝ ∗ ⌜ sides .«page_w» ≤ maxPageSide ⌝ }
+    ensures { λ _. ⌜ now (out .exit) ≡ over (levelled (frameOf (sides .«page_w») (sides .«page_h») (now (shear .entry)) (now («shear_x» .entry)) (sides .w) (sides .h)) fill (now (page .entry))) (now (out .entry)) ⌝ }
 {
     if is_steep(shear) {
-        level_by_tiles(page, fill, page_w, page_h, shear, shear_x, w, h, out);
+        level_by_tiles(page, fill, sides, shear, shear_x, out);
         return;
     }
-    level_by_plateaus(page, fill, page_w, page_h, shear, shear_x, w, h, out);
+    level_by_plateaus(page, fill, sides, shear, shear_x, out);
 }
 
 // Whether a shear's plateaus are short: it runs one way, so it has one more than its ends differ.

@@ -1,6 +1,7 @@
 // A page plane moved into the frame by frame row, for gentle slopes, where columns next to each other mostly move by the same
 // number of rows: such a plateau is copied at once, 64 bytes or a multiple where that fits the row. What a copy writes behind its plateau
 // the next one writes anew.
+use crate::Sides;
 use memory::MAX_PAGE_SIDE;
 use memory::copy_bytes;
 use memory::fill_bytes;
@@ -12,7 +13,7 @@ ghost use Rattle.memory.specs.rules.Lists.{table};
 ghost use Rattle.memory.specs.rules.Words.{over};
 ghost use Rattle.levelling.specs.rules.Frames.{frameOf};
 ghost use Rattle.levelling.specs.stages.Rooms.{PlaneFits};
-ghost use Rattle.levelling.specs.rules.Planes.{levelAt, levelled};
+ghost use Rattle.levelling.specs.rules.Planes.{levelled};
 ghost use Rattle.levelling.specs.stages.Moves.{Plateau, Plateaus, columnAt};
 
 // The columns of the widest page.
@@ -25,108 +26,68 @@ const CHUNK: usize = 64;
 pub fn level_by_plateaus(
     page: &[u8],
     fill: u8,
-    page_w: usize,
-    page_h: usize,
+    sides: Sides,
     shear: &[u32],
     shear_x: &[u32],
-    w: usize,
-    h: usize,
     out: &mut [u8],
 )
-    requires { ⌜ PlaneFits (frameOf «page_w» «page_h» (now shear) (now «shear_x») w h) (now page) (now out) ⌝ ∗ ⌜ «page_w» ≤ maxPageSide ⌝ }
-    ensures { λ _. ⌜ now (out .exit) ≡ over (levelled (frameOf «page_w» «page_h» (now (shear .entry)) (now («shear_x» .entry)) w h) fill (now (page .entry))) (now (out .entry)) ⌝ }
+    requires { ⌜ PlaneFits (frameOf (sides .«page_w») (sides .«page_h») (now shear) (now «shear_x») (sides .w) (sides .h)) (now page) (now out) ⌝ ∗ ⌜ sides .«page_w» ≤ maxPageSide ⌝ }
+    ensures { λ _. ⌜ now (out .exit) ≡ over (levelled (frameOf (sides .«page_w») (sides .«page_h») (now (shear .entry)) (now («shear_x» .entry)) (sides .w) (sides .h)) fill (now (page .entry))) (now (out .entry)) ⌝ }
 {
     let mut ends = [0u32; COLUMNS];
     plateau_ends(shear, &mut ends);
-    level_rows(page, fill, page_w, page_h, shear, shear_x, &ends, w, h, out);
+    level_rows(page, fill, sides, shear, shear_x, &ends, out);
 }
 
-// The rows of the frame, one after the other.
+// The rows of the frame, one after the other: the page's columns between added dots.
 fn level_rows(
     page: &[u8],
     fill: u8,
-    page_w: usize,
-    page_h: usize,
+    sides: Sides,
     shear: &[u32],
     shear_x: &[u32],
     ends: &[u32],
-    w: usize,
-    h: usize,
     out: &mut [u8],
 )
-    requires { ⌜ PlaneFits (frameOf «page_w» «page_h» (now shear) (now «shear_x») w h) (now page) (now out) ⌝ ∗ ⌜ «page_w» ≤ length (now ends) ⌝ ∗ ⌜ Plateaus (now shear) (now ends) 0 ⌝ }
-    ensures { λ _. ⌜ now (out .exit) ≡ over (levelled (frameOf «page_w» «page_h» (now (shear .entry)) (now («shear_x» .entry)) w h) fill (now (page .entry))) (now (out .entry)) ⌝ }
+    requires { ⌜ PlaneFits (frameOf (sides .«page_w») (sides .«page_h») (now shear) (now «shear_x») (sides .w) (sides .h)) (now page) (now out) ⌝ ∗ ⌜ sides .«page_w» ≤ length (now ends) ⌝ ∗ ⌜ Plateaus (now shear) (now ends) 0 ⌝ }
+    ensures { λ _. ⌜ now (out .exit) ≡ over (levelled (frameOf (sides .«page_w») (sides .«page_h») (now (shear .entry)) (now («shear_x» .entry)) (sides .w) (sides .h)) fill (now (page .entry))) (now (out .entry)) ⌝ }
 {
+    let page_w = sides.page_w;
+    let w = sides.w;
+    let h = sides.h;
     let mut r = 0;
     while r < h {
-        let a = r * w;
-        let b = a + w;
-        level_row(
-            page,
-            fill,
-            page_w,
-            page_h,
-            shear,
-            shear_x,
-            ends,
-            r,
-            &mut out[a..b],
-        );
+        let start = r * w;
+        let left = start + shear_x[r] as usize;
+        let right = left + page_w;
+        let end = start + w;
+        fill_bytes(&mut out[start..left], fill);
+        level_columns(page, fill, sides, shear, ends, r, &mut out[left..right]);
+        fill_bytes(&mut out[right..end], fill);
         r += 1;
     }
-}
-
-// Frame row r: the page's columns between added dots.
-fn level_row(
-    page: &[u8],
-    fill: u8,
-    page_w: usize,
-    page_h: usize,
-    shear: &[u32],
-    shear_x: &[u32],
-    ends: &[u32],
-    r: usize,
-    out: &mut [u8],
-)
-    requires { ⌜ (length (now page) ≡ «page_w» * «page_h») × (length (now shear) ≡ «page_w») × («page_w» ≤ length (now ends)) × (r < length (now «shear_x»)) ⌝ ∗ ⌜ getD (now «shear_x») r 0 + «page_w» ≤ length (now out) ⌝ ∗ ⌜ Plateaus (now shear) (now ends) 0 ⌝ }
-    ensures { λ _. ⌜ now (out .exit) ≡ table (λ x. levelAt (frameOf «page_w» «page_h» (now (shear .entry)) (now («shear_x» .entry)) (length (now (out .entry))) (length (now («shear_x» .entry)))) fill (now (page .entry)) x r) (length (now (out .entry))) ⌝ }
-{
-    let left = shear_x[r] as usize;
-    let right = left + page_w;
-    fill_bytes(&mut out[0..left], fill);
-    level_columns(
-        page,
-        fill,
-        page_w,
-        page_h,
-        shear,
-        ends,
-        r,
-        &mut out[left..right],
-    );
-    fill_bytes(&mut out[right..], fill);
 }
 
 // The page's columns in frame row r, plateau by plateau.
 fn level_columns(
     page: &[u8],
     fill: u8,
-    page_w: usize,
-    page_h: usize,
+    sides: Sides,
     shear: &[u32],
     ends: &[u32],
     r: usize,
     out: &mut [u8],
 )
-    requires { ⌜ (length (now page) ≡ «page_w» * «page_h») × (length (now shear) ≡ «page_w») × (length (now out) ≡ «page_w») × («page_w» ≤ length (now ends)) ⌝ ∗ ⌜ Plateaus (now shear) (now ends) 0 ⌝ }
-    ensures { λ _. ⌜ now (out .exit) ≡ table (λ c. columnAt (now (page .entry)) fill «page_w» «page_h» r (getD (now (shear .entry)) c 0) c) «page_w» ⌝ }
+    requires { ⌜ (length (now page) ≡ sides .«page_w» * sides .«page_h») × (length (now shear) ≡ sides .«page_w») × (length (now out) ≡ sides .«page_w») × (sides .«page_w» ≤ length (now ends)) ⌝ ∗ ⌜ Plateaus (now shear) (now ends) 0 ⌝ }
+    ensures { λ _. ⌜ now (out .exit) ≡ table (λ c. columnAt (now (page .entry)) fill (sides .«page_w») (sides .«page_h») r (getD (now (shear .entry)) c 0) c) (sides .«page_w») ⌝ }
 {
+    let page_w = sides.page_w;
     let mut c = 0;
     while c < page_w {
         let e = ends[c] as usize;
         let s = shear[c] as usize;
         let to = chunk_end(c, e, page_w);
-        level_plateau(page, fill, page_w, page_h, r, s, c, &mut out[c..to]);
+        level_plateau(page, fill, sides, r, s, c, &mut out[c..to]);
         c = e;
     }
 }
@@ -141,28 +102,19 @@ fn chunk_end(c: usize, e: usize, page_w: usize) -> usize
 }
 
 // The columns c, c + 1, .. of frame row r, which all move by s rows.
-fn level_plateau(
-    page: &[u8],
-    fill: u8,
-    page_w: usize,
-    page_h: usize,
-    r: usize,
-    s: usize,
-    c: usize,
-    out: &mut [u8],
-)
-    requires { ⌜ length (now page) ≡ «page_w» * «page_h» ⌝ ∗ ⌜ c + length (now out) ≤ «page_w» ⌝ }
-    ensures { λ _. ⌜ now (out .exit) ≡ table (λ i. columnAt (now (page .entry)) fill «page_w» «page_h» r s (c + i)) (length (now (out .entry))) ⌝ }
+fn level_plateau(page: &[u8], fill: u8, sides: Sides, r: usize, s: usize, c: usize, out: &mut [u8])
+    requires { ⌜ length (now page) ≡ sides .«page_w» * sides .«page_h» ⌝ ∗ ⌜ c + length (now out) ≤ sides .«page_w» ⌝ }
+    ensures { λ _. ⌜ now (out .exit) ≡ table (λ i. columnAt (now (page .entry)) fill (sides .«page_w») (sides .«page_h») r s (c + i)) (length (now (out .entry))) ⌝ }
 {
     if r < s {
         fill_bytes(out, fill);
         return;
     }
-    if page_h <= r - s {
+    if sides.page_h <= r - s {
         fill_bytes(out, fill);
         return;
     }
-    let from = (r - s) * page_w + c;
+    let from = (r - s) * sides.page_w + c;
     let to = from + out.len();
     copy_columns(out, &page[from..to]);
 }

@@ -1,6 +1,7 @@
 // A page plane moved into the frame by page dot, for steep slopes, where columns next to each other move by different numbers of
 // rows. A chunk of dots that are as added dots are lies at its places already and is passed over.
 // Filling and moving the frame band by band was slower, since the page is then read in short parts, and so were narrower tiles.
+use crate::Sides;
 use memory::fill_bytes;
 ghost use mathlib.Core.Path.{_≡_};
 ghost use mathlib.Core.Bool.{Bool, true};
@@ -21,28 +22,39 @@ const CHUNK: usize = 64;
 
 const QUARTER: usize = 16;
 
+// A tile of a page: n columns, from column c on.
+struct Tile {
+    c: usize,
+    n: usize,
+}
+
+// A part of a page row: n dots of row y, from column c on.
+struct Part {
+    y: usize,
+    c: usize,
+    n: usize,
+}
+
 // A page plane moved into the frame, tile by tile.
 pub fn level_by_tiles(
     page: &[u8],
     fill: u8,
-    page_w: usize,
-    page_h: usize,
+    sides: Sides,
     shear: &[u32],
     shear_x: &[u32],
-    w: usize,
-    h: usize,
     out: &mut [u8],
 )
-    requires { ⌜ PlaneFits (frameOf «page_w» «page_h» (now shear) (now «shear_x») w h) (now page) (now out) ⌝ }
-    ensures { λ _. ⌜ now (out .exit) ≡ over (levelled (frameOf «page_w» «page_h» (now (shear .entry)) (now («shear_x» .entry)) w h) fill (now (page .entry))) (now (out .entry)) ⌝ }
+    requires { ⌜ PlaneFits (frameOf (sides .«page_w») (sides .«page_h») (now shear) (now «shear_x») (sides .w) (sides .h)) (now page) (now out) ⌝ }
+    ensures { λ _. ⌜ now (out .exit) ≡ over (levelled (frameOf (sides .«page_w») (sides .«page_h») (now (shear .entry)) (now («shear_x» .entry)) (sides .w) (sides .h)) fill (now (page .entry))) (now (out .entry)) ⌝ }
 {
-    let dots = w * h;
+    let page_w = sides.page_w;
+    let dots = sides.w * sides.h;
     fill_bytes(&mut out[0..dots], fill);
-    let added = h - page_h;
+    let added = sides.h - sides.page_h;
     let mut c = 0;
     while c < page_w {
         let n = tile_columns(page_w - c, added);
-        move_tile(page, fill, page_w, page_h, shear, shear_x, w, c, n, out);
+        move_tile(page, fill, sides, shear, shear_x, Tile { c, n }, out);
         c += n;
     }
 }
@@ -57,139 +69,163 @@ fn tile_columns(left: usize, added: usize) -> usize
     if left < TILE { left } else { TILE }
 }
 
-// The tile of n columns from c on.
+// The tile's dots, page row by page row.
 fn move_tile(
     page: &[u8],
     fill: u8,
-    page_w: usize,
-    page_h: usize,
+    sides: Sides,
     shear: &[u32],
     shear_x: &[u32],
-    w: usize,
-    c: usize,
-    n: usize,
+    tile: Tile,
     out: &mut [u8],
 )
-    requires { ⌜ PlaneFits (frameOf «page_w» «page_h» (now shear) (now «shear_x») w (length (now «shear_x»))) (now page) (now out) ⌝ ∗ ⌜ c + n ≤ «page_w» ⌝ }
-    ensures { λ _. ⌜ ((done : ℕ → Bool) (s : List ℕ) → now (out .entry) ≡ partly (frameOf «page_w» «page_h» (now (shear .entry)) (now («shear_x» .entry)) w (length (now («shear_x» .entry)))) fill (now (page .entry)) done s → now (out .exit) ≡ partly (frameOf «page_w» «page_h» (now (shear .entry)) (now («shear_x» .entry)) w (length (now («shear_x» .entry)))) fill (now (page .entry)) (orRows done «page_w» c n «page_h») s) ⌝ }
+    requires { ⌜ PlaneFits (frameOf (sides .«page_w») (sides .«page_h») (now shear) (now «shear_x») (sides .w) (length (now «shear_x»))) (now page) (now out) ⌝ ∗ ⌜ tile .c + tile .n ≤ sides .«page_w» ⌝ }
+    ensures { λ _. ⌜ ((done : ℕ → Bool) (s : List ℕ) → now (out .entry) ≡ partly (frameOf (sides .«page_w») (sides .«page_h») (now (shear .entry)) (now («shear_x» .entry)) (sides .w) (length (now («shear_x» .entry)))) fill (now (page .entry)) done s → now (out .exit) ≡ partly (frameOf (sides .«page_w») (sides .«page_h») (now (shear .entry)) (now («shear_x» .entry)) (sides .w) (length (now («shear_x» .entry)))) fill (now (page .entry)) (orRows done (sides .«page_w») (tile .c) (tile .n) (sides .«page_h»)) s) ⌝ }
 {
+    let page_h = sides.page_h;
+    let c = tile.c;
+    let n = tile.n;
     let mut y = 0;
     while y < page_h {
-        move_part(page, fill, page_w, shear, shear_x, w, y, c, n, out);
+        move_part(page, fill, sides, shear, shear_x, Part { y, c, n }, out);
         y += 1;
     }
 }
 
-// n dots of page row y, from column c on, chunk by chunk.
+// A part of a page row, chunk by chunk.
 fn move_part(
     page: &[u8],
     fill: u8,
-    page_w: usize,
+    sides: Sides,
     shear: &[u32],
     shear_x: &[u32],
-    w: usize,
-    y: usize,
-    c: usize,
-    n: usize,
+    part: Part,
     out: &mut [u8],
 )
-    requires { ⌜ PartFits «page_w» (now shear) (now «shear_x») w (now page) (now out) y c n ⌝ }
-    ensures { λ _. ⌜ MovesPart «page_w» (now (shear .entry)) (now («shear_x» .entry)) w fill (now (page .entry)) y c n (now (out .entry)) (now (out .exit)) ⌝ }
+    requires { ⌜ PartFits (sides .«page_w») (now shear) (now «shear_x») (sides .w) (now page) (now out) (part .y) (part .c) (part .n) ⌝ }
+    ensures { λ _. ⌜ MovesPart (sides .«page_w») (now (shear .entry)) (now («shear_x» .entry)) (sides .w) fill (now (page .entry)) (part .y) (part .c) (part .n) (now (out .entry)) (now (out .exit)) ⌝ }
 {
+    let y = part.y;
+    let c = part.c;
+    let n = part.n;
     let mut i = 0;
     while CHUNK <= n - i {
-        move_chunk(page, fill, page_w, shear, shear_x, w, y, c + i, out);
+        let column = c + i;
+        let chunk = Part {
+            y,
+            c: column,
+            n: CHUNK,
+        };
+        move_chunk(page, fill, sides, shear, shear_x, chunk, out);
         i += CHUNK;
     }
-    move_dots(page, fill, page_w, shear, shear_x, w, y, c + i, n - i, out);
+    let column = c + i;
+    let left = n - i;
+    let rest = Part {
+        y,
+        c: column,
+        n: left,
+    };
+    move_dots(page, fill, sides, shear, shear_x, rest, out);
 }
 
-// A chunk of page row y, from column c on. Where all its dots are as added dots are, they lie at their places already.
+// A part of one chunk. Where all its dots are as added dots are, they lie at their places already.
 fn move_chunk(
     page: &[u8],
     fill: u8,
-    page_w: usize,
+    sides: Sides,
     shear: &[u32],
     shear_x: &[u32],
-    w: usize,
-    y: usize,
-    c: usize,
+    part: Part,
     out: &mut [u8],
 )
-    requires { ⌜ PartFits «page_w» (now shear) (now «shear_x») w (now page) (now out) y c 64 ⌝ }
-    ensures { λ _. ⌜ MovesPart «page_w» (now (shear .entry)) (now («shear_x» .entry)) w fill (now (page .entry)) y c 64 (now (out .entry)) (now (out .exit)) ⌝ }
+    requires { ⌜ part .n ≡ 64 ⌝ ∗ ⌜ PartFits (sides .«page_w») (now shear) (now «shear_x») (sides .w) (now page) (now out) (part .y) (part .c) (part .n) ⌝ }
+    ensures { λ _. ⌜ MovesPart (sides .«page_w») (now (shear .entry)) (now («shear_x» .entry)) (sides .w) fill (now (page .entry)) (part .y) (part .c) (part .n) (now (out .entry)) (now (out .exit)) ⌝ }
 {
-    let from = y * page_w + c;
+    let from = part.y * sides.page_w + part.c;
     let to = from + CHUNK;
     if all_equal(&page[from..to], fill) {
         return;
     }
-    move_quarters(page, fill, page_w, shear, shear_x, w, y, c, CHUNK, out);
+    move_quarters(page, fill, sides, shear, shear_x, part, out);
 }
 
-// n dots of page row y, from column c on, quarter by quarter.
+// A part of a page row, quarter by quarter.
 fn move_quarters(
     page: &[u8],
     fill: u8,
-    page_w: usize,
+    sides: Sides,
     shear: &[u32],
     shear_x: &[u32],
-    w: usize,
-    y: usize,
-    c: usize,
-    n: usize,
+    part: Part,
     out: &mut [u8],
 )
-    requires { ⌜ PartFits «page_w» (now shear) (now «shear_x») w (now page) (now out) y c n ⌝ }
-    ensures { λ _. ⌜ MovesPart «page_w» (now (shear .entry)) (now («shear_x» .entry)) w fill (now (page .entry)) y c n (now (out .entry)) (now (out .exit)) ⌝ }
+    requires { ⌜ PartFits (sides .«page_w») (now shear) (now «shear_x») (sides .w) (now page) (now out) (part .y) (part .c) (part .n) ⌝ }
+    ensures { λ _. ⌜ MovesPart (sides .«page_w») (now (shear .entry)) (now («shear_x» .entry)) (sides .w) fill (now (page .entry)) (part .y) (part .c) (part .n) (now (out .entry)) (now (out .exit)) ⌝ }
 {
+    let y = part.y;
+    let c = part.c;
+    let n = part.n;
     let mut i = 0;
     while QUARTER <= n - i {
-        move_quarter(page, fill, page_w, shear, shear_x, w, y, c + i, out);
+        let column = c + i;
+        let quarter = Part {
+            y,
+            c: column,
+            n: QUARTER,
+        };
+        move_quarter(page, fill, sides, shear, shear_x, quarter, out);
         i += QUARTER;
     }
-    move_dots(page, fill, page_w, shear, shear_x, w, y, c + i, n - i, out);
+    let column = c + i;
+    let left = n - i;
+    let rest = Part {
+        y,
+        c: column,
+        n: left,
+    };
+    move_dots(page, fill, sides, shear, shear_x, rest, out);
 }
 
-// A quarter of a chunk, in the same way.
+// A part of one quarter, in the same way.
 fn move_quarter(
     page: &[u8],
     fill: u8,
-    page_w: usize,
+    sides: Sides,
     shear: &[u32],
     shear_x: &[u32],
-    w: usize,
-    y: usize,
-    c: usize,
+    part: Part,
     out: &mut [u8],
 )
-    requires { ⌜ PartFits «page_w» (now shear) (now «shear_x») w (now page) (now out) y c 16 ⌝ }
-    ensures { λ _. ⌜ MovesPart «page_w» (now (shear .entry)) (now («shear_x» .entry)) w fill (now (page .entry)) y c 16 (now (out .entry)) (now (out .exit)) ⌝ }
+    requires { ⌜ part .n ≡ 16 ⌝ ∗ ⌜ PartFits (sides .«page_w») (now shear) (now «shear_x») (sides .w) (now page) (now out) (part .y) (part .c) (part .n) ⌝ }
+    ensures { λ _. ⌜ MovesPart (sides .«page_w») (now (shear .entry)) (now («shear_x» .entry)) (sides .w) fill (now (page .entry)) (part .y) (part .c) (part .n) (now (out .entry)) (now (out .exit)) ⌝ }
 {
-    let from = y * page_w + c;
+    let from = part.y * sides.page_w + part.c;
     let to = from + QUARTER;
     if all_equal(&page[from..to], fill) {
         return;
     }
-    move_dots(page, fill, page_w, shear, shear_x, w, y, c, QUARTER, out);
+    move_dots(page, fill, sides, shear, shear_x, part, out);
 }
 
-// n dots of page row y, from column c on, each to its place where it is not as added dots are.
+// A part of a page row, each dot to its place where it is not as added dots are.
 fn move_dots(
     page: &[u8],
     fill: u8,
-    page_w: usize,
+    sides: Sides,
     shear: &[u32],
     shear_x: &[u32],
-    w: usize,
-    y: usize,
-    c: usize,
-    n: usize,
+    part: Part,
     out: &mut [u8],
 )
-    requires { ⌜ PartFits «page_w» (now shear) (now «shear_x») w (now page) (now out) y c n ⌝ }
-    ensures { λ _. ⌜ MovesPart «page_w» (now (shear .entry)) (now («shear_x» .entry)) w fill (now (page .entry)) y c n (now (out .entry)) (now (out .exit)) ⌝ }
+    requires { ⌜ PartFits (sides .«page_w») (now shear) (now «shear_x») (sides .w) (now page) (now out) (part .y) (part .c) (part .n) ⌝ }
+    ensures { λ _. ⌜ MovesPart (sides .«page_w») (now (shear .entry)) (now («shear_x» .entry)) (sides .w) fill (now (page .entry)) (part .y) (part .c) (part .n) (now (out .entry)) (now (out .exit)) ⌝ }
 {
+    let y = part.y;
+    let c = part.c;
+    let n = part.n;
+    let page_w = sides.page_w;
+    let w = sides.w;
     let from = y * page_w;
     let mut i = 0;
     while i < n {

@@ -2,19 +2,21 @@
 use mathlib.Core.Path.{_≡_, refl, sym, ap, _∙_, subst}
 use mathlib.Core.Bool.{Bool, true, _&&_}
 use mathlib.Core.List.{List, [], _∷_, _++_}
-use Prim.Native.Nat.{ℕ, zero, suc, _+_, _*_, _≤_, _<_, zero-le}
+use Prim.Native.Nat.{ℕ, zero, suc, _+_, _-_, _*_, _≤_, _<_, zero-le}
 use native.Mathlib.Nat.{mul-le-mul-right, suc-mul}
 use native.Mathlib.Numerals.{add-one}
 use native.Mathlib.Omega.{arith}
 use borrow.Author.Tests.{leb-true}
 use lib.Dec.{lit≤, leb}
-use lib.ListN.{length, getD, set, length-append, length-set}
+use lib.ListN.{length, getD, take, drop, set, length-append, length-set}
 use Rattle.memory.specs.rules.Words.{wordAt, putAt}
 use Rattle.memory.proofs.BoolLaws.{and-left, and-right}
+use Rattle.judging.specs.rules.Header.{part}
+use Rattle.judging.proofs.PartLaws.{length-part}
 use Rattle.listing.specs.rules.Digits.{hex, joined, lineFeed, refusalText}
 use Rattle.listing.specs.stages.Puts.{Put}
 use Rattle.listing.specs.rules.Sheets.{wordFormat, fieldCount, fieldDigits, fieldsText, wordFrom, entryText, entryFrom, entryAt, entriesText}
-use Rattle.listing.specs.stages.Parts.{fieldsFrom, allDigits, entryLength}
+use Rattle.listing.specs.stages.Parts.{fieldsFrom, entriesAt, allDigits, entryLength}
 use Rattle.listing.proofs.DigitLaws.{length-hex}
 use Rattle.listing.proofs.TextLaws.{put-more, put-byte, put-length, length-joined, joined-more, joined-room}
 
@@ -117,6 +119,17 @@ text-room s one h t at p room x =
 -- the words of entry i are there
 pub words-there : (n i k l count : ℕ) → count ≡ k → n * k ≤ l → i < n → i * count + k ≤ l
 words-there n i k l count e h j = rw e (let a : suc i * k ≤ n * k = mul-le-mul-right k j in let b : suc i * k ≡ i * k + k = suc-mul i k in omega arith)
+
+-- the words of n entries from word `at` on: where they end, the slice that has them, how many they are
+pub found-end : (at kind n m k l : ℕ) → m ≡ n → k ≡ fieldCount kind → at + n * fieldCount kind ≤ l → at + m * k ≤ l
+found-end at kind n m k l e f h = subst (λ z. at + z ≤ l) (sym (λ i. e i * f i)) h
+
+pub found-part : (s : List ℕ) (at kind n m k : ℕ) → m ≡ n → k ≡ fieldCount kind → take (at + m * k - at) (drop at s) ≡ entriesAt s at kind n
+unfolding part
+found-part s at kind n m k e f = let q : at + m * k - at ≡ m * k = omega arith in ap (λ z. take z (drop at s)) (q ∙ (λ i. e i * f i))
+
+pub found-long : (s : List ℕ) (at kind n : ℕ) (a : List ℕ) → a ≡ entriesAt s at kind n → at + n * fieldCount kind ≤ length s → n * fieldCount kind ≤ length a
+found-long s at kind n a e h = let l = ap length e ∙ length-part at (n * fieldCount kind) s h in omega arith
 
 -- one more entry is written
 pub entries-more : (s out out' words : List ℕ) (at kind n i p q : ℕ) → i < n → at + length (entriesText kind words n) ≤ length s

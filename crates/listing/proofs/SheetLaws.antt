@@ -1,5 +1,5 @@
 -- The whole sheet in the parts that its writer puts one behind the other.
-use mathlib.Core.Path.{_≡_, refl, sym, ap, _∙_}
+use mathlib.Core.Path.{_≡_, refl, sym, ap, _∙_, subst}
 use mathlib.Core.List.{List, [], _∷_, _++_, append-assoc}
 use Prim.Native.Nat.{ℕ, _+_, _*_, _≤_, _<_}
 use native.Mathlib.Nat.{mul-le-mul}
@@ -8,7 +8,6 @@ use lib.ListN.{length, set, length-append}
 use Rattle.memory.specs.rules.Words.{wordAt, over, putAt}
 use Rattle.listing.specs.rules.Digits.{hex, joined, lineFeed, refusalText}
 use Rattle.listing.specs.stages.Puts.{Put}
-use Rattle.listing.specs.stages.Rooms.{SheetRoom}
 use Rattle.judging.specs.rules.Views.{inkDotsAt, ruleCount, graphicCount, glyphCount, lineCount, blockCount, columnCount}
 use Rattle.listing.specs.rules.Sheets.{headText, headWords, entryFrom, wordFrom, entriesText, sheetText}
 use Rattle.listing.specs.stages.Parts.{threeKinds, linesToRules, graphicsToColumns, entryLength, sheetLength}
@@ -26,6 +25,17 @@ length-three kind a m b n c k =
     let y = entriesText (kind + 1) b n in
     let z = entriesText (kind + 2) c k in
     length-append (x ++ y) z ∙ (λ i. (length-append x y ∙ (λ j. length-entries kind a m j + length-entries (kind + 1) b n j)) i + length-entries (kind + 2) c k i)
+
+-- the entries of three kinds, with their words as they are found
+module _ (kind : ℕ) (a b c a' b' c' : List ℕ) (m n k : ℕ) (ea : a ≡ a') (eb : b ≡ b') (ec : c ≡ c') where
+  found : threeKinds kind a m b n c k ≡ threeKinds kind a' m b' n c' k
+  found = λ i. threeKinds kind (ea i) m (eb i) n (ec i) k
+
+  pub found-room : (out : List ℕ) (at : ℕ) → at + length (threeKinds kind a' m b' n c' k) ≤ length out → at + length (threeKinds kind a m b n c k) ≤ length out
+  found-room out at h = subst (λ (t : List ℕ). at + length t ≤ length out) (sym found) h
+
+  pub found-put : (out out' : List ℕ) (at r : ℕ) → Put out at (threeKinds kind a m b n c k) r out' → Put out at (threeKinds kind a' m b' n c' k) r out'
+  found-put out out' at r h = subst (λ (t : List ℕ). Put out at t r out') found h
 
 module _ (e w h page-w page-h : ℕ) (figures lines blocks rules graphics glyphs columns : List ℕ) where
   -- the first seven kinds in three parts

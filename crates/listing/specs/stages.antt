@@ -2,7 +2,7 @@
 pub mod Pairs
 -- what a writer of a text leaves
 pub mod Puts
--- what the writer of a sheet asks
-pub mod Rooms
 -- the sheet in the parts that are written one behind the other
 pub mod Parts
+-- the lists in the words of a segmentation's results, and their sheet
+pub mod Lists

@@ -3,12 +3,13 @@ ghost use mathlib.Core.Path.{_≡_};
 ghost use Prim.Native.Nat.{_+_, _*_, _<_, _≤_};
 ghost use lib.ListN.{length};
 ghost use Rattle.listing.specs.rules.Sheets.{fieldCount, entryFrom, entriesText};
-ghost use Rattle.listing.specs.stages.Parts.{fieldsFrom, threeKinds};
+ghost use Rattle.listing.specs.stages.Parts.{fieldsFrom, entriesAt, threeKinds};
 ghost use Rattle.listing.specs.stages.Puts.{Put};
 use crate::digits::LINE_FEED;
 use crate::digits::put_hex;
 use crate::formats::field_count;
 use crate::formats::field_digits;
+use memory::wide;
 
 // The words of an entry, from word `from` on, in digits.
 fn put_fields(out: &mut [u8], at: usize, kind: usize, words: &[u32], from: usize) -> usize
@@ -53,22 +54,36 @@ fn put_entries(out: &mut [u8], at: usize, kind: u32, words: &[u32], n: u32) -> u
     p
 }
 
+// The words of the n entries of a kind that stand from word `at` on.
+pub fn entries_at(words: &[u32], at: usize, kind: usize, n: u32) -> &[u32]
+    requires { ⌜ (kind < 8) × (at + n * fieldCount kind ≤ length (now words)) ⌝ }
+    ensures { λ r. ⌜ now r ≡ entriesAt (now (words .entry)) at kind n ⌝ }
+{
+    let end = at + wide(n) * field_count(kind);
+    &words[at..end]
+}
+
+// How many entries a kind has, and the two kinds after it.
+pub struct ThreeCounts {
+    pub first: u32,
+    pub second: u32,
+    pub third: u32,
+}
+
 // All entries of a kind and of the two kinds after it.
 pub fn put_three_kinds(
     out: &mut [u8],
     at: usize,
     kind: u32,
     first: &[u32],
-    firsts: u32,
     second: &[u32],
-    seconds: u32,
     third: &[u32],
-    thirds: u32,
+    n: ThreeCounts,
 ) -> usize
-    requires { ⌜ (kind < 6) × (firsts * fieldCount kind ≤ length (now first)) × (seconds * fieldCount (kind + 1) ≤ length (now second)) × (thirds * fieldCount (kind + 2) ≤ length (now third)) × (at + length (threeKinds kind (now first) firsts (now second) seconds (now third) thirds) ≤ length (now out)) ⌝ }
-    ensures { λ r. ⌜ Put (now (out .entry)) at (threeKinds kind (now (first .entry)) firsts (now (second .entry)) seconds (now (third .entry)) thirds) r (now (out .exit)) ⌝ }
+    requires { ⌜ (kind < 6) × (n .first * fieldCount kind ≤ length (now first)) × (n .second * fieldCount (kind + 1) ≤ length (now second)) × (n .third * fieldCount (kind + 2) ≤ length (now third)) × (at + length (threeKinds kind (now first) (n .first) (now second) (n .second) (now third) (n .third)) ≤ length (now out)) ⌝ }
+    ensures { λ r. ⌜ Put (now (out .entry)) at (threeKinds kind (now (first .entry)) (n .first) (now (second .entry)) (n .second) (now (third .entry)) (n .third)) r (now (out .exit)) ⌝ }
 {
-    let p = put_entries(out, at, kind, first, firsts);
-    let q = put_entries(out, p, kind + 1, second, seconds);
-    put_entries(out, q, kind + 2, third, thirds)
+    let p = put_entries(out, at, kind, first, n.first);
+    let q = put_entries(out, p, kind + 1, second, n.second);
+    put_entries(out, q, kind + 2, third, n.third)
 }

@@ -6,5 +6,6 @@ mod sheet;
 
 pub use digits::LINE_FEED;
 pub use digits::put_refusal;
+pub use sheet::SheetSides;
 pub use sheet::sheet_length;
 pub use sheet::write_sheet_text;

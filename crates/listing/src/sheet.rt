@@ -5,15 +5,17 @@ ghost use lib.ListN.{length};
 ghost use Rattle.memory.specs.rules.Words.{wordAt, over};
 ghost use Rattle.segmenting.specs.rules.Figures.{figuresLength};
 ghost use Rattle.listing.specs.rules.Pages.{edition};
-ghost use Rattle.judging.specs.rules.Views.{ruleCount, graphicCount, glyphCount, lineCount, blockCount, columnCount};
-ghost use Rattle.listing.specs.rules.Sheets.{fieldCount, headText, sheetText};
+ghost use Rattle.listing.specs.rules.Sheets.{headText};
 ghost use Rattle.listing.specs.stages.Parts.{linesToRules, graphicsToColumns, entryLength, sheetLength};
 ghost use Rattle.listing.specs.stages.Puts.{Put};
-ghost use Rattle.listing.specs.stages.Rooms.{SheetRoom};
+ghost use Rattle.listing.specs.stages.Lists.{ListsIn, linesIn, blocksIn, rulesIn, graphicsIn, glyphsIn, columnsIn, sheetIn};
+use crate::entries::ThreeCounts;
+use crate::entries::entries_at;
 use crate::entries::put_entry;
 use crate::entries::put_three_kinds;
 use crate::formats::entry_length;
 use memory::wide;
+use segmenting::ResultPlaces;
 
 // The edition that is printed.
 const EDITION: u32 = 1;
@@ -60,14 +62,30 @@ pub fn sheet_length(figures: &[u32]) -> usize
         + entry_length(7)
 }
 
+// The sides of a frame and of its page.
+pub struct SheetSides {
+    pub w: u32,
+    pub h: u32,
+    pub page_w: u32,
+    pub page_h: u32,
+}
+
 // The head.
-fn put_head(out: &mut [u8], w: u32, h: u32, page_w: u32, page_h: u32, figures: &[u32]) -> usize
+fn put_head(out: &mut [u8], sides: SheetSides, figures: &[u32]) -> usize
     requires { ⌜ (figuresLength ≤ length (now figures)) × (entryLength 0 ≤ length (now out)) ⌝ }
-    ensures { λ r. ⌜ Put (now (out .entry)) 0 (headText edition w h «page_w» «page_h» (now (figures .entry))) r (now (out .exit)) ⌝ }
+    ensures { λ r. ⌜ Put (now (out .entry)) 0 (headText edition (sides .w) (sides .h) (sides .«page_w») (sides .«page_h») (now (figures .entry))) r (now (out .exit)) ⌝ }
 {
     let low = figures[UNIT_LOW];
     let high = figures[UNIT_HIGH];
-    let head = [EDITION, w, h, page_w, page_h, high, low];
+    let head = [
+        EDITION,
+        sides.w,
+        sides.h,
+        sides.page_w,
+        sides.page_h,
+        high,
+        low,
+    ];
     put_entry(out, 0, 0, &head, 0)
 }
 
@@ -76,16 +94,24 @@ fn put_lines_to_rules(
     out: &mut [u8],
     at: usize,
     figures: &[u32],
-    lines: &[u32],
-    blocks: &[u32],
-    rules: &[u32],
+    words: &[u32],
+    places: ResultPlaces,
 ) -> usize
-    requires { ⌜ (figuresLength ≤ length (now figures)) × (lineCount (now figures) * fieldCount 1 ≤ length (now lines)) × (blockCount (now figures) * fieldCount 2 ≤ length (now blocks)) × (ruleCount (now figures) * fieldCount 3 ≤ length (now rules)) × (at + length (linesToRules (now figures) (now lines) (now blocks) (now rules)) ≤ length (now out)) ⌝ }
-    ensures { λ r. ⌜ Put (now (out .entry)) at (linesToRules (now (figures .entry)) (now (lines .entry)) (now (blocks .entry)) (now (rules .entry))) r (now (out .exit)) ⌝ }
+    requires { ⌜ ListsIn (now figures) places (length (now words)) × (at + length (linesToRules (now figures) (linesIn (now figures) (now words) places) (blocksIn (now figures) (now words) places) (rulesIn (now figures) (now words) places)) ≤ length (now out)) ⌝ }
+    ensures { λ r. ⌜ Put (now (out .entry)) at (linesToRules (now (figures .entry)) (linesIn (now (figures .entry)) (now (words .entry)) places) (blocksIn (now (figures .entry)) (now (words .entry)) places) (rulesIn (now (figures .entry)) (now (words .entry)) places)) r (now (out .exit)) ⌝ }
 {
-    let n = figures[LINES];
-    let m = figures[BLOCKS];
-    put_three_kinds(out, at, 1, lines, n, blocks, m, rules, figures[RULES])
+    let first = figures[LINES];
+    let second = figures[BLOCKS];
+    let third = figures[RULES];
+    let n = ThreeCounts {
+        first,
+        second,
+        third,
+    };
+    let lines = entries_at(words, places.lines, 1, first);
+    let blocks = entries_at(words, places.blocks, 2, second);
+    let rules = entries_at(words, places.rules, 3, third);
+    put_three_kinds(out, at, 1, lines, blocks, rules, n)
 }
 
 // The entries of graphics, glyphs and columns.
@@ -93,48 +119,39 @@ fn put_graphics_to_columns(
     out: &mut [u8],
     at: usize,
     figures: &[u32],
-    graphics: &[u32],
-    glyphs: &[u32],
-    columns: &[u32],
+    words: &[u32],
+    places: ResultPlaces,
 ) -> usize
-    requires { ⌜ (figuresLength ≤ length (now figures)) × (graphicCount (now figures) * fieldCount 4 ≤ length (now graphics)) × (glyphCount (now figures) * fieldCount 5 ≤ length (now glyphs)) × (columnCount (now figures) * fieldCount 6 ≤ length (now columns)) × (at + length (graphicsToColumns (now figures) (now graphics) (now glyphs) (now columns)) ≤ length (now out)) ⌝ }
-    ensures { λ r. ⌜ Put (now (out .entry)) at (graphicsToColumns (now (figures .entry)) (now (graphics .entry)) (now (glyphs .entry)) (now (columns .entry))) r (now (out .exit)) ⌝ }
+    requires { ⌜ ListsIn (now figures) places (length (now words)) × (at + length (graphicsToColumns (now figures) (graphicsIn (now figures) (now words) places) (glyphsIn (now figures) (now words) places) (columnsIn (now figures) (now words) places)) ≤ length (now out)) ⌝ }
+    ensures { λ r. ⌜ Put (now (out .entry)) at (graphicsToColumns (now (figures .entry)) (graphicsIn (now (figures .entry)) (now (words .entry)) places) (glyphsIn (now (figures .entry)) (now (words .entry)) places) (columnsIn (now (figures .entry)) (now (words .entry)) places)) r (now (out .exit)) ⌝ }
 {
-    let n = figures[GRAPHICS];
-    let m = figures[GLYPHS];
-    put_three_kinds(
-        out,
-        at,
-        4,
-        graphics,
-        n,
-        glyphs,
-        m,
-        columns,
-        figures[COLUMNS],
-    )
+    let first = figures[GRAPHICS];
+    let second = figures[GLYPHS];
+    let third = figures[COLUMNS];
+    let n = ThreeCounts {
+        first,
+        second,
+        third,
+    };
+    let graphics = entries_at(words, places.graphics, 4, first);
+    let glyphs = entries_at(words, places.glyphs, 5, second);
+    let columns = entries_at(words, places.columns, 6, third);
+    put_three_kinds(out, at, 4, graphics, glyphs, columns, n)
 }
 
-// Writes the sheet over the front; its length.
+// Writes the sheet over the front; its length. The lists stand in the words at their places.
 pub fn write_sheet_text(
     out: &mut [u8],
-    w: u32,
-    h: u32,
-    page_w: u32,
-    page_h: u32,
+    sides: SheetSides,
     figures: &[u32],
-    lines: &[u32],
-    blocks: &[u32],
-    rules: &[u32],
-    graphics: &[u32],
-    glyphs: &[u32],
-    columns: &[u32],
+    words: &[u32],
+    places: ResultPlaces,
 ) -> usize
-    requires { ⌜ SheetRoom (now figures) (length (now lines)) (length (now blocks)) (length (now rules)) (length (now graphics)) (length (now glyphs)) (length (now columns)) (length (now out)) ⌝ }
-    ensures { λ r. ⌜ (r ≡ sheetLength (now (figures .entry))) × (now (out .exit) ≡ over (sheetText edition w h «page_w» «page_h» (now (figures .entry)) (now (lines .entry)) (now (blocks .entry)) (now (rules .entry)) (now (graphics .entry)) (now (glyphs .entry)) (now (columns .entry))) (now (out .entry))) ⌝ }
+    requires { ⌜ ListsIn (now figures) places (length (now words)) × (sheetLength (now figures) ≤ length (now out)) ⌝ }
+    ensures { λ r. ⌜ (r ≡ sheetLength (now (figures .entry))) × (now (out .exit) ≡ over (sheetIn sides (now (figures .entry)) (now (words .entry)) places) (now (out .entry))) ⌝ }
 {
-    let p = put_head(out, w, h, page_w, page_h, figures);
-    let q = put_lines_to_rules(out, p, figures, lines, blocks, rules);
-    let r = put_graphics_to_columns(out, q, figures, graphics, glyphs, columns);
+    let p = put_head(out, sides, figures);
+    let q = put_lines_to_rules(out, p, figures, words, places);
+    let r = put_graphics_to_columns(out, q, figures, words, places);
     put_entry(out, r, 7, figures, DOTS)
 }

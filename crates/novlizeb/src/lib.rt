@@ -5,6 +5,7 @@ mod answers;
 mod frames;
 mod pages;
 mod results;
+mod sheets;
 
 pub use frames::novlizeb_frame_size;
 pub use frames::novlizeb_level_gray;

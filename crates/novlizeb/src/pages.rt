@@ -7,7 +7,10 @@ ghost use Rattle.judging.specs.rules.Header.{held, scratchHeld};
 ghost use Rattle.judging.specs.rules.Leaves.{leafOf};
 ghost use Rattle.store.specs.rules.Outcomes.{left, levelLeft, segmentLeft, clearLeft};
 use crate::answers::number_of;
-use params::LayoutParams;
+use crate::sheets::Counts;
+use crate::sheets::Lengths;
+use crate::sheets::sheet_of;
+use store::Handed;
 
 // Levels a mask into a store and an ink plane.
 #[no_mangle]
@@ -41,37 +44,15 @@ pub extern "C" fn novlizeb_level(
 ) -> u32
     ensures { λ r. ⌜ left r (now (store .exit)) (now (ink .exit)) ≡ levelLeft (leafOf (now (mask .entry)) width height skew slope (sheetOf «glyph_min_area» «glyph_max_extent_frac» «xheight_min_area» «xheight_fallback_px» «rule_min_len_xh» «rule_max_thick_xh» «rule_run_xh» «graphic_min_xh» «smear_xh» «line_min_glyphs» «line_min_height_xh» «line_max_height_xh» «block_min_overlap» «block_gap_margin_lines» «block_max_gap_lines» «column_gap_xh» «column_cover_frac» «shear_min_deg») capacity) (now (store .entry)) (now (ink .entry)) ⌝ }
 {
-    let sheet = LayoutParams {
-        glyph_min_area,
-        glyph_max_extent_frac,
-        xheight_min_area,
-        xheight_fallback_px,
-        rule_min_len_xh,
-        rule_max_thick_xh,
-        rule_run_xh,
-        graphic_min_xh,
-        smear_xh,
-        line_min_glyphs,
-        line_min_height_xh,
-        line_max_height_xh,
-        block_min_overlap,
-        block_gap_margin_lines,
-        block_max_gap_lines,
-        column_gap_xh,
-        column_cover_frac,
-        shear_min_deg,
-    };
-    number_of(store::level(
-        mask,
-        width,
-        height,
-        skew,
-        slope,
-        sheet,
-        capacity,
-        store,
-        ink,
-    ))
+    let counts = Counts(glyph_min_area, xheight_min_area, line_min_glyphs);
+    let sizes = Lengths(glyph_max_extent_frac, xheight_fallback_px, graphic_min_xh);
+    let rules = Lengths(rule_min_len_xh, rule_max_thick_xh, rule_run_xh);
+    let lines = Lengths(smear_xh, line_min_height_xh, line_max_height_xh);
+    let gaps = Lengths(block_gap_margin_lines, block_max_gap_lines, column_gap_xh);
+    let least = Lengths(block_min_overlap, column_cover_frac, shear_min_deg);
+    let sheet = sheet_of(counts, sizes, rules, lines, gaps, least);
+    let handed = Handed::new(width, height, skew, slope, capacity);
+    number_of(store::level(mask, handed, sheet, store, ink))
 }
 
 // Segments what a levelled store and its ink plane hold; scratch is worked in.
@@ -102,26 +83,13 @@ pub extern "C" fn novlizeb_segment(
 ) -> u32
     ensures { λ r. ⌜ (left r (now (store .exit)) (now (kinds .exit)) ≡ segmentLeft (sheetOf «glyph_min_area» «glyph_max_extent_frac» «xheight_min_area» «xheight_fallback_px» «rule_min_len_xh» «rule_max_thick_xh» «rule_run_xh» «graphic_min_xh» «smear_xh» «line_min_glyphs» «line_min_height_xh» «line_max_height_xh» «block_min_overlap» «block_gap_margin_lines» «block_max_gap_lines» «column_gap_xh» «column_cover_frac» «shear_min_deg») (now (store .entry)) (now (ink .entry)) (now (kinds .entry)) (length (now (scratch .entry)))) × (length (now (scratch .exit)) ≡ length (now (scratch .entry))) × (drop (scratchHeld (held (now (store .entry)))) (now (scratch .exit)) ≡ drop (scratchHeld (held (now (store .entry)))) (now (scratch .entry))) ⌝ }
 {
-    let sheet = LayoutParams {
-        glyph_min_area,
-        glyph_max_extent_frac,
-        xheight_min_area,
-        xheight_fallback_px,
-        rule_min_len_xh,
-        rule_max_thick_xh,
-        rule_run_xh,
-        graphic_min_xh,
-        smear_xh,
-        line_min_glyphs,
-        line_min_height_xh,
-        line_max_height_xh,
-        block_min_overlap,
-        block_gap_margin_lines,
-        block_max_gap_lines,
-        column_gap_xh,
-        column_cover_frac,
-        shear_min_deg,
-    };
+    let counts = Counts(glyph_min_area, xheight_min_area, line_min_glyphs);
+    let sizes = Lengths(glyph_max_extent_frac, xheight_fallback_px, graphic_min_xh);
+    let rules = Lengths(rule_min_len_xh, rule_max_thick_xh, rule_run_xh);
+    let lines = Lengths(smear_xh, line_min_height_xh, line_max_height_xh);
+    let gaps = Lengths(block_gap_margin_lines, block_max_gap_lines, column_gap_xh);
+    let least = Lengths(block_min_overlap, column_cover_frac, shear_min_deg);
+    let sheet = sheet_of(counts, sizes, rules, lines, gaps, least);
     number_of(store::segment(sheet, store, ink, kinds, scratch))
 }
 

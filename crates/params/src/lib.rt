@@ -5,7 +5,9 @@ ghost use Rattle.params.specs.rules.Valid.{lengthOk, lengthsOk, valid};
 // The greatest length.
 const TOP: f64 = 1.0e4;
 
-// Lengths ending in `_xh` are in x-heights, in `_lines` in line heights, in `_px` in dots, in `_frac` parts of a whole.
+// Lengths ending in `_xh` are in x-heights, in `_lines` in line heights, in `_px` in dots, in `_frac` parts of a whole. It is laid out as
+// in C, so that an export can take it by value.
+#[repr(C)]
 pub struct LayoutParams {
     pub glyph_min_area: u32,
     pub glyph_max_extent_frac: f64,

@@ -31,48 +31,6 @@ fn ends_with(body: &[u8], number: u32, figures: u64, results: u64, kinds: u64) -
         & (text::word(body, words - 1) == kinds)
 }
 
-// Segments an ink plane by a sheet, its fields handed on one by one.
-fn segment_ink(
-    ink: &[u8],
-    width: u32,
-    height: u32,
-    p: LayoutParams,
-    capacity: u32,
-    results: &mut [u32],
-    kinds: &mut [u8],
-    figures: &mut [u32],
-) -> u32 {
-    let mut scratch = [0u32; SCRATCH_WORDS];
-    stages::novlizeb_segment_plane(
-        ink,
-        width,
-        height,
-        p.glyph_min_area,
-        p.glyph_max_extent_frac,
-        p.xheight_min_area,
-        p.xheight_fallback_px,
-        p.rule_min_len_xh,
-        p.rule_max_thick_xh,
-        p.rule_run_xh,
-        p.graphic_min_xh,
-        p.smear_xh,
-        p.line_min_glyphs,
-        p.line_min_height_xh,
-        p.line_max_height_xh,
-        p.block_min_overlap,
-        p.block_gap_margin_lines,
-        p.block_max_gap_lines,
-        p.column_gap_xh,
-        p.column_cover_frac,
-        p.shear_min_deg,
-        capacity,
-        &mut scratch,
-        results,
-        kinds,
-        figures,
-    )
-}
-
 // Segments the page that the digits spell, of as many dots as there are kinds.
 fn segment_page(body: &[u8], width: u32, height: u32, ink: &mut [u8], kinds: &mut [u8]) -> bool {
     if body.len() < PAGE_FROM {
@@ -81,14 +39,16 @@ fn segment_page(body: &[u8], width: u32, height: u32, ink: &mut [u8], kinds: &mu
     masks::read_mask(&body[PAGE_FROM..], ink);
     let p = sheet(&body[SHEET_FROM..]);
     let capacity = text::whole(body, 20);
+    let mut scratch = [0u32; SCRATCH_WORDS];
     let mut results = [0u32; RESULT_WORDS];
     let mut figures = [0u32; FIGURES];
-    let number = segment_ink(
+    let number = stages::novlizeb_segment_plane(
         ink,
         width,
         height,
         p,
         capacity,
+        &mut scratch,
         &mut results,
         kinds,
         &mut figures,

@@ -35,6 +35,7 @@ use crate::words::WIDTH;
 use memory::min_usize;
 use memory::word_at;
 use store::Answer;
+use store::Handed;
 use store::Outcome;
 use store::clear;
 use store::count_dots;
@@ -151,17 +152,14 @@ fn level_call(
     let height = word_at(call, HEIGHT);
     let capacity = word_at(call, CAPACITY);
     let mask = bytes_of(call, bytes);
-    level(
-        mask,
+    let handed = Handed {
         width,
         height,
         skew,
         slope,
-        sheet,
         capacity,
-        &mut store[..n],
-        &mut ink[..m],
-    )
+    };
+    level(mask, handed, sheet, &mut store[..n], &mut ink[..m])
 }
 
 // Segmenting, on the parts of store, planes and scratch that it is lent.

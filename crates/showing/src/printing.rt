@@ -18,6 +18,7 @@ use listing::put_refusal;
 use memory::from_bits;
 use params::LayoutParams;
 use store::Answer;
+use store::Handed;
 use store::Outcome;
 use store::level;
 use store::segment;
@@ -100,7 +101,14 @@ fn level_page(
     let sheet = show_sheet();
     let tilt = from_bits(skew);
     let rise = from_bits(slope);
-    let done = level(mask, width, height, tilt, rise, sheet, CAPACITY, store, ink);
+    let handed = Handed {
+        width,
+        height,
+        skew: tilt,
+        slope: rise,
+        capacity: CAPACITY,
+    };
+    let done = level(mask, handed, sheet, store, ink);
     number_of(done)
 }
 

@@ -107,17 +107,13 @@ fn level(
     let ph = page_h as usize;
     let end = pw + h;
     levelling::fill_shears(shears, page_w, page_h, slope);
-    levelling::level_plane(
-        page,
-        fill,
-        pw,
-        ph,
-        &shears[0..pw],
-        &shears[pw..end],
+    let sides = levelling::Sides {
+        page_w: pw,
+        page_h: ph,
         w,
         h,
-        out,
-    );
+    };
+    levelling::level_plane(page, fill, sides, &shears[0..pw], &shears[pw..end], out);
 }
 
 // A page plane moved into its frame, `fill` in the dots that are added; both shears, one after the

@@ -7,7 +7,6 @@ ghost use mathlib.Core.Path.{_≡_};
 ghost use Rattle.rounding.specs.rules.Rounding.{roundHalfAway, roundToUnsigned, roundToSigned, roundOutput};
 ghost use Rattle.rounding.specs.rules.Sums.{pairwiseSum};
 ghost use Rattle.params.specs.rules.Valid.{valid};
-ghost use Rattle.params.specs.rules.Sheets.{sheetOf};
 
 mod frames;
 mod levels;
@@ -79,48 +78,10 @@ pub extern "C" fn novlizeb_pairwise_sum(values: &[f64]) -> f64
     rounding::pairwise_sum(values)
 }
 
-// Whether a sheet of these eighteen numbers is accepted.
+// Whether a sheet is accepted.
 #[no_mangle]
-pub extern "C" fn novlizeb_validate(
-    glyph_min_area: u32,
-    glyph_max_extent_frac: f64,
-    xheight_min_area: u32,
-    xheight_fallback_px: f64,
-    rule_min_len_xh: f64,
-    rule_max_thick_xh: f64,
-    rule_run_xh: f64,
-    graphic_min_xh: f64,
-    smear_xh: f64,
-    line_min_glyphs: u32,
-    line_min_height_xh: f64,
-    line_max_height_xh: f64,
-    block_min_overlap: f64,
-    block_gap_margin_lines: f64,
-    block_max_gap_lines: f64,
-    column_gap_xh: f64,
-    column_cover_frac: f64,
-    shear_min_deg: f64,
-) -> bool
-    ensures { λ r. ⌜ r ≡ valid (sheetOf «glyph_min_area» «glyph_max_extent_frac» «xheight_min_area» «xheight_fallback_px» «rule_min_len_xh» «rule_max_thick_xh» «rule_run_xh» «graphic_min_xh» «smear_xh» «line_min_glyphs» «line_min_height_xh» «line_max_height_xh» «block_min_overlap» «block_gap_margin_lines» «block_max_gap_lines» «column_gap_xh» «column_cover_frac» «shear_min_deg») ⌝ }
+pub extern "C" fn novlizeb_validate(sheet: LayoutParams) -> bool
+    ensures { λ r. ⌜ r ≡ valid sheet ⌝ }
 {
-    LayoutParams {
-        glyph_min_area,
-        glyph_max_extent_frac,
-        xheight_min_area,
-        xheight_fallback_px,
-        rule_min_len_xh,
-        rule_max_thick_xh,
-        rule_run_xh,
-        graphic_min_xh,
-        smear_xh,
-        line_min_glyphs,
-        line_min_height_xh,
-        line_max_height_xh,
-        block_min_overlap,
-        block_gap_margin_lines,
-        block_max_gap_lines,
-        column_gap_xh,
-        column_cover_frac,
-        shear_min_deg,
-    }.validate()
+    sheet.validate()
 }

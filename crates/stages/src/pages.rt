@@ -5,7 +5,6 @@ ghost use Prim.Native.Nat.{_*_, _≤_};
 ghost use lib.ListN.{length, drop};
 ghost use Rattle.memory.specs.rules.Limits.{maxFrameWidth, maxFrameHeight, scratchWords};
 ghost use Rattle.segmenting.specs.rules.Answers.{segmentNumber};
-ghost use Rattle.params.specs.rules.Sheets.{sheetOf};
 ghost use Rattle.segmenting.specs.rules.Figures.{figuresLength};
 ghost use Rattle.stages.specs.rules.Pages.{planeRefusal, lentRefusal, figuresLeft, left, paged};
 use crate::frames::judge_frame;
@@ -29,24 +28,23 @@ pub fn judge_plane(ink: &[u8], width: u32, height: u32) -> u32
     judge_frame(width, height, ink.len(), by_byte)
 }
 
-// 6, 7 or 9 where the sheet, the capacity or the memory lent is not as it must be, else 0.
-fn judge_lent(
-    sheet: LayoutParams,
-    w: usize,
-    dots: usize,
-    capacity: usize,
+// How long what is lent is.
+struct Lent {
     words: usize,
     results: usize,
     kinds: usize,
     figures: usize,
-) -> u32
+}
+
+// 6, 7 or 9 where the sheet, the capacity or the memory lent is not as it must be, else 0.
+fn judge_lent(sheet: LayoutParams, w: usize, dots: usize, capacity: usize, lent: Lent) -> u32
     requires { ⌜ (w ≤ maxFrameWidth) × (dots ≤ maxFrameWidth * maxFrameHeight) × (capacity ≤ 4294967295) ⌝ }
-    ensures { λ r. ⌜ r ≡ lentRefusal sheet w dots capacity words results kinds figures 0 ⌝ }
+    ensures { λ r. ⌜ r ≡ lentRefusal sheet w dots capacity (lent .words) (lent .results) (lent .kinds) (lent .figures) 0 ⌝ }
 {
-    let by_figures = refuse_if(figures < FIGURES, 9, 0);
-    let by_kinds = refuse_if(kinds < dots, 9, by_figures);
-    let by_results = refuse_if(results < result_words(w, capacity), 9, by_kinds);
-    let by_room = judge_room(dots, capacity, words, by_results);
+    let by_figures = refuse_if(lent.figures < FIGURES, 9, 0);
+    let by_kinds = refuse_if(lent.kinds < dots, 9, by_figures);
+    let by_results = refuse_if(lent.results < result_words(w, capacity), 9, by_kinds);
+    let by_room = judge_room(dots, capacity, lent.words, by_results);
     refuse_if(!sheet.validate(), 6, by_room)
 }
 
@@ -64,8 +62,10 @@ fn tell(answer: SegmentAnswer, figures: &mut [u32]) -> u32
     }
 }
 
-// What can refuse the call is judged before anything is written.
-fn segment_page(
+// Segments an ink plane of bytes 0 and 1: the lists in the words of results, the kind of each dot in kinds, and in the first fifteen words
+// of figures what is told besides (specs/rules/Pages). The words are worked in. What can refuse the call is judged before anything is written.
+#[no_mangle]
+pub extern "C" fn novlizeb_segment_plane(
     ink: &[u8],
     w: u32,
     h: u32,
@@ -84,86 +84,17 @@ fn segment_page(
     }
     let dots = (w as usize) * (h as usize);
     let p = capacity as usize;
-    let lent = judge_lent(
-        sheet,
-        w as usize,
-        dots,
-        p,
-        words.len(),
-        results.len(),
-        kinds.len(),
-        figures.len(),
-    );
-    if lent != 0 {
-        return lent;
+    let lent = Lent {
+        words: words.len(),
+        results: results.len(),
+        kinds: kinds.len(),
+        figures: figures.len(),
+    };
+    let room = judge_lent(sheet, w as usize, dots, p, lent);
+    if room != 0 {
+        return room;
     }
     let need = scratch_words(dots, capacity);
     let answer = segment(ink, w, h, sheet, p, &mut words[..need], results, kinds);
     tell(answer, figures)
-}
-
-// Segments an ink plane of bytes 0 and 1 by a sheet of eighteen numbers: the lists in the words of results, the kind of each dot in
-// kinds, and in the first fifteen words of figures what is told besides (specs/Pages). The words are worked in.
-#[no_mangle]
-pub extern "C" fn novlizeb_segment_plane(
-    ink: &[u8],
-    width: u32,
-    height: u32,
-    glyph_min_area: u32,
-    glyph_max_extent_frac: f64,
-    xheight_min_area: u32,
-    xheight_fallback_px: f64,
-    rule_min_len_xh: f64,
-    rule_max_thick_xh: f64,
-    rule_run_xh: f64,
-    graphic_min_xh: f64,
-    smear_xh: f64,
-    line_min_glyphs: u32,
-    line_min_height_xh: f64,
-    line_max_height_xh: f64,
-    block_min_overlap: f64,
-    block_gap_margin_lines: f64,
-    block_max_gap_lines: f64,
-    column_gap_xh: f64,
-    column_cover_frac: f64,
-    shear_min_deg: f64,
-    capacity: u32,
-    words: &mut [u32],
-    results: &mut [u32],
-    kinds: &mut [u8],
-    figures: &mut [u32],
-) -> u32
-    ensures { λ r. ⌜ left r (now (results .exit)) (now (kinds .exit)) (now (figures .exit)) (length (now (words .exit))) (drop (scratchWords (width * height) capacity) (now (words .exit))) ≡ paged (sheetOf «glyph_min_area» «glyph_max_extent_frac» «xheight_min_area» «xheight_fallback_px» «rule_min_len_xh» «rule_max_thick_xh» «rule_run_xh» «graphic_min_xh» «smear_xh» «line_min_glyphs» «line_min_height_xh» «line_max_height_xh» «block_min_overlap» «block_gap_margin_lines» «block_max_gap_lines» «column_gap_xh» «column_cover_frac» «shear_min_deg») width height (now (ink .entry)) capacity (now (words .entry)) (now (results .entry)) (now (kinds .entry)) (now (figures .entry)) ⌝ }
-{
-    let sheet = LayoutParams {
-        glyph_min_area,
-        glyph_max_extent_frac,
-        xheight_min_area,
-        xheight_fallback_px,
-        rule_min_len_xh,
-        rule_max_thick_xh,
-        rule_run_xh,
-        graphic_min_xh,
-        smear_xh,
-        line_min_glyphs,
-        line_min_height_xh,
-        line_max_height_xh,
-        block_min_overlap,
-        block_gap_margin_lines,
-        block_max_gap_lines,
-        column_gap_xh,
-        column_cover_frac,
-        shear_min_deg,
-    };
-    segment_page(
-        ink,
-        width,
-        height,
-        sheet,
-        capacity,
-        words,
-        results,
-        kinds,
-        figures,
-    )
 }

@@ -6,7 +6,6 @@ ghost use Prim.Native.Nat.{_*_, _≤_};
 ghost use lib.ListN.{length, drop};
 ghost use Rattle.memory.specs.rules.Limits.{maxFrameWidth, maxFrameHeight, scratchWords};
 ghost use Rattle.memory.specs.rules.Words.{over};
-ghost use Rattle.params.specs.rules.Sheets.{sheetOf};
 ghost use Rattle.sorting.specs.stages.Scratch.{SortRoom};
 ghost use Rattle.sorting.specs.stages.SortSteps.{sortLeft};
 ghost use Rattle.stages.specs.rules.Frames.{told};
@@ -71,8 +70,10 @@ fn sort_by_plan(
     sort_ink(ink, plan, sheet, words)
 }
 
-// What can refuse the call is judged before anything is written, but for too many components.
-fn sort_page(
+// Sorts an ink plane of bytes 0 and 1: the first seven words of figures tell the unit, the dots of ink, the cuts and the components
+// (specs/rules/SortedPages). The words are worked in. What can refuse the call is judged before anything is written, but for too many components.
+#[no_mangle]
+pub extern "C" fn novlizeb_sort(
     ink: &[u8],
     w: u32,
     h: u32,
@@ -101,58 +102,4 @@ fn sort_page(
             0
         }
     }
-}
-
-// Sorts an ink plane of bytes 0 and 1 by a sheet of eighteen numbers: the first seven words of figures tell the unit, the dots of
-// ink, the cuts and the components (specs/SortedPages). The words are worked in.
-#[no_mangle]
-pub extern "C" fn novlizeb_sort(
-    ink: &[u8],
-    width: u32,
-    height: u32,
-    glyph_min_area: u32,
-    glyph_max_extent_frac: f64,
-    xheight_min_area: u32,
-    xheight_fallback_px: f64,
-    rule_min_len_xh: f64,
-    rule_max_thick_xh: f64,
-    rule_run_xh: f64,
-    graphic_min_xh: f64,
-    smear_xh: f64,
-    line_min_glyphs: u32,
-    line_min_height_xh: f64,
-    line_max_height_xh: f64,
-    block_min_overlap: f64,
-    block_gap_margin_lines: f64,
-    block_max_gap_lines: f64,
-    column_gap_xh: f64,
-    column_cover_frac: f64,
-    shear_min_deg: f64,
-    capacity: u32,
-    words: &mut [u32],
-    figures: &mut [u32],
-) -> u32
-    ensures { λ r. ⌜ told r (now (figures .exit)) (length (now (words .exit))) (drop (scratchWords (width * height) capacity) (now (words .exit))) ≡ sortedPage (sheetOf «glyph_min_area» «glyph_max_extent_frac» «xheight_min_area» «xheight_fallback_px» «rule_min_len_xh» «rule_max_thick_xh» «rule_run_xh» «graphic_min_xh» «smear_xh» «line_min_glyphs» «line_min_height_xh» «line_max_height_xh» «block_min_overlap» «block_gap_margin_lines» «block_max_gap_lines» «column_gap_xh» «column_cover_frac» «shear_min_deg») width height (now (ink .entry)) capacity (now (words .entry)) (now (figures .entry)) ⌝ }
-{
-    let sheet = LayoutParams {
-        glyph_min_area,
-        glyph_max_extent_frac,
-        xheight_min_area,
-        xheight_fallback_px,
-        rule_min_len_xh,
-        rule_max_thick_xh,
-        rule_run_xh,
-        graphic_min_xh,
-        smear_xh,
-        line_min_glyphs,
-        line_min_height_xh,
-        line_max_height_xh,
-        block_min_overlap,
-        block_gap_margin_lines,
-        block_max_gap_lines,
-        column_gap_xh,
-        column_cover_frac,
-        shear_min_deg,
-    };
-    sort_page(ink, width, height, sheet, capacity, words, figures)
 }

@@ -1,5 +1,7 @@
 -- what levelling, segmenting and clearing write into the store
 pub mod Written
+-- what levelling is handed
+pub mod Handed
 -- the number and value of an answer
 pub mod Answers
 -- what each reading asks and answers

@@ -13,13 +13,13 @@ ghost use Rattle.store.specs.rules.Readings.Output.{none, words};
 ghost use Rattle.store.specs.rules.Outcomes.{told, resultTold};
 ghost use Rattle.store.specs.rules.Answers.{answerNumber, answerValue};
 use crate::answers::Answer;
-use grouping::Sides;
 use judging::FRAME_HEIGHT;
 use judging::FRAME_WIDTH;
 use judging::HEADER;
 use judging::PAGE_HEIGHT;
 use judging::PAGE_WIDTH;
 use judging::judge_reading;
+use levelling::Sides;
 use memory::Rect;
 
 // A kind outside 1 to 5, or a box with a corner outside the frame or reversed.

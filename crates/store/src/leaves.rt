@@ -8,8 +8,8 @@ ghost use Rattle.rounding.specs.rules.Drift.{WithinOne};
 ghost use Rattle.levelling.specs.rules.Frames.{PageSides, frame};
 ghost use Rattle.levelling.specs.rules.Planes.{levelled};
 ghost use Rattle.judging.specs.rules.Header.{headerWords, figuresAt};
-ghost use Rattle.judging.specs.rules.Leaves.{leafOf};
 ghost use Rattle.store.specs.rules.Written.{headWords};
+ghost use Rattle.store.specs.rules.Handed.{leafHanded};
 ghost use Rattle.store.specs.rules.Outcomes.{left, levelLeft};
 ghost use Rattle.store.specs.rules.Answers.{outcomeNumber};
 use crate::answers::Outcome;
@@ -27,8 +27,31 @@ use memory::bits_of;
 use memory::copy_words;
 use params::LayoutParams;
 
-// State and words 1 to 9 over the front.
-fn write_head(
+// What levelling is handed beside mask and sheet (01, part 3).
+pub struct Handed {
+    pub width: u32,
+    pub height: u32,
+    pub skew: f64,
+    pub slope: f64,
+    pub capacity: u32,
+}
+
+impl Handed {
+    pub fn new(width: u32, height: u32, skew: f64, slope: f64, capacity: u32) -> Self
+        ensures { λ r. ⌜ r ≡ record { width = width; height = height; skew = skew; slope = slope; capacity = capacity } ⌝ }
+    {
+        Self {
+            width,
+            height,
+            skew,
+            slope,
+            capacity,
+        }
+    }
+}
+
+// What the store's head says of a levelled leaf: the sides of page and frame, the capacity, the applied skew and slope.
+struct Head {
     page_w: u32,
     page_h: u32,
     w: u32,
@@ -36,132 +59,96 @@ fn write_head(
     capacity: u32,
     skew: f64,
     slope: f64,
-    store: &mut [u32],
-)
+}
+
+// State and words 1 to 9 over the front.
+fn write_head(a: Head, store: &mut [u32])
     requires { ⌜ figuresAt ≤ length (now store) ⌝ }
-    ensures { λ _. ⌜ now (store .exit) ≡ over (1 ∷ headWords «page_w» «page_h» w h capacity skew slope) (now (store .entry)) ⌝ }
+    ensures { λ _. ⌜ now (store .exit) ≡ over (1 ∷ headWords (a .«page_w») (a .«page_h») (a .w) (a .h) (a .capacity) (a .skew) (a .slope)) (now (store .entry)) ⌝ }
 {
     let mut head = [0u32; 10];
-    let a = bits_of(skew);
-    let b = bits_of(slope);
+    let skew = bits_of(a.skew);
+    let slope = bits_of(a.slope);
     head[STATE] = LEVELLED;
-    head[PAGE_WIDTH] = page_w;
-    head[PAGE_HEIGHT] = page_h;
-    head[FRAME_WIDTH] = w;
-    head[FRAME_HEIGHT] = h;
-    head[CAPACITY] = capacity;
-    head[6] = (a % 4294967296) as u32;
-    head[7] = (a / 4294967296) as u32;
-    head[8] = (b % 4294967296) as u32;
-    head[9] = (b / 4294967296) as u32;
+    head[PAGE_WIDTH] = a.page_w;
+    head[PAGE_HEIGHT] = a.page_h;
+    head[FRAME_WIDTH] = a.w;
+    head[FRAME_HEIGHT] = a.h;
+    head[CAPACITY] = a.capacity;
+    head[6] = (skew % 4294967296) as u32;
+    head[7] = (skew / 4294967296) as u32;
+    head[8] = (slope % 4294967296) as u32;
+    head[9] = (slope / 4294967296) as u32;
     copy_words(store, &head);
 }
 
 // Both shears, and the mask moved by them.
-fn move_page(
-    mask: &[u8],
-    page_w: u32,
-    page_h: u32,
-    slope: f64,
-    w: usize,
-    h: usize,
-    shears: &mut [u32],
-    ink: &mut [u8],
-)
-    requires { ⌜ PageSides «page_w» «page_h» ⌝ ∗ ⌜ WithinOne slope ⌝ ∗ ⌜ (w ≡ frame «page_w» «page_h» slope .w) × (h ≡ frame «page_w» «page_h» slope .h) ⌝ ∗ ⌜ (length (now mask) ≡ «page_w» * «page_h») × («page_w» + h ≤ length (now shears)) × (w * h ≤ length (now ink)) ⌝ }
-    ensures { λ _. ⌜ (now (shears .exit) ≡ over (frame «page_w» «page_h» slope .shear ++ frame «page_w» «page_h» slope .shear-x) (now (shears .entry))) × (now (ink .exit) ≡ over (levelled (frame «page_w» «page_h» slope) 0 (now (mask .entry))) (now (ink .entry))) ⌝ }
+fn move_page(mask: &[u8], a: Head, shears: &mut [u32], ink: &mut [u8])
+    requires { ⌜ PageSides (a .«page_w») (a .«page_h») ⌝ ∗ ⌜ WithinOne (a .slope) ⌝ ∗ ⌜ (a .w ≡ frame (a .«page_w») (a .«page_h») (a .slope) .w) × (a .h ≡ frame (a .«page_w») (a .«page_h») (a .slope) .h) ⌝ ∗ ⌜ (length (now mask) ≡ a .«page_w» * a .«page_h») × (a .«page_w» + a .h ≤ length (now shears)) × (a .w * a .h ≤ length (now ink)) ⌝ }
+    ensures { λ _. ⌜ (now (shears .exit) ≡ over (frame (a .«page_w») (a .«page_h») (a .slope) .shear ++ frame (a .«page_w») (a .«page_h») (a .slope) .shear-x) (now (shears .entry))) × (now (ink .exit) ≡ over (levelled (frame (a .«page_w») (a .«page_h») (a .slope)) 0 (now (mask .entry))) (now (ink .entry))) ⌝ }
 {
-    let pw = page_w as usize;
-    let ph = page_h as usize;
+    let pw = a.page_w as usize;
+    let ph = a.page_h as usize;
+    let w = a.w as usize;
+    let h = a.h as usize;
     let end = pw + h;
-    levelling::fill_shears(shears, page_w, page_h, slope);
-    levelling::level_plane(mask, 0, pw, ph, &shears[0..pw], &shears[pw..end], w, h, ink);
+    levelling::fill_shears(shears, a.page_w, a.page_h, a.slope);
+    let sides = levelling::Sides {
+        page_w: pw,
+        page_h: ph,
+        w,
+        h,
+    };
+    levelling::level_plane(mask, 0, sides, &shears[0..pw], &shears[pw..end], ink);
 }
 
 // Both shears behind the header, and the mask moved by them.
-fn move_mask(
-    mask: &[u8],
-    page_w: u32,
-    page_h: u32,
-    slope: f64,
-    w: usize,
-    h: usize,
-    store: &mut [u32],
-    ink: &mut [u8],
-)
-    requires { ⌜ PageSides «page_w» «page_h» ⌝ ∗ ⌜ WithinOne slope ⌝ ∗ ⌜ (w ≡ frame «page_w» «page_h» slope .w) × (h ≡ frame «page_w» «page_h» slope .h) ⌝ ∗ ⌜ (length (now mask) ≡ «page_w» * «page_h») × (headerWords + («page_w» + h) ≤ length (now store)) × (w * h ≤ length (now ink)) ⌝ }
-    ensures { λ _. ⌜ (now (store .exit) ≡ putAt headerWords (frame «page_w» «page_h» slope .shear ++ frame «page_w» «page_h» slope .shear-x) (now (store .entry))) × (now (ink .exit) ≡ over (levelled (frame «page_w» «page_h» slope) 0 (now (mask .entry))) (now (ink .entry))) ⌝ }
+fn move_mask(mask: &[u8], a: Head, store: &mut [u32], ink: &mut [u8])
+    requires { ⌜ PageSides (a .«page_w») (a .«page_h») ⌝ ∗ ⌜ WithinOne (a .slope) ⌝ ∗ ⌜ (a .w ≡ frame (a .«page_w») (a .«page_h») (a .slope) .w) × (a .h ≡ frame (a .«page_w») (a .«page_h») (a .slope) .h) ⌝ ∗ ⌜ (length (now mask) ≡ a .«page_w» * a .«page_h») × (headerWords + (a .«page_w» + a .h) ≤ length (now store)) × (a .w * a .h ≤ length (now ink)) ⌝ }
+    ensures { λ _. ⌜ (now (store .exit) ≡ putAt headerWords (frame (a .«page_w») (a .«page_h») (a .slope) .shear ++ frame (a .«page_w») (a .«page_h») (a .slope) .shear-x) (now (store .entry))) × (now (ink .exit) ≡ over (levelled (frame (a .«page_w») (a .«page_h») (a .slope)) 0 (now (mask .entry))) (now (ink .entry))) ⌝ }
 {
-    move_page(mask, page_w, page_h, slope, w, h, &mut store[HEADER..], ink);
+    move_page(mask, a, &mut store[HEADER..], ink);
 }
 
 // Header, shears and ink plane of a leaf that is accepted.
-fn write_leaf(
-    mask: &[u8],
-    page_w: u32,
-    page_h: u32,
-    skew: f64,
-    slope: f64,
-    w: u32,
-    h: u32,
-    capacity: u32,
-    store: &mut [u32],
-    ink: &mut [u8],
-)
-    requires { ⌜ PageSides «page_w» «page_h» ⌝ ∗ ⌜ WithinOne slope ⌝ ∗ ⌜ (w ≡ frame «page_w» «page_h» slope .w) × (h ≡ frame «page_w» «page_h» slope .h) ⌝ ∗ ⌜ (length (now mask) ≡ «page_w» * «page_h») × (headerWords + («page_w» + h) ≤ length (now store)) × (w * h ≤ length (now ink)) ⌝ }
-    ensures { λ _. ⌜ (now (store .exit) ≡ putAt headerWords (frame «page_w» «page_h» slope .shear ++ frame «page_w» «page_h» slope .shear-x) (over (1 ∷ headWords «page_w» «page_h» w h capacity skew slope) (now (store .entry)))) × (now (ink .exit) ≡ over (levelled (frame «page_w» «page_h» slope) 0 (now (mask .entry))) (now (ink .entry))) ⌝ }
+fn write_leaf(mask: &[u8], a: Head, store: &mut [u32], ink: &mut [u8])
+    requires { ⌜ PageSides (a .«page_w») (a .«page_h») ⌝ ∗ ⌜ WithinOne (a .slope) ⌝ ∗ ⌜ (a .w ≡ frame (a .«page_w») (a .«page_h») (a .slope) .w) × (a .h ≡ frame (a .«page_w») (a .«page_h») (a .slope) .h) ⌝ ∗ ⌜ (length (now mask) ≡ a .«page_w» * a .«page_h») × (headerWords + (a .«page_w» + a .h) ≤ length (now store)) × (a .w * a .h ≤ length (now ink)) ⌝ }
+    ensures { λ _. ⌜ (now (store .exit) ≡ putAt headerWords (frame (a .«page_w») (a .«page_h») (a .slope) .shear ++ frame (a .«page_w») (a .«page_h») (a .slope) .shear-x) (over (1 ∷ headWords (a .«page_w») (a .«page_h») (a .w) (a .h) (a .capacity) (a .skew) (a .slope)) (now (store .entry)))) × (now (ink .exit) ≡ over (levelled (frame (a .«page_w») (a .«page_h») (a .slope)) 0 (now (mask .entry))) (now (ink .entry))) ⌝ }
 {
-    write_head(page_w, page_h, w, h, capacity, skew, slope, store);
-    move_mask(
-        mask,
-        page_w,
-        page_h,
-        slope,
-        w as usize,
-        h as usize,
-        store,
-        ink,
-    );
+    write_head(a, store);
+    move_mask(mask, a, store, ink);
 }
 
 // Levels a mask: the number of a refusal, or 0 and the leaf in the store and the ink plane.
 pub fn level(
     mask: &[u8],
-    width: u32,
-    height: u32,
-    skew: f64,
-    slope: f64,
+    a: Handed,
     sheet: LayoutParams,
-    capacity: u32,
     store: &mut [u32],
     ink: &mut [u8],
 ) -> Outcome
-    ensures { λ r. ⌜ left (outcomeNumber r) (now (store .exit)) (now (ink .exit)) ≡ levelLeft (leafOf (now (mask .entry)) width height skew slope sheet capacity) (now (store .entry)) (now (ink .entry)) ⌝ }
+    ensures { λ r. ⌜ left (outcomeNumber r) (now (store .exit)) (now (ink .exit)) ≡ levelLeft (leafHanded (now (mask .entry)) a sheet) (now (store .entry)) (now (ink .entry)) ⌝ }
 {
-    let handed = judge_leaf(mask, width, height, skew, slope, sheet, capacity);
+    let handed = judge_leaf(mask, a.width, a.height, a.skew, a.slope, sheet, a.capacity);
     if handed != 0 {
         return Outcome::Refused(handed);
     }
-    let applied_skew = levelling::applied(sheet, skew, skew);
-    let applied_slope = levelling::applied(sheet, skew, slope);
-    let size = levelling::frame_size(width, height, applied_slope);
-    let w = size.w;
-    let h = size.h;
-    let lent = judge_place(width, w, h, capacity, store, ink.len());
+    let skew = levelling::applied(sheet, a.skew, a.skew);
+    let slope = levelling::applied(sheet, a.skew, a.slope);
+    let size = levelling::frame_size(a.width, a.height, slope);
+    let lent = judge_place(a.width, size.w, size.h, a.capacity, store, ink.len());
     if lent != 0 {
         return Outcome::Refused(lent);
     }
-    write_leaf(
-        mask,
-        width,
-        height,
-        applied_skew,
-        applied_slope,
-        w,
-        h,
-        capacity,
-        store,
-        ink,
-    );
+    let head = Head {
+        page_w: a.width,
+        page_h: a.height,
+        w: size.w,
+        h: size.h,
+        capacity: a.capacity,
+        skew,
+        slope,
+    };
+    write_leaf(mask, head, store, ink);
     Outcome::Done
 }

@@ -21,6 +21,7 @@ pub use dots::read_dots;
 pub use figures::read_figures;
 pub use frames::read_frame;
 pub use layouts::segment;
+pub use leaves::Handed;
 pub use leaves::level;
 pub use lists::read_blocks;
 pub use lists::read_columns;

@@ -35,17 +35,17 @@ struct RecordList {
 }
 
 // The lists by number.
-pub const COLUMNS_LIST: u32 = 0;
+const COLUMNS_LIST: u32 = 0;
 
-pub const RULES_LIST: u32 = 1;
+const RULES_LIST: u32 = 1;
 
-pub const GRAPHICS_LIST: u32 = 2;
+const GRAPHICS_LIST: u32 = 2;
 
-pub const GLYPHS_LIST: u32 = 3;
+const GLYPHS_LIST: u32 = 3;
 
 pub const LINES_LIST: u32 = 4;
 
-pub const BLOCKS_LIST: u32 = 5;
+const BLOCKS_LIST: u32 = 5;
 
 fn record_list(at: usize, width: usize, count: u32) -> RecordList
     ensures { λ r. ⌜ (r .at ≡ at) × (r .width ≡ width) × (r .count ≡ count) ⌝ }

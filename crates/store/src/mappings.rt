@@ -54,15 +54,18 @@ fn put_gray(store: &[u32], gray: &[u8], out: &mut [u8])
     let h = word_at(store, FRAME_HEIGHT) as usize;
     let start = HEADER + pw;
     let end = start + h;
+    let sides = levelling::Sides {
+        page_w: pw,
+        page_h: ph,
+        w,
+        h,
+    };
     levelling::level_plane(
         gray,
         255,
-        pw,
-        ph,
+        sides,
         &store[HEADER..start],
         &store[start..end],
-        w,
-        h,
         out,
     );
 }

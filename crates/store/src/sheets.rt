@@ -9,13 +9,7 @@ ghost use Rattle.store.specs.rules.Outcomes.{told, resultTold};
 ghost use Rattle.store.specs.rules.Answers.{answerNumber, answerValue};
 ghost use Rattle.store.specs.stages.Areas.{ListsAt, sheetRead};
 use crate::answers::Answer;
-use crate::lists::BLOCKS_LIST;
-use crate::lists::COLUMNS_LIST;
-use crate::lists::GLYPHS_LIST;
-use crate::lists::GRAPHICS_LIST;
-use crate::lists::LINES_LIST;
-use crate::lists::RULES_LIST;
-use crate::lists::list_of;
+use judging::CAPACITY;
 use judging::FIGURES;
 use judging::FIGURES_END;
 use judging::FRAME_HEIGHT;
@@ -23,8 +17,12 @@ use judging::FRAME_WIDTH;
 use judging::PAGE_HEIGHT;
 use judging::PAGE_WIDTH;
 use judging::judge_reading;
+use judging::lists_at;
+use listing::SheetSides;
 use listing::sheet_length;
 use listing::write_sheet_text;
+use memory::wide;
+use segmenting::result_places;
 
 // How long the sheet is.
 fn sheet_size(store: &[u32]) -> usize
@@ -39,19 +37,24 @@ fn put_sheet(store: &[u32], out: &mut [u8])
     requires { ⌜ ListsAt (now store) ⌝ ∗ ⌜ length (sheetRead (now store)) ≤ length (now out) ⌝ }
     ensures { λ _. ⌜ now (out .exit) ≡ over (sheetRead (now (store .entry))) (now (out .entry)) ⌝ }
 {
+    let w = store[FRAME_WIDTH];
+    let h = store[FRAME_HEIGHT];
+    let page_w = store[PAGE_WIDTH];
+    let page_h = store[PAGE_HEIGHT];
+    let sides = SheetSides {
+        w,
+        h,
+        page_w,
+        page_h,
+    };
+    let at = lists_at(page_w, h);
+    let places = result_places(wide(w), wide(store[CAPACITY]));
     write_sheet_text(
         out,
-        store[FRAME_WIDTH],
-        store[FRAME_HEIGHT],
-        store[PAGE_WIDTH],
-        store[PAGE_HEIGHT],
+        sides,
         &store[FIGURES..FIGURES_END],
-        list_of(store, LINES_LIST),
-        list_of(store, BLOCKS_LIST),
-        list_of(store, RULES_LIST),
-        list_of(store, GRAPHICS_LIST),
-        list_of(store, GLYPHS_LIST),
-        list_of(store, COLUMNS_LIST),
+        &store[at..],
+        places,
     );
 }
 

@@ -8,7 +8,7 @@ use lib.Dec.{eqb, leb, ltb}
 use Rattle.memory.specs.rules.Limits.{maxPageSide, maxFrameWidth, maxFrameHeight}
 use Rattle.memory.specs.declared.rect.Rect.{Rect}
 use Rattle.levelling.specs.rules.Frames.{Frame, frameOf, rowOf, columnOf}
-use Rattle.grouping.specs.declared.dots.Sides.{Sides}
+use Rattle.levelling.specs.declared.frame.Sides.{Sides}
 use Rattle.grouping.specs.rules.Readings.{inBox}
 
 -- the frame that these sides and shears are

@@ -1,12 +1,17 @@
 -- The sheet in the parts that are written one behind the other, and how long each is.
 use Prim.Native.Nat.{ℕ, _+_, _*_}
 use mathlib.Core.List.{List, [], _∷_, _++_}
+use Rattle.judging.specs.rules.Header.{part}
 use Rattle.judging.specs.rules.Views.{ruleCount, graphicCount, glyphCount, lineCount, blockCount, columnCount}
 use Rattle.listing.specs.rules.Sheets.{wordFormat, fieldCount, fieldsText, wordFrom, entriesText}
 
 -- the words of an entry that stand from word `from` on, in digits
 abbrev pub fieldsFrom : ℕ → List ℕ → ℕ → List ℕ
 fieldsFrom kind s from = fieldsText kind (wordFrom s from) (fieldCount kind)
+
+-- the words of the n entries of a kind that stand from word `at` on
+abbrev pub entriesAt : List ℕ → ℕ → ℕ → ℕ → List ℕ
+entriesAt s at kind n = part at (n * fieldCount kind) s
 
 -- all entries of a kind and of the two kinds after it
 abbrev pub threeKinds : ℕ → List ℕ → ℕ → List ℕ → ℕ → List ℕ → ℕ → List ℕ

@@ -14,10 +14,10 @@ use Rattle.grouping.proofs.dots.count_dots.Statement.{statement}
 use Rattle.grouping.proofs.dots.count_dots.Tie as tie
 
 abbrev Inv-loop : tie.InvT-loop
-Inv-loop shear shear-x kinds sides kind r end n₀ y₀ n y = (y ≤ sides .«page_h») × (n ≡ countIf (listed (frameBy sides shear shear-x) kinds kind r) (y * sides .«page_w»))
+Inv-loop shear shear-x kinds kind q end n₀ y₀ n y = (y ≤ q .sides .«page_h») × (n ≡ countIf (listed (frameBy (q .sides) shear shear-x) kinds (q .kind) (q .r)) (y * q .sides .«page_w»))
 
 abbrev μ-loop : tie.MeasureT-loop
-μ-loop shear shear-x kinds sides kind r end n₀ y₀ n y = end - y
+μ-loop shear shear-x kinds kind q end n₀ y₀ n y = end - y
 
 -- the frame, and the test of its page dots
 abbrev here : tie.Start Inv-loop μ-loop → Frame

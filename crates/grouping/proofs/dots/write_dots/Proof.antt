@@ -16,10 +16,10 @@ use Rattle.grouping.proofs.dots.write_dots.Statement.{statement}
 use Rattle.grouping.proofs.dots.write_dots.Tie as tie
 
 abbrev Inv-loop : tie.InvT-loop
-Inv-loop shear shear-x kinds sides kind r out₀ end n₀ y₀ out n y = (y ≤ sides .«page_h») × (length out ≡ length out₀) × (n ≡ countIf (listed (frameBy sides shear shear-x) kinds kind r) (y * sides .«page_w»)) × (out ≡ over (columnsAndRows (sides .«page_w») (keep (listed (frameBy sides shear shear-x) kinds kind r) (upto (y * sides .«page_w»)))) out₀)
+Inv-loop shear shear-x kinds kind out₀ q end n₀ y₀ out n y = (y ≤ q .sides .«page_h») × (length out ≡ length out₀) × (n ≡ countIf (listed (frameBy (q .sides) shear shear-x) kinds (q .kind) (q .r)) (y * q .sides .«page_w»)) × (out ≡ over (columnsAndRows (q .sides .«page_w») (keep (listed (frameBy (q .sides) shear shear-x) kinds (q .kind) (q .r)) (upto (y * q .sides .«page_w»)))) out₀)
 
 abbrev μ-loop : tie.MeasureT-loop
-μ-loop shear shear-x kinds sides kind r out₀ end n₀ y₀ out n y = end - y
+μ-loop shear shear-x kinds kind out₀ q end n₀ y₀ out n y = end - y
 
 -- the frame, and the test of its page dots
 abbrev here : tie.Start Inv-loop μ-loop → Frame
@@ -47,7 +47,7 @@ loop-less : tie.Need-loop-less Inv-loop μ-loop
 loop-less c = search needs
 
 loop-again : tie.Need-loop-again Inv-loop μ-loop
-loop-again c = (omega (arith, c .before .before .before .before .before .before .before .row-span .ensures .last-inside), c .before .before .write-row .kept .1 .1 .1 .1 .1 .1 .1 .1 .0 ∙ c .before .before .before .before .before .loop .inv .1, c .before .before .write-row .ensures .0, c .before .before .write-row .ensures .1 (c .before .before .before .before .before .before .before .before .before .before .before .before .args .out .now) (c .before .before .before .before .before .loop .inv .3))
+loop-again c = (omega (arith, c .before .before .before .before .before .before .before .row-span .ensures .last-inside), c .before .before .write-row .kept .1 .1 .1 .1 .1 .1 .0 ∙ c .before .before .before .before .before .loop .inv .1, c .before .before .write-row .ensures .0, c .before .before .write-row .ensures .1 (c .before .before .before .before .before .before .before .before .before .before .before .before .args .out .now) (c .before .before .before .before .before .loop .inv .3))
 
 same-length : tie.Need-same-length Inv-loop μ-loop
 same-length c = search needs

@@ -38,7 +38,7 @@ point-short-requires : tie.Need-point-short-requires
 point-short-requires c κs = search needs
 
 returns : tie.Need-returns
-returns c = short-point (c .before .before .before .before .before .before .before .args .r) (c .before .before .before .before .before .before .before .args .falls) (c .before .before .before .before .before .before .before .args .start) (point (c .before .before .before .before .before .before .before .pre .0) (c .before .before .before .before .before .before .before .args .c) (c .before .before .before .before .before .before .before .args .y) (c .before .before .before .before .before .before .before .pre .1) (c .before .before .before .before .before .before .before .pre .2) (c .before .before .before .wide .ensures) (c .before .wide2 .ensures)) (c .point-short .ensures)
+returns c = short-point (c .before .before .before .before .before .before .before .args .end .r) (c .before .before .before .before .before .before .before .args .end .falls) (c .before .before .before .before .before .before .before .args .end .start) (point (c .before .before .before .before .before .before .before .pre .0) (c .before .before .before .before .before .before .before .args .c) (c .before .before .before .before .before .before .before .args .y) (c .before .before .before .before .before .before .before .pre .1) (c .before .before .before .before .before .before .before .pre .2) (c .before .before .before .wide .ensures) (c .before .wide2 .ensures)) (c .point-short .ensures)
 
 pub is-short-spec : {M : Type 1} → statement M
 is-short-spec =

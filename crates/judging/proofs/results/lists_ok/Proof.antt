@@ -37,57 +37,57 @@ add-fields-below-2 c = search needs
 
 fields-below-requires-2 : tie.Need-fields-below-requires-2
 fields-below-requires-2 c κs =
-    let q = places-are _ _ _ (c .before .before .before .before .before .before .result-places .ensures) in
-    let p = c .before .before .before .before .before .before .before .before .pre in
+    let q = places-are _ _ _ (c .before .before .before .before .before .before .before .result-places .ensures) in
+    let p = c .before .before .before .before .before .before .before .before .before .pre in
     (omega (arith, q .4, p .0 .0, p .1 .4), omega arith)
 
 boxes-ok-requires : tie.Need-boxes-ok-requires
 boxes-ok-requires c κs =
-    let q = places-are _ _ _ (c .before .before .before .before .before .before .before .result-places .ensures) in
-    let p = c .before .before .before .before .before .before .before .before .before .pre in
+    let q = places-are _ _ _ (c .before .before .before .before .before .before .before .before .result-places .ensures) in
+    let p = c .before .before .before .before .before .before .before .before .before .before .pre in
     (omega (arith, q .0, p .0 .0, p .1 .0), omega arith)
 
 boxes-ok-requires-2 : tie.Need-boxes-ok-requires-2
 boxes-ok-requires-2 c κs =
-    let q = places-are _ _ _ (c .before .before .before .before .before .before .before .before .result-places .ensures) in
-    let p = c .before .before .before .before .before .before .before .before .before .before .pre in
+    let q = places-are _ _ _ (c .before .before .before .before .before .before .before .before .before .result-places .ensures) in
+    let p = c .before .before .before .before .before .before .before .before .before .before .before .pre in
     (omega (arith, q .1, p .0 .0, p .1 .1), omega arith)
 
 boxes-ok-requires-3 : tie.Need-boxes-ok-requires-3
 boxes-ok-requires-3 c κs =
-    let q = places-are _ _ _ (c .before .before .before .before .before .before .before .before .before .result-places .ensures) in
-    let p = c .before .before .before .before .before .before .before .before .before .before .before .pre in
+    let q = places-are _ _ _ (c .before .before .before .before .before .before .before .before .before .before .result-places .ensures) in
+    let p = c .before .before .before .before .before .before .before .before .before .before .before .before .pre in
     (omega (arith, q .2, p .0 .0, p .1 .2), omega arith)
 
 boxes-ok-requires-4 : tie.Need-boxes-ok-requires-4
 boxes-ok-requires-4 c κs =
-    let q = places-are _ _ _ (c .before .before .before .before .before .before .before .before .before .before .result-places .ensures) in
-    let p = c .before .before .before .before .before .before .before .before .before .before .before .before .pre in
+    let q = places-are _ _ _ (c .before .before .before .before .before .before .before .before .before .before .before .result-places .ensures) in
+    let p = c .before .before .before .before .before .before .before .before .before .before .before .before .before .pre in
     (omega (arith, q .3, p .0 .0, p .1 .3), omega arith)
 
 boxes-ok-requires-5 : tie.Need-boxes-ok-requires-5
 boxes-ok-requires-5 c κs =
-    let q = places-are _ _ _ (c .before .before .before .before .before .before .before .before .before .before .before .result-places .ensures) in
-    let p = c .before .before .before .before .before .before .before .before .before .before .before .before .before .pre in
+    let q = places-are _ _ _ (c .before .before .before .before .before .before .before .before .before .before .before .before .result-places .ensures) in
+    let p = c .before .before .before .before .before .before .before .before .before .before .before .before .before .before .pre in
     (omega (arith, q .4, p .0 .0, p .1 .4), omega arith)
 
 fields-marked-requires : tie.Need-fields-marked-requires
 fields-marked-requires c κs =
-    let q = places-are _ _ _ (c .before .before .before .before .before .before .before .before .before .before .before .before .result-places .ensures) in
-    let p = c .before .before .before .before .before .before .before .before .before .before .before .before .before .before .pre in
+    let q = places-are _ _ _ (c .before .before .before .before .before .before .before .before .before .before .before .before .before .result-places .ensures) in
+    let p = c .before .before .before .before .before .before .before .before .before .before .before .before .before .before .before .pre in
     (omega (arith, q .2, p .0 .0, p .1 .2), omega arith)
 
 fields-below-requires-3 : tie.Need-fields-below-requires-3
 fields-below-requires-3 c κs =
-    let q = places-are _ _ _ (c .before .before .before .before .before .before .before .before .before .before .before .before .before .result-places .ensures) in
-    let p = c .before .before .before .before .before .before .before .before .before .before .before .before .before .before .before .pre in
+    let q = places-are _ _ _ (c .before .before .before .before .before .before .before .before .before .before .before .before .before .before .result-places .ensures) in
+    let p = c .before .before .before .before .before .before .before .before .before .before .before .before .before .before .before .before .pre in
     (omega (arith, q .3, p .0 .0, p .1 .3), omega arith)
 
 returns : tie.Need-returns
 returns c =
-    let a = c .before .before .before .before .before .before .before .before .before .before .before .before .before .before .before .before .args in
-    lists-by (a .w) (a .h) (a .store .now) (a .at) (a .capacity) (a .rules) (a .graphics) (a .glyphs) (a .lines) (a .blocks) (c .before .before .before .before .before .before .before .before .before .before .before .before .before .before .result-places .result) (c .before .before .before .before .before .before .before .before .before .before .before .before .before .before .result-places .ensures) _ _ _ _ _ _ _ _ _
-    (c .before .before .before .before .before .before .before .before .fields-below .ensures) (c .before .before .before .before .before .before .before .fields-below2 .ensures) (c .before .before .before .before .before .before .boxes-ok .ensures) (c .before .before .before .before .before .boxes-ok2 .ensures) (c .before .before .before .before .boxes-ok3 .ensures) (c .before .before .before .boxes-ok4 .ensures) (c .before .before .boxes-ok5 .ensures) (c .before .fields-marked .ensures) (c .fields-below3 .ensures)
+    let a = c .before .before .before .before .before .before .before .before .before .before .before .before .before .before .before .before .before .args in
+    lists-by (a .w) (a .h) (a .store .now) (a .at) (a .capacity) (a .n .rules) (a .n .graphics) (a .n .glyphs) (a .n .lines) (a .n .blocks) (c .before .before .before .before .before .before .before .before .before .before .before .before .before .before .before .result-places .result) (c .before .before .before .before .before .before .before .before .before .before .before .before .before .before .before .result-places .ensures) _ _ _ _ _ _ _ _ _
+    (c .before .before .before .before .before .before .before .before .before .fields-below .ensures) (c .before .before .before .before .before .before .before .fields-below2 .ensures) (c .before .before .before .before .before .before .boxes-ok .ensures) (c .before .before .before .before .before .boxes-ok2 .ensures) (c .before .before .before .before .boxes-ok3 .ensures) (c .before .before .before .boxes-ok4 .ensures) (c .before .before .boxes-ok5 .ensures) (c .before .fields-marked .ensures) (c .fields-below3 .ensures)
 
 pub lists-ok-spec : {M : Type 1} → statement M
 lists-ok-spec =

@@ -25,6 +25,9 @@ shared-slice-read-lines c = search needs
 shared-slice-read-blocks : tie.Need-shared-slice-read-blocks
 shared-slice-read-blocks c = search needs
 
+shared-slice-read-columns : tie.Need-shared-slice-read-columns
+shared-slice-read-columns c = search needs
+
 float-at-requires : tie.Need-float-at-requires
 float-at-requires c κs = search needs
 
@@ -34,26 +37,23 @@ shared-slice-read-unit-ok c = search needs
 unit-ok-requires : tie.Need-unit-ok-requires
 unit-ok-requires c κs = search needs
 
-shared-slice-read-counts-ok : tie.Need-shared-slice-read-counts-ok
-shared-slice-read-counts-ok c = search needs
-
 counts-ok-requires : tie.Need-counts-ok-requires
 counts-ok-requires c κs = search needs
 
 returns : tie.Need-returns
-returns c = words-no (c .before .before .before .before .before .before .before .before .before .before .before .before .args .store .now) (c .before .before .before .before .before .float-at .result) (c .before .before .before .before .before .float-at .ensures) (c .before .before .before .before .before .before .before .before .before .before .before .before .args .w) (c .before .before .before .before .before .before .before .before .before .before .before .before .args .h) (c .before .before .before .before .before .before .before .before .before .before .before .before .args .capacity) (listsAt (c .before .before .before .before .before .before .before .before .before .before .before .before .args .page-w) (c .before .before .before .before .before .before .before .before .before .before .before .before .args .h)) (c .before .before .before .unit-ok .result) (c .before .counts-ok .result) (c .before .before .before .unit-ok .ensures) (c .before .counts-ok .ensures) (not-true (c .before .before .before .unit-ok .result && c .before .counts-ok .result) (c .if1 .taken))
+returns c = words-no (c .before .before .before .before .before .before .before .before .before .before .before .before .args .store .now) (c .before .before .before .before .float-at .result) (c .before .before .before .before .float-at .ensures) (c .before .before .before .before .before .before .before .before .before .before .before .before .args .w) (c .before .before .before .before .before .before .before .before .before .before .before .before .args .h) (c .before .before .before .before .before .before .before .before .before .before .before .before .args .capacity) (listsAt (c .before .before .before .before .before .before .before .before .before .before .before .before .args .page-w) (c .before .before .before .before .before .before .before .before .before .before .before .before .args .h)) (c .before .before .unit-ok .result) (c .before .counts-ok .result) (c .before .before .unit-ok .ensures) (c .before .counts-ok .ensures) (not-true (c .before .before .unit-ok .result && c .before .counts-ok .result) (c .if1 .taken))
 
 lists-at-requires : tie.Need-lists-at-requires
 lists-at-requires c κs = search needs
 
 lists-ok-requires : tie.Need-lists-ok-requires
 lists-ok-requires c κs =
-    let f = words-few (c .before .before .before .before .before .before .before .before .before .before .before .before .before .args .store .now) (c .before .before .before .before .before .before .float-at .result) (c .before .before .before .before .before .before .float-at .ensures) (c .before .before .before .before .before .before .before .before .before .before .before .before .before .args .w) (c .before .before .before .before .before .before .before .before .before .before .before .before .before .args .h) (c .before .before .before .before .before .before .before .before .before .before .before .before .before .args .capacity) (c .lists-at .result) (c .before .before .before .before .unit-ok .result) (c .before .before .counts-ok .result) (c .before .before .before .before .unit-ok .ensures) (c .before .before .counts-ok .ensures) (not-false (c .before .before .before .before .unit-ok .result && c .before .before .counts-ok .result) (c .before .if1 .left)) in
+    let f = words-few (c .before .before .before .before .before .before .before .before .before .before .before .before .before .args .store .now) (c .before .before .before .before .before .float-at .result) (c .before .before .before .before .before .float-at .ensures) (c .before .before .before .before .before .before .before .before .before .before .before .before .before .args .w) (c .before .before .before .before .before .before .before .before .before .before .before .before .before .args .h) (c .before .before .before .before .before .before .before .before .before .before .before .before .before .args .capacity) (c .lists-at .result) (c .before .before .before .unit-ok .result) (c .before .before .counts-ok .result) (c .before .before .before .unit-ok .ensures) (c .before .before .counts-ok .ensures) (not-false (c .before .before .before .unit-ok .result && c .before .before .counts-ok .result) (c .before .if1 .left)) in
     let p = c .before .before .before .before .before .before .before .before .before .before .before .before .before .pre in
     ((omega (arith, p .4, c .lists-at .ensures), omega (arith, p .0, p .2, c .lists-at .ensures), p .1, p .2, p .3), (f .0, f .1, f .2, f .3, f .4))
 
 returns-2 : tie.Need-returns-2
-returns-2 c = words-yes (c .before .before .before .before .before .before .before .before .before .before .before .before .before .before .args .store .now) (c .before .before .before .before .before .before .before .float-at .result) (c .before .before .before .before .before .before .before .float-at .ensures) (c .before .before .before .before .before .before .before .before .before .before .before .before .before .before .args .w) (c .before .before .before .before .before .before .before .before .before .before .before .before .before .before .args .h) (c .before .before .before .before .before .before .before .before .before .before .before .before .before .before .args .capacity) (c .before .lists-at .result) (c .before .before .before .before .before .unit-ok .result) (c .before .before .before .counts-ok .result) (c .before .before .before .before .before .unit-ok .ensures) (c .before .before .before .counts-ok .ensures) (not-false (c .before .before .before .before .before .unit-ok .result && c .before .before .before .counts-ok .result) (c .before .before .if1 .left)) (c .lists-ok .result) (c .lists-ok .ensures) ∙ ap (λ z. wordsOk (c .before .before .before .before .before .before .before .before .before .before .before .before .before .before .args .w) (c .before .before .before .before .before .before .before .before .before .before .before .before .before .before .args .h) (c .before .before .before .before .before .before .before .before .before .before .before .before .before .before .args .capacity) (part 10 15 (c .before .before .before .before .before .before .before .before .before .before .before .before .before .before .args .store .now)) z (c .before .before .before .before .before .before .before .before .before .before .before .before .before .before .args .store .now)) (c .before .lists-at .ensures)
+returns-2 c = words-yes (c .before .before .before .before .before .before .before .before .before .before .before .before .before .before .args .store .now) (c .before .before .before .before .before .before .float-at .result) (c .before .before .before .before .before .before .float-at .ensures) (c .before .before .before .before .before .before .before .before .before .before .before .before .before .before .args .w) (c .before .before .before .before .before .before .before .before .before .before .before .before .before .before .args .h) (c .before .before .before .before .before .before .before .before .before .before .before .before .before .before .args .capacity) (c .before .lists-at .result) (c .before .before .before .before .unit-ok .result) (c .before .before .before .counts-ok .result) (c .before .before .before .before .unit-ok .ensures) (c .before .before .before .counts-ok .ensures) (not-false (c .before .before .before .before .unit-ok .result && c .before .before .before .counts-ok .result) (c .before .before .if1 .left)) (c .lists-ok .result) (c .lists-ok .ensures) ∙ ap (λ z. wordsOk (c .before .before .before .before .before .before .before .before .before .before .before .before .before .before .args .w) (c .before .before .before .before .before .before .before .before .before .before .before .before .before .before .args .h) (c .before .before .before .before .before .before .before .before .before .before .before .before .before .before .args .capacity) (part 10 15 (c .before .before .before .before .before .before .before .before .before .before .before .before .before .before .args .store .now)) z (c .before .before .before .before .before .before .before .before .before .before .before .before .before .before .args .store .now)) (c .before .lists-at .ensures)
 
 pub words-ok-spec : {M : Type 1} → statement M
 words-ok-spec =
@@ -64,10 +64,10 @@ words-ok-spec =
     shared-slice-read-glyphs
     shared-slice-read-lines
     shared-slice-read-blocks
+    shared-slice-read-columns
     float-at-requires
     shared-slice-read-unit-ok
     unit-ok-requires
-    shared-slice-read-counts-ok
     counts-ok-requires
     returns
     lists-at-requires

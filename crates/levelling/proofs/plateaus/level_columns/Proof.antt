@@ -11,10 +11,10 @@ use Rattle.levelling.proofs.plateaus.level_columns.Statement.{statement
 use Rattle.levelling.proofs.plateaus.level_columns.Tie as tie
 
 abbrev Inv-loop : tie.InvT-loop
-Inv-loop page fill page-w page-h shear ends r out₀ c₀ out c = (c ≤ page-w) × RightTo page fill page-w page-h shear r c out × (length out ≡ length out₀)
+Inv-loop page fill sides shear ends r out₀ page-w c₀ out c = (c ≤ page-w) × RightTo page fill (sides .«page_w») (sides .«page_h») shear r c out × (length out ≡ length out₀)
 
 abbrev μ-loop : tie.MeasureT-loop
-μ-loop page fill page-w page-h shear ends r out₀ c₀ out c = page-w - c
+μ-loop page fill sides shear ends r out₀ page-w c₀ out c = page-w - c
 
 loop-holds : tie.Need-loop-holds Inv-loop μ-loop
 loop-holds c = (zero-le, unfold table in refl, refl)
@@ -83,7 +83,7 @@ loop-again c = let p = c .before .before .before .before .before .before .before
     let k : getD (a .ends .now) (p .loop .c) 0 - p .loop .c ≤ length (take (b .result - p .loop .c) (drop (p .loop .c) (p .loop .out))) =
     simp (length-take, length-drop) (omega (arith, S .some, S .inside, b .ensures)) in (
       omega (arith, S .inside),
-      plateau-put (a .page .now) (a .fill) (a .page-w) (a .page-h) (a .shear .now) (a .r) (p .loop .c) (getD (a .ends .now) (p .loop .c) 0)
+      plateau-put (a .page .now) (a .fill) (a .sides .«page_w») (a .sides .«page_h») (a .shear .now) (a .r) (p .loop .c) (getD (a .ends .now) (p .loop .c) 0)
           (length (take (b .result - p .loop .c) (drop (p .loop .c) (p .loop .out)))) (b .result - p .loop .c) (p .loop .out) _ S k (p .loop .inv .1) (c .before .before .level-plateau .ensures),
       omega arith,
     )
@@ -94,7 +94,7 @@ same-length c = omega arith
 returns : tie.Need-returns Inv-loop μ-loop
 returns c = let p = c .before in
     let a = p .before .before .before .before .before .args in
-    let e : length (p .loop .out) ≡ a .page-w = omega arith in
+    let e : length (p .loop .out) ≡ a .sides .«page_w» = omega arith in
     table-whole _ (p .loop .out) (p .loop .out) (p .loop .c) (p .loop .inv .1) (omega arith) ∙ ap (table _) e
 
 pub level-columns-spec : {M : Type 1} → statement M

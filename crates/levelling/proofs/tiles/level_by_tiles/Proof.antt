@@ -11,10 +11,10 @@ use Rattle.levelling.proofs.tiles.level_by_tiles.Statement.{statement}
 use Rattle.levelling.proofs.tiles.level_by_tiles.Tie as tie
 
 abbrev Inv-loop : tie.InvT-loop
-Inv-loop page fill page-w page-h shear shear-x w h out₀ dots added c₀ out c = (c ≤ page-w) × Tiled (frameOf page-w page-h shear shear-x w (length shear-x)) fill page out₀ out c × (length out ≡ length out₀)
+Inv-loop page fill sides shear shear-x out₀ page-w dots added c₀ out c = (c ≤ page-w) × Tiled (frameOf (sides .«page_w») (sides .«page_h») shear shear-x (sides .w) (length shear-x)) fill page out₀ out c × (length out ≡ length out₀)
 
 abbrev μ-loop : tie.MeasureT-loop
-μ-loop page fill page-w page-h shear shear-x w h out₀ dots added c₀ out c = page-w - c
+μ-loop page fill sides shear shear-x out₀ page-w dots added c₀ out c = page-w - c
 
 mul-dots : tie.Need-mul-dots Inv-loop μ-loop
 mul-dots c = omega arith
@@ -32,7 +32,7 @@ fill-bytes-requires : tie.Need-fill-bytes-requires Inv-loop μ-loop
 fill-bytes-requires c κs = search needs
 
 sub-added : tie.Need-sub-added Inv-loop μ-loop
-sub-added c = omega (arith, c .before .before .before .before .before .before .before .before .pre .above 0)
+sub-added c = omega (arith, c .before .before .before .before .before .before .before .before .before .before .pre .above 0)
 
 loop-holds : tie.Need-loop-holds Inv-loop μ-loop
 loop-holds c = (zero-le, tiled-none _ _ _ _, refl)
@@ -46,9 +46,9 @@ tile-columns-requires c κs = search needs
 move-tile-requires : tie.Need-move-tile-requires Inv-loop μ-loop
 move-tile-requires c κs = let t = c .before in
     let p = t .before .before in
-    let q = p .before .before .before .before .before .before .before .before .before in
+    let q = p .before .before .before .before .before .before .before .before .before .before .before in
     let a = q .args in
-    (fits-again (a .page-w) (a .page-h) (a .shear .now) (a .shear-x .now) (a .w) (a .h) (a .page .now) (a .out .now) (p .loop .out) (q .pre) (omega arith), omega (arith, t .tile-columns .ensures .0))
+    (fits-again (a .sides .«page_w») (a .sides .«page_h») (a .shear .now) (a .shear-x .now) (a .sides .w) (a .sides .h) (a .page .now) (a .out .now) (p .loop .out) (q .pre) (omega arith), omega (arith, t .tile-columns .ensures .0))
 
 add-c : tie.Need-add-c Inv-loop μ-loop
 add-c c = omega arith
@@ -69,16 +69,16 @@ same-length c = omega arith
 
 returns : tie.Need-returns Inv-loop μ-loop
 returns c = let p = c .before in
-    let b = p .before .before .before in
-    let q = b .before .before .before .before .before .before in
+    let b = p .before .before .before .before in
+    let q = b .before .before .before .before .before .before .before in
     let a = q .args in
-    let e : length (a .shear-x .now) ≡ a .h = q .pre .rows in
-    let k : a .w * length (a .shear-x .now) ≡ a .w * a .h = ap (λ z. a .w * z) e in
-    tiled-all (a .page-w) (a .page-h) (a .shear .now) (a .shear-x .now) (a .w) (length (a .shear-x .now)) (a .fill) (a .page .now) (a .out .now) (b .fill-bytes .last .0) _ (p .loop .out) (p .loop .c)
-    (length (take (a .w * a .h - 0) (drop 0 (a .out .now)))) (a .w * a .h - 0)
-    (fits-again (a .page-w) (a .page-h) (a .shear .now) (a .shear-x .now) (a .w) (a .h) (a .page .now) (a .out .now) (a .out .now) (q .pre) refl)
+    let e : length (a .shear-x .now) ≡ a .sides .h = q .pre .rows in
+    let k : a .sides .w * length (a .shear-x .now) ≡ a .sides .w * a .sides .h = ap (λ z. a .sides .w * z) e in
+    tiled-all (a .sides .«page_w») (a .sides .«page_h») (a .shear .now) (a .shear-x .now) (a .sides .w) (length (a .shear-x .now)) (a .fill) (a .page .now) (a .out .now) (b .fill-bytes .last .0) _ (p .loop .out) (p .loop .c)
+    (length (take (a .sides .w * a .sides .h - 0) (drop 0 (a .out .now)))) (a .sides .w * a .sides .h - 0)
+    (fits-again (a .sides .«page_w») (a .sides .«page_h») (a .shear .now) (a .shear-x .now) (a .sides .w) (a .sides .h) (a .page .now) (a .out .now) (a .out .now) (q .pre) refl)
     refl (b .fill-bytes .ensures) (simp (length-take, length-drop) (omega (arith, q .pre .out-size, k))) (omega (arith, k)) (p .loop .inv .1) (omega arith)
-    ∙ ap (λ z. over (levelled (frameOf (a .page-w) (a .page-h) (a .shear .now) (a .shear-x .now) (a .w) z) (a .fill) (a .page .now)) (a .out .now)) e
+    ∙ ap (λ z. over (levelled (frameOf (a .sides .«page_w») (a .sides .«page_h») (a .shear .now) (a .shear-x .now) (a .sides .w) z) (a .fill) (a .page .now)) (a .out .now)) e
 
 pub level-by-tiles-spec : {M : Type 1} → statement M
 level-by-tiles-spec =

@@ -1,8 +1,9 @@
-use mathlib.Core.Path.{_∙_}
+use mathlib.Core.Path.{sym, _∙_, subst}
 use Prim.Native.Nat.{_*_}
 use native.Mathlib.Omega.{arith}
 use borrow.Author.Needs.{needs}
 use lib.ListN.{length}
+use Rattle.levelling.specs.stages.Moves.{MovesPart}
 use Rattle.levelling.proofs.TileLaws.{part-all, part-skipped}
 use Rattle.levelling.proofs.tiles.move_chunk.Statement.{statement}
 use Rattle.levelling.proofs.tiles.move_chunk.Tie as tie
@@ -30,12 +31,13 @@ all-equal-requires c κs = search needs
 
 returns : tie.Need-returns
 returns c = let e = c .before in
-    let q = e .before .before .before .before .before .before in
+    let q = e .before .before .before .before .before .before .before .before .before in
     let a = q .args in
-    λ page-h done s ly fits b.
+    subst (λ n. MovesPart (a .sides .«page_w») (a .shear .now) (a .shear-x .now) (a .sides .w) (a .fill) (a .page .now) (a .part .y) (a .part .c) n (a .out .now) (a .out .now)) (sym (q .pre .0))
+    (λ page-h done s ly fits b.
     b
-    ∙ part-skipped (a .page-w) page-h (a .shear .now) (a .shear-x .now) (a .w) (length (a .shear-x .now)) (a .fill) (a .page .now) (a .out .now) fits done s (a .y) (a .c) 64 ly (omega (arith, q .pre .columns, fits .columns))
-    (part-all (a .page .now) (a .fill) (a .y * a .page-w) (a .c) 64 (omega (arith, q .pre .dots)) (e .all-equal .ensures (c .if1 .taken)))
+    ∙ part-skipped (a .sides .«page_w») page-h (a .shear .now) (a .shear-x .now) (a .sides .w) (length (a .shear-x .now)) (a .fill) (a .page .now) (a .out .now) fits done s (a .part .y) (a .part .c) 64 ly (omega (arith, q .pre .0, q .pre .1 .columns, fits .columns))
+    (part-all (a .page .now) (a .fill) (a .part .y * a .sides .«page_w») (a .part .c) 64 (omega (arith, q .pre .0, q .pre .1 .dots)) (e .all-equal .ensures (c .if1 .taken))))
 
 move-quarters-requires : tie.Need-move-quarters-requires
 move-quarters-requires c κs = search needs

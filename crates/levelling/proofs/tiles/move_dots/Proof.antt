@@ -14,17 +14,17 @@ use Rattle.levelling.proofs.tiles.move_dots.Statement.{statement}
 use Rattle.levelling.proofs.tiles.move_dots.Tie as tie
 
 abbrev Inv-loop : tie.InvT-loop
-Inv-loop page fill page-w shear shear-x w y c n out₀ from i₀ out i = (i ≤ n) × MovesPart page-w shear shear-x w fill page y c i out₀ out × (length out ≡ length out₀)
+Inv-loop page fill shear shear-x out₀ y c n page-w w from i₀ out i = (i ≤ n) × MovesPart page-w shear shear-x w fill page y c i out₀ out × (length out ≡ length out₀)
 
 abbrev μ-loop : tie.MeasureT-loop
-μ-loop page fill page-w shear shear-x w y c n out₀ from i₀ out i = n - i
+μ-loop page fill shear shear-x out₀ y c n page-w w from i₀ out i = n - i
 
 mul-from : tie.Need-mul-from Inv-loop μ-loop
 mul-from c = omega (arith, c .pre .dots)
 
 loop-holds : tie.Need-loop-holds Inv-loop μ-loop
 loop-holds c = let a = c .args in
-    (zero-le, (λ page-h done s l fits e. e ∙ part-none (a .page-w) page-h (a .shear .now) (a .shear-x .now) (a .w) (length (a .shear-x .now)) (a .fill) (a .page .now) (a .out .now) fits done s (a .y) (a .c)), refl)
+    (zero-le, (λ page-h done s l fits e. e ∙ part-none (a .sides .«page_w») page-h (a .shear .now) (a .shear-x .now) (a .sides .w) (length (a .shear-x .now)) (a .fill) (a .page .now) (a .out .now) fits done s (a .part .y) (a .part .c)), refl)
 
 add-column : tie.Need-add-column Inv-loop μ-loop
 add-column c = omega (arith, c .before .before .pre .columns)
@@ -46,15 +46,15 @@ cast-r c = fits-32-64 (c .shared-slice-known2 .given _)
 
 add-r : tie.Need-add-r Inv-loop μ-loop
 add-r c = let p = c .before .before .before .before in
-    omega (arith, p .before .pre .rows (p .before .args .c + p .loop .i))
+    omega (arith, p .before .pre .rows (p .before .args .part .c + p .loop .i))
 
 mul-x : tie.Need-mul-x Inv-loop μ-loop
 mul-x c = let p = c .before .before .before .before in
-    omega (arith, p .before .pre .rows (p .before .args .c + p .loop .i))
+    omega (arith, p .before .pre .rows (p .before .args .part .c + p .loop .i))
 
 shared-slice-read-x : tie.Need-shared-slice-read-x Inv-loop μ-loop
 shared-slice-read-x c = let p = c .before .before .before .before .before in
-    omega (arith, p .before .pre .rows (p .before .args .c + p .loop .i))
+    omega (arith, p .before .pre .rows (p .before .args .part .c + p .loop .i))
 
 cast-x : tie.Need-cast-x Inv-loop μ-loop
 cast-x c = fits-32-64 (c .shared-slice-known3 .given _)
@@ -69,7 +69,7 @@ mul-out : tie.Need-mul-out Inv-loop μ-loop
 mul-out c = let p = c .before .before .before .before .before in
     let q = p .before in
     let a = q .args in
-    let inside = place-inside (a .shear .now) (a .shear-x .now) (a .w) (a .y) (a .c + p .loop .i) (length (p .loop .out)) (omega (arith, q .pre .columns)) (q .pre .rows) (q .pre .inside) (omega (arith, q .pre .room)) in
+    let inside = place-inside (a .shear .now) (a .shear-x .now) (a .sides .w) (a .part .y) (a .part .c + p .loop .i) (length (p .loop .out)) (omega (arith, q .pre .columns)) (q .pre .rows) (q .pre .inside) (omega (arith, q .pre .room)) in
     let G : Fits w64 (length (p .loop .out)) = omega (arith, q .good) in
     omega (arith, inside 0, G)
 
@@ -77,7 +77,7 @@ add-out : tie.Need-add-out Inv-loop μ-loop
 add-out c = let p = c .before .before .before .before .before in
     let q = p .before in
     let a = q .args in
-    let inside = place-inside (a .shear .now) (a .shear-x .now) (a .w) (a .y) (a .c + p .loop .i) (length (p .loop .out)) (omega (arith, q .pre .columns)) (q .pre .rows) (q .pre .inside) (omega (arith, q .pre .room)) in
+    let inside = place-inside (a .shear .now) (a .shear-x .now) (a .sides .w) (a .part .y) (a .part .c + p .loop .i) (length (p .loop .out)) (omega (arith, q .pre .columns)) (q .pre .rows) (q .pre .inside) (omega (arith, q .pre .room)) in
     let G : Fits w64 (length (p .loop .out)) = omega (arith, q .good) in
     fits-lt (inside _) G
 
@@ -85,7 +85,7 @@ slice-write-out : tie.Need-slice-write-out Inv-loop μ-loop
 slice-write-out c = let p = c .before .before .before .before .before in
     let q = p .before in
     let a = q .args in
-    place-inside (a .shear .now) (a .shear-x .now) (a .w) (a .y) (a .c + p .loop .i) (length (p .loop .out)) (omega (arith, q .pre .columns)) (q .pre .rows) (q .pre .inside) (omega (arith, q .pre .room)) _
+    place-inside (a .shear .now) (a .shear-x .now) (a .sides .w) (a .part .y) (a .part .c + p .loop .i) (length (p .loop .out)) (omega (arith, q .pre .columns)) (q .pre .rows) (q .pre .inside) (omega (arith, q .pre .room)) _
 
 add-i : tie.Need-add-i Inv-loop μ-loop
 add-i c = omega arith
@@ -99,10 +99,10 @@ loop-again c = let p = c .before .before .before in
     let a = q .args in (
       omega arith,
       λ page-h done s ly fits e.
-          let k : a .c + p .loop .i < a .page-w = omega (arith, q .pre .columns, fits .columns) in
+          let k : a .part .c + p .loop .i < a .sides .«page_w» = omega (arith, q .pre .columns, fits .columns) in
           ⊎-elim
-          (λ v. dot-stored (a .page-w) page-h (a .shear .now) (a .shear-x .now) (a .w) (length (a .shear-x .now)) (a .fill) (a .page .now) (a .out .now) fits done s (a .y) (a .c) (p .loop .i) (p .loop .out) (c .if1 .out) ly k (p .loop .inv .1 page-h done s ly fits e) (v .3))
-          (λ v. v .1 ∙ (p .loop .inv .1 page-h done s ly fits e ∙ dot-passed (a .page-w) page-h (a .shear .now) (a .shear-x .now) (a .w) (length (a .shear-x .now)) (a .fill) (a .page .now) (a .out .now) fits done s (a .y) (a .c) (p .loop .i) ly k (v .0 .left)))
+          (λ v. dot-stored (a .sides .«page_w») page-h (a .shear .now) (a .shear-x .now) (a .sides .w) (length (a .shear-x .now)) (a .fill) (a .page .now) (a .out .now) fits done s (a .part .y) (a .part .c) (p .loop .i) (p .loop .out) (c .if1 .out) ly k (p .loop .inv .1 page-h done s ly fits e) (v .3))
+          (λ v. v .1 ∙ (p .loop .inv .1 page-h done s ly fits e ∙ dot-passed (a .sides .«page_w») page-h (a .shear .now) (a .shear-x .now) (a .sides .w) (length (a .shear-x .now)) (a .fill) (a .page .now) (a .out .now) fits done s (a .part .y) (a .part .c) (p .loop .i) ly k (v .0 .left)))
           (c .if1 .came),
       ⊎-elim (λ v. ap length (v .3) ∙ simp length-set (p .loop .inv .2)) (λ v. ap length (v .1) ∙ p .loop .inv .2) (c .if1 .came),
     )
@@ -113,8 +113,8 @@ same-length c = omega arith
 returns : tie.Need-returns Inv-loop μ-loop
 returns c = let p = c .before in
     let a = p .before .args in
-    let e : p .loop .i ≡ a .n = omega arith in
-    subst (λ m. MovesPart (a .page-w) (a .shear .now) (a .shear-x .now) (a .w) (a .fill) (a .page .now) (a .y) (a .c) m (a .out .now) (p .loop .out)) e (p .loop .inv .1)
+    let e : p .loop .i ≡ a .part .n = omega arith in
+    subst (λ m. MovesPart (a .sides .«page_w») (a .shear .now) (a .shear-x .now) (a .sides .w) (a .fill) (a .page .now) (a .part .y) (a .part .c) m (a .out .now) (p .loop .out)) e (p .loop .inv .1)
 
 pub move-dots-spec : {M : Type 1} → statement M
 move-dots-spec =

@@ -12,13 +12,13 @@ use Rattle.levelling.proofs.tiles.move_tile.Statement.{statement}
 use Rattle.levelling.proofs.tiles.move_tile.Tie as tie
 
 abbrev Inv-loop : tie.InvT-loop
-Inv-loop page fill page-w page-h shear shear-x w c n out₀ y₀ out y =
+Inv-loop page fill sides shear shear-x out₀ page-h c n y₀ out y =
     (y ≤ page-h)
-    × ((done : ℕ → Bool) (s : List ℕ) → out₀ ≡ partly (frameOf page-w page-h shear shear-x w (length shear-x)) fill page done s → out ≡ partly (frameOf page-w page-h shear shear-x w (length shear-x)) fill page (orRows done page-w c n y) s)
+    × ((done : ℕ → Bool) (s : List ℕ) → out₀ ≡ partly (frameOf (sides .«page_w») (sides .«page_h») shear shear-x (sides .w) (length shear-x)) fill page done s → out ≡ partly (frameOf (sides .«page_w») (sides .«page_h») shear shear-x (sides .w) (length shear-x)) fill page (orRows done (sides .«page_w») c n y) s)
     × (length out ≡ length out₀)
 
 abbrev μ-loop : tie.MeasureT-loop
-μ-loop page fill page-w page-h shear shear-x w c n out₀ y₀ out y = page-h - y
+μ-loop page fill sides shear shear-x out₀ page-h c n y₀ out y = page-h - y
 
 loop-holds : tie.Need-loop-holds Inv-loop μ-loop
 loop-holds c = (zero-le, (λ done s e. unfold orRows in e), refl)
@@ -28,7 +28,7 @@ move-part-requires c κs = let p = c .before .before in
     let q = p .before .before .before .before .before in
     let a = q .args in
     let F = q .pre .0 in
-    let e = row-end (a .page-w) (a .page-h) (p .loop .y) (c .before .loop-test .taken) in
+    let e = row-end (a .sides .«page_w») (a .sides .«page_h») (p .loop .y) (c .before .loop-test .taken) in
     record {
       columns = omega (arith, F .columns, q .pre .1);
       dots = omega (arith, e, F .page-size, q .pre .1);
@@ -50,10 +50,10 @@ loop-again c = let g = c .before .before in
     let a = q .args in (
       omega arith,
       (λ done s e.
-          g .move-part .ensures (a .page-h) (orRows done (a .page-w) (a .c) (a .n) (p .loop .y)) s (g .before .before .loop-test .taken)
-          (fits-again (a .page-w) (a .page-h) (a .shear .now) (a .shear-x .now) (a .w) (length (a .shear-x .now)) (a .page .now) (a .out .now) (p .loop .out) (q .pre .0) (p .loop .inv .2))
+          g .move-part .ensures (a .sides .«page_h») (orRows done (a .sides .«page_w») (a .tile .c) (a .tile .n) (p .loop .y)) s (g .before .before .loop-test .taken)
+          (fits-again (a .sides .«page_w») (a .sides .«page_h») (a .shear .now) (a .shear-x .now) (a .sides .w) (length (a .shear-x .now)) (a .page .now) (a .out .now) (p .loop .out) (q .pre .0) (p .loop .inv .2))
           (p .loop .inv .1 done s e)
-          ∙ row-moved (a .page-w) (a .page-h) (a .shear .now) (a .shear-x .now) (a .w) (length (a .shear-x .now)) (a .fill) (a .page .now) (a .out .now) (q .pre .0) done s (p .loop .y) (a .c) (a .n)),
+          ∙ row-moved (a .sides .«page_w») (a .sides .«page_h») (a .shear .now) (a .shear-x .now) (a .sides .w) (length (a .shear-x .now)) (a .fill) (a .page .now) (a .out .now) (q .pre .0) done s (p .loop .y) (a .tile .c) (a .tile .n)),
       omega arith,
     )
 
@@ -63,10 +63,10 @@ same-length c = omega arith
 returns : tie.Need-returns Inv-loop μ-loop
 returns c = let p = c .before in
     let a = p .before .before .before .before .before .args in
-    let k : p .loop .y ≡ a .page-h = omega arith in
+    let k : p .loop .y ≡ a .sides .«page_h» = omega arith in
     λ done s e.
     p .loop .inv .1 done s e
-    ∙ ap (λ y. partly (frameOf (a .page-w) (a .page-h) (a .shear .now) (a .shear-x .now) (a .w) (length (a .shear-x .now))) (a .fill) (a .page .now) (orRows done (a .page-w) (a .c) (a .n) y) s) k
+    ∙ ap (λ y. partly (frameOf (a .sides .«page_w») (a .sides .«page_h») (a .shear .now) (a .shear-x .now) (a .sides .w) (length (a .shear-x .now))) (a .fill) (a .page .now) (orRows done (a .sides .«page_w») (a .tile .c) (a .tile .n) y) s) k
 
 pub move-tile-spec : {M : Type 1} → statement M
 move-tile-spec =

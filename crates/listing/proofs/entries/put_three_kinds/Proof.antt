@@ -10,7 +10,7 @@ put-entries-requires : tie.Need-put-entries-requires
 put-entries-requires c κs =
     let b = c .before .before .before .before .before in
     let a = b .args in
-    (omega arith, b .pre .1, three-room (a .out .now) (entriesText (a .kind) (a .first .now) (a .firsts)) (entriesText (a .kind + 1) (a .second .now) (a .seconds)) (entriesText (a .kind + 2) (a .third .now) (a .thirds)) (a .at) (b .pre .4))
+    (omega arith, b .pre .1, three-room (a .out .now) (entriesText (a .kind) (a .first .now) (a .n .first)) (entriesText (a .kind + 1) (a .second .now) (a .n .second)) (entriesText (a .kind + 2) (a .third .now) (a .n .third)) (a .at) (b .pre .4))
 
 add-put-entries : tie.Need-add-put-entries
 add-put-entries c = search needs
@@ -20,7 +20,7 @@ put-entries-requires-2 c κs =
     let b = c .before .before .before .before .before .before .before .before .before in
     let a = b .args in
     let x = c .before .before .before .put-entries in
-    (omega arith, b .pre .2, three-room-2 (a .out .now) (entriesText (a .kind) (a .first .now) (a .firsts)) (entriesText (a .kind + 1) (a .second .now) (a .seconds)) (entriesText (a .kind + 2) (a .third .now) (a .thirds)) (a .at) (b .pre .4) (x .last .0) (x .result) (x .ensures))
+    (omega arith, b .pre .2, three-room-2 (a .out .now) (entriesText (a .kind) (a .first .now) (a .n .first)) (entriesText (a .kind + 1) (a .second .now) (a .n .second)) (entriesText (a .kind + 2) (a .third .now) (a .n .third)) (a .at) (b .pre .4) (x .last .0) (x .result) (x .ensures))
 
 add-put-entries-2 : tie.Need-add-put-entries-2
 add-put-entries-2 c = search needs
@@ -31,7 +31,7 @@ put-entries-requires-3 c κs =
     let a = b .args in
     let x = c .before .before .before .before .before .before .before .put-entries in
     let y = c .before .before .before .put-entries2 in
-    (omega arith, b .pre .3, three-room-3 (a .out .now) (entriesText (a .kind) (a .first .now) (a .firsts)) (entriesText (a .kind + 1) (a .second .now) (a .seconds)) (entriesText (a .kind + 2) (a .third .now) (a .thirds)) (a .at) (b .pre .4) (x .last .0) (y .last .0) (x .result) (y .result) (x .ensures) (y .ensures))
+    (omega arith, b .pre .3, three-room-3 (a .out .now) (entriesText (a .kind) (a .first .now) (a .n .first)) (entriesText (a .kind + 1) (a .second .now) (a .n .second)) (entriesText (a .kind + 2) (a .third .now) (a .n .third)) (a .at) (b .pre .4) (x .last .0) (y .last .0) (x .result) (y .result) (x .ensures) (y .ensures))
 
 same-length : tie.Need-same-length
 same-length c = search needs
@@ -43,7 +43,7 @@ returns c =
     let x = c .before .before .before .before .before .before .before .before .before .before .put-entries in
     let y = c .before .before .before .before .before .before .put-entries2 in
     let z = c .before .before .put-entries3 in
-    three-put (a .out .now) (entriesText (a .kind) (a .first .now) (a .firsts)) (entriesText (a .kind + 1) (a .second .now) (a .seconds)) (entriesText (a .kind + 2) (a .third .now) (a .thirds)) (a .at) (b .pre .4) (x .last .0) (y .last .0) (z .last .0) (x .result) (y .result) (z .result) (x .ensures) (y .ensures) (z .ensures)
+    three-put (a .out .now) (entriesText (a .kind) (a .first .now) (a .n .first)) (entriesText (a .kind + 1) (a .second .now) (a .n .second)) (entriesText (a .kind + 2) (a .third .now) (a .n .third)) (a .at) (b .pre .4) (x .last .0) (y .last .0) (z .last .0) (x .result) (y .result) (z .result) (x .ensures) (y .ensures) (z .ensures)
 
 pub put-three-kinds-spec : {M : Type 1} → statement M
 put-three-kinds-spec =

@@ -4,6 +4,9 @@ use borrow.Author.Needs.{needs}
 use Rattle.novlizeb.proofs.pages.novlizeb_segment.Statement.{statement}
 use Rattle.novlizeb.proofs.pages.novlizeb_segment.Tie as tie
 
+sheet-of-requires : tie.Need-sheet-of-requires
+sheet-of-requires c κs = search needs
+
 segment-requires : tie.Need-segment-requires
 segment-requires c κs = search needs
 
@@ -20,9 +23,11 @@ same-length-3 : tie.Need-same-length-3
 same-length-3 c = search needs
 
 returns : tie.Need-returns
-returns c = (left-number _ _ _ _ _ (c .number-of .ensures) (c .before .before .before .before .before .before .before .segment .ensures .0), c .before .before .before .before .before .before .before .segment .ensures .1, c .before .before .before .before .before .before .before .segment .ensures .2)
+returns c =
+    let e = rw (c .before .before .before .before .before .before .before .before .before .before .before .sheet-of .ensures) at (c .before .before .before .before .before .before .before .segment .ensures) in
+    (left-number _ _ _ _ _ (c .number-of .ensures) (e .0), e .1, e .2)
 
 pub novlizeb-segment-spec : {M : Type 1} → statement M
 novlizeb-segment-spec =
     tie.close
-    (tie.spec segment-requires number-of-requires same-length same-length-2 same-length-3 returns)
+    (tie.spec sheet-of-requires segment-requires number-of-requires same-length same-length-2 same-length-3 returns)

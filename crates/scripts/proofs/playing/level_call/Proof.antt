@@ -64,7 +64,7 @@ same-length-2 c = search needs
 returns : tie.Need-returns
 returns c =
     let a = c .before .before .before .before .before .before .before .before .before .before .before .before .before .before .before .before .before .before .before .before .before .before .args in
-    level-called (a .call .now) (a .floats .now) (a .bytes .now) (a .store .now) (a .ink .now) (c .before .before .before .before .before .before .before .before .before .before .before .before .before .before .before .before .cut .ensures) (c .before .before .before .before .before .before .before .before .before .before .before .before .before .before .before .cut2 .ensures) (c .before .before .before .before .before .before .before .bytes-of .ensures) (c .before .before .before .before .before .before .before .before .before .before .word-at2 .ensures) (c .before .before .before .before .before .before .before .before .before .word-at3 .ensures) (c .before .before .before .before .before .before .before .before .before .before .before .before .before .before .word-at .ensures) (c .before .before .before .before .before .before .before .before .before .before .before .before .before .float-at .ensures) (c .before .before .before .before .before .before .before .before .before .before .before .before .float-at2 .ensures) (c .before .before .before .before .before .before .before .before .before .before .before .sheet-of .ensures) (c .before .before .before .before .before .before .before .before .word-at4 .ensures) (c .before .before .before .before .level .ensures) (c .before .before .before .before .level .kept .1 .1 .1 .1 .1 .1 .1 .0) (c .before .before .before .before .level .kept .1 .1 .1 .1 .1 .1 .1 .1 .0)
+    level-called (a .call .now) (a .floats .now) (a .bytes .now) (a .store .now) (a .ink .now) (c .before .before .before .before .before .before .before .before .before .before .before .before .before .before .before .before .cut .ensures) (c .before .before .before .before .before .before .before .before .before .before .before .before .before .before .before .cut2 .ensures) (c .before .before .before .before .before .before .before .bytes-of .ensures) (c .before .before .before .before .before .before .before .before .before .before .word-at2 .ensures) (c .before .before .before .before .before .before .before .before .before .word-at3 .ensures) (c .before .before .before .before .before .before .before .before .before .before .before .before .before .before .word-at .ensures) (c .before .before .before .before .before .before .before .before .before .before .before .before .before .float-at .ensures) (c .before .before .before .before .before .before .before .before .before .before .before .before .float-at2 .ensures) (c .before .before .before .before .before .before .before .before .before .before .before .sheet-of .ensures) (c .before .before .before .before .before .before .before .before .word-at4 .ensures) (c .before .before .before .before .level .ensures) (c .before .before .before .before .level .kept .1 .1 .1 .0) (c .before .before .before .before .level .kept .1 .1 .1 .1 .0)
 
 pub level-call-spec : {M : Type 1} → statement M
 level-call-spec =

@@ -33,9 +33,11 @@ refuse-if-requires-4 c κs = search needs
 
 returns : tie.Need-returns
 unfolding lentRefusal
-returns c = let a = (c .before .before .before .before .before .before .before) .args in
+returns c =
+    let a = (c .before .before .before .before .before .before .before .before .before .before) .args in
+    let l = a .lent in
     (c .refuse-if4) .ensures
-    ∙ (λ i. refuseIf (not ((c .before .validate) .ensures i)) 6 (((c .before .before .judge-room) .ensures ∙ ap (roomRefusal (a .dots) (a .capacity) (a .words)) ((c .before .before .before .refuse-if3) .ensures ∙ (λ j. refuseIf (ltb (a .results) ((c .before .before .before .before .result-words) .ensures j)) 9 (((c .before .before .before .before .before .refuse-if2) .ensures ∙ ap (refuseIf (ltb (a .kinds) (a .dots)) 9) ((c .before .before .before .before .before .before .refuse-if) .ensures)) j)))) i))
+    ∙ (λ i. refuseIf (not ((c .before .validate) .ensures i)) 6 (((c .before .before .judge-room) .ensures ∙ ap (roomRefusal (a .dots) (a .capacity) (l .words)) ((c .before .before .before .refuse-if3) .ensures ∙ (λ j. refuseIf (ltb (l .results) ((c .before .before .before .before .before .result-words) .ensures j)) 9 (((c .before .before .before .before .before .before .refuse-if2) .ensures ∙ ap (refuseIf (ltb (l .kinds) (a .dots)) 9) ((c .before .before .before .before .before .before .before .before .refuse-if) .ensures)) j)))) i))
 
 pub judge-lent-spec : {M : Type 1} → statement M
 judge-lent-spec =

@@ -32,7 +32,7 @@ same-length-2 c = search needs
 returns : tie.Need-returns
 returns c =
     let e = c .before .before .before .before .move-page .ensures in
-    let f = frame (c .before .before .before .before .before .before .before .before .before .before .args .page-w) (c .before .before .before .before .before .before .before .before .before .before .args .page-h) (c .before .before .before .before .before .before .before .before .before .before .args .slope) in
+    let f = frame (c .before .before .before .before .before .before .before .before .before .before .args .a .«page_w») (c .before .before .before .before .before .before .before .before .before .before .args .a .«page_h») (c .before .before .before .before .before .before .before .before .before .before .args .a .slope) in
     (put-part 64 (c .before .before .before .before .before .before .before .before .before .before .args .store .now) (f .shear ++ f .shear-x) _ (e .0), e .1)
 
 pub move-mask-spec : {M : Type 1} → statement M

@@ -18,7 +18,7 @@ move-mask-requires : tie.Need-move-mask-requires
 move-mask-requires c κs =
     let p = c .before .before .before .before .before .before .before .before .before .pre in
     let n = p .1 .1 .1 in
-    (p .0, (p .1 .0, (p .1 .1 .0, (n .0, (let e = ap length (c .before .before .before .before .write-head .ensures) ∙ length-over (1 ∷ headWords (c .before .before .before .before .before .before .before .before .before .args .page-w) (c .before .before .before .before .before .before .before .before .before .args .page-h) (c .before .before .before .before .before .before .before .before .before .args .w) (c .before .before .before .before .before .before .before .before .before .args .h) (c .before .before .before .before .before .before .before .before .before .args .capacity) (c .before .before .before .before .before .before .before .before .before .args .skew) (c .before .before .before .before .before .before .before .before .before .args .slope)) (c .before .before .before .before .before .before .before .before .before .args .store .now) (let l = n .1 in omega arith) in let l = n .1 in omega arith), n .2))))
+    (p .0, (p .1 .0, (p .1 .1 .0, (n .0, (let e = ap length (c .before .before .before .before .write-head .ensures) ∙ length-over (1 ∷ headWords (c .before .before .before .before .before .before .before .before .before .args .a .«page_w») (c .before .before .before .before .before .before .before .before .before .args .a .«page_h») (c .before .before .before .before .before .before .before .before .before .args .a .w) (c .before .before .before .before .before .before .before .before .before .args .a .h) (c .before .before .before .before .before .before .before .before .before .args .a .capacity) (c .before .before .before .before .before .before .before .before .before .args .a .skew) (c .before .before .before .before .before .before .before .before .before .args .a .slope)) (c .before .before .before .before .before .before .before .before .before .args .store .now) (let l = n .1 in omega arith) in let l = n .1 in omega arith), n .2))))
 
 same-length : tie.Need-same-length
 same-length c = search needs
@@ -29,7 +29,7 @@ same-length-2 c = search needs
 returns : tie.Need-returns
 returns c =
     let e = c .before .before .before .before .move-mask .ensures in
-    let f = frame (c .before .before .before .before .before .before .before .before .before .before .before .before .before .before .args .page-w) (c .before .before .before .before .before .before .before .before .before .before .before .before .before .before .args .page-h) (c .before .before .before .before .before .before .before .before .before .before .before .before .before .before .args .slope) in
+    let f = frame (c .before .before .before .before .before .before .before .before .before .before .before .before .before .before .args .a .«page_w») (c .before .before .before .before .before .before .before .before .before .before .before .before .before .before .args .a .«page_h») (c .before .before .before .before .before .before .before .before .before .before .before .before .before .before .args .a .slope) in
     (e .0 ∙ ap (putAt 64 (f .shear ++ f .shear-x)) (c .before .before .before .before .before .before .before .before .before .write-head .ensures), e .1)
 
 pub write-leaf-spec : {M : Type 1} → statement M
