@@ -8,14 +8,14 @@ use crate::rows::row_extents;
 use memory::{area, refuse_if, refuse_sides};
 
 // Which runs are asked for.
-#[derive(Drop)]
+#[derive(Clone, Copy)]
 pub enum Along {
     Rows,
     Columns,
 }
 
 // Whether the extents are there, or the number that the call is refused with.
-#[derive(Drop)]
+#[derive(Clone, Copy)]
 pub enum ExtentsAnswer {
     Done,
     Refused(u32),

@@ -1,4 +1,6 @@
 // Run extents (layout.rs, extent_through): the length of the run of ink through each dot of a mask, along rows or columns.
+#![tactic(auto)]
+
 mod bands;
 mod crowded;
 mod entry;

@@ -138,7 +138,7 @@ fn nearest_gap(lines: &[u32], n: usize, i: usize, overlap: f64, cap: u32, h: u32
 }
 
 // The limits of the gaps between lines: of candidates, and within a block.
-#[derive(Drop)]
+#[derive(Clone, Copy)]
 pub struct GapLimits {
     pub cap: u32,
     pub most: u32,

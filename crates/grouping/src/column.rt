@@ -15,7 +15,7 @@ use memory::max_u32;
 use params::LayoutParams;
 
 // A column of the page: its first and its last frame column.
-#[derive(Drop)]
+#[derive(Clone, Copy)]
 pub struct Column {
     pub x0: u32,
     pub x1: u32,

@@ -11,7 +11,7 @@ use levelling::Sides;
 use memory::{Rect, wide};
 
 // The dots asked for: those of one kind inside a frame box.
-#[derive(Drop)]
+#[derive(Clone, Copy)]
 struct DotQuery {
     sides: Sides,
     kind: u8,

@@ -1,5 +1,7 @@
 // Grouping: text lines, blocks, columns and the figures that clubs print (layout.rs). Lines, blocks and columns lie in lent words,
 // as many for each record; what the functions must do is in specs/.
+#![tactic(auto)]
+
 mod block;
 mod column;
 mod counts;

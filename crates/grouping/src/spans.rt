@@ -7,14 +7,14 @@ use levelling::Sides;
 use memory::{Rect, max_usize, min_usize, wide};
 
 // From one number to another.
-#[derive(Drop)]
+#[derive(Clone, Copy)]
 pub struct Span {
     pub from: usize,
     pub to: usize,
 }
 
 // An end of a box on the way of a page row, which goes up where the shear falls: where the box starts, or where it ends.
-#[derive(Drop)]
+#[derive(Clone, Copy)]
 struct BoxEnd {
     r: Rect,
     falls: bool,

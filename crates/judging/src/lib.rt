@@ -1,5 +1,7 @@
 // What a store holds, and what turns a call back: the words of its header, and the judges of every entry. The numbers are document 01's; the
 // definitions are in specs/rules.
+#![tactic(auto)]
+
 mod judging;
 mod levels;
 mod results;

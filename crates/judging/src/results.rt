@@ -126,7 +126,7 @@ fn unit_ok(case: u32, x: f64) -> bool
 }
 
 // How many records each list has.
-#[derive(Drop)]
+#[derive(Clone, Copy)]
 struct ListCounts {
     rules: u32,
     graphics: u32,
@@ -152,8 +152,8 @@ fn counts_ok(n: ListCounts, w: u32, capacity: u32) -> bool
 
 // The words of lists whose counts are right: a line's glyph height, a block's line count, boxes, line and block numbers.
 fn lists_ok(store: &[u32], at: usize, w: u32, h: u32, capacity: u32, n: ListCounts) -> bool
-    requires fact_1 { (at + result_words w capacity ≤ length store.now) × (at ≤ lists_at max_page_side max_frame_height) × (w ≤ max_frame_width) × (h ≤ max_frame_height) × (capacity ≤ max_capacity) }
-    requires fact_2 { (n.rules ≤ 3 * capacity) × (n.graphics ≤ capacity) × (n.glyphs ≤ capacity) × (n.lines ≤ capacity) × (n.blocks ≤ capacity) }
+    requires room { (at + result_words w capacity ≤ length store.now) × (at ≤ lists_at max_page_side max_frame_height) × (w ≤ max_frame_width) × (h ≤ max_frame_height) × (capacity ≤ max_capacity) }
+    requires counts { (n.rules ≤ 3 * capacity) × (n.graphics ≤ capacity) × (n.glyphs ≤ capacity) × (n.lines ≤ capacity) × (n.blocks ≤ capacity) }
     ensures { result ≡ lists_ok w h store.now at capacity n.rules n.graphics n.glyphs n.lines n.blocks }
 {
     let places = result_places(w as usize, capacity as usize);

@@ -11,10 +11,10 @@ use levelling::{Drift, is_shear};
 // Whether the held frame words or the words of the shears are other than the held slope gives, for a page so wide and high and the
 // frame of that slope.
 pub fn frame_differs(store: &[u32], page_w: u32, page_h: u32, slope: f64, w: u32, h: u32) -> bool
-    requires fact_1 { PageSides page_w page_h }
-    requires fact_2 { WithinOne slope }
-    requires fact_3 { (w ≡ (frame page_w page_h slope).w) × (h ≡ (frame page_w page_h slope).h) × (header_words + (page_w + h) ≤ length store.now) }
-    requires fact_4 { (page_w ≡ (held store.now).page_w) × (page_h ≡ (held store.now).page_h) × (slope ≡ (held store.now).slope) }
+    requires sides { PageSides page_w page_h }
+    requires slope { WithinOne slope }
+    requires frame_sides { (w ≡ (frame page_w page_h slope).w) × (h ≡ (frame page_w page_h slope).h) × (header_words + (page_w + h) ≤ length store.now) }
+    requires as_held { (page_w ≡ (held store.now).page_w) × (page_h ≡ (held store.now).page_h) × (slope ≡ (held store.now).slope) }
     ensures { result ≡ frame_spoiled store.now }
 {
     let behind = HEADER + page_w as usize;

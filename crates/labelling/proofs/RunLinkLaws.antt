@@ -181,7 +181,7 @@ module _ {w c q first to j : ℕ} {s : List ℕ} (A : Joinable w c q s first to 
               rep = join_f f first j;
               seen = rw (add-one first) (seen-join (touching w (take (2 * c) s)) c f j first below A.under.high touch met-before);
               forest = forest-fresh f p first j L.seen.low (L.seen.own refl) below L.forest;
-              own_val = ap (renamed (max (f first) (f j)) (min (f first) (f j))) (N.same f j below L.forest) ∙ (join_f-a f first j ∙ sym (join_f-b f first j));
+              own = ap (renamed (max (f first) (f j)) (min (f first) (f j))) (N.same f j below L.forest) ∙ (join_f-a f first j ∙ sym (join_f-b f first j));
               low = omega arith;
             };
       }
@@ -234,7 +234,7 @@ module _ {w c q first to j : ℕ} {s₀ s : List ℕ} {k member : ℕ} (S : Swee
               rep = join_f J.rep k j;
               seen = rw (add-one k) (seen-join (touching w t₀) c J.rep j k (omega arith) u₂ touch J.seen);
               forest = rw (new-parents L p) F.0;
-              own_val = F.1;
+              own = F.1;
               low = F.2;
             };
       }

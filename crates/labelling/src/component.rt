@@ -6,7 +6,7 @@ ghost use Rattle.labelling.specs.stages.Absorbing.{absorbed_span};
 
 use memory::{Rect, max_u32, min_u32};
 
-#[derive(Drop)]
+#[derive(Clone, Copy)]
 pub struct Component {
     pub area: u32,
     pub x0: u32,
@@ -35,9 +35,9 @@ impl Component {
 
     // The component with the dot in column x and row y more.
     pub fn absorb(self, x: u32, y: u32) -> Component
-        requires fact_1 { self.area < 4294967295 }
-        requires fact_2 { self.sum_x + x ≤ 18446744073709551615 }
-        requires fact_3 { self.sum_y + y ≤ 18446744073709551615 }
+        requires area { self.area < 4294967295 }
+        requires sum_x { self.sum_x + x ≤ 18446744073709551615 }
+        requires sum_y { self.sum_y + y ≤ 18446744073709551615 }
         ensures { result ≡ absorbed self x y }
     {
         Component {

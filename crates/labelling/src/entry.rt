@@ -10,7 +10,7 @@ use crate::row_by_row::extract_linked;
 use memory::{COMPONENT_WORDS, MAX_CAPACITY, area, refuse_if, refuse_sides, scratch_words};
 
 // The count of components, or the number that the call is refused with.
-#[derive(Drop)]
+#[derive(Clone, Copy)]
 pub enum LabelAnswer {
     Labelled(u32),
     Refused(u32),

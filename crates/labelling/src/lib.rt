@@ -1,5 +1,7 @@
 // Labelling: the 8-connected components of a mask, numbered by first dot (components.rs). Component is the record
 // that every crate above reads and makes, by value.
+#![tactic(auto)]
+
 mod component;
 mod entry;
 mod link;

@@ -15,7 +15,7 @@ use union_find::{find, unite};
 const NEAR: usize = 65536;
 
 // Where a run list lies in its words: c runs are known, their parents begin at the word `parents`, and the rows are w dots wide.
-#[derive(Drop)]
+#[derive(Clone, Copy)]
 pub struct RunTable {
     pub c: usize,
     pub parents: usize,

@@ -14,7 +14,7 @@ use memory::min_usize;
 const CHUNK: usize = 32;
 
 // Which dots count: ink whose mark has its first bit, its second bit, or none.
-#[derive(Drop)]
+#[derive(Clone, Copy)]
 pub enum Test {
     First,
     Second,
@@ -22,7 +22,7 @@ pub enum Test {
 }
 
 // The test of a row's dots: which count, the row's first dot, and the word where the marks of the plane begin.
-#[derive(Drop)]
+#[derive(Clone, Copy)]
 pub struct RowTest {
     pub test: Test,
     pub base: usize,

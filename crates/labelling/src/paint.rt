@@ -14,14 +14,14 @@ use memory::{fill_words, min_usize, wide};
 const AHEAD: usize = 128;
 
 // So many runs, in rows of w dots.
-#[derive(Drop)]
+#[derive(Clone, Copy)]
 pub struct RunRows {
     pub c: usize,
     pub w: usize,
 }
 
 // How far painting has come: the next run, how many components it has met, and up to where the labels are cleared.
-#[derive(Drop)]
+#[derive(Clone, Copy)]
 pub struct Progress {
     pub next: usize,
     pub count: usize,

@@ -9,7 +9,7 @@ use memory::wide;
 
 // The run after it, the column of its last dot, its dots and the sum of their columns; and up to where the labels are cleared now that
 // it is painted.
-#[derive(Drop)]
+#[derive(Clone, Copy)]
 pub struct Span {
     pub next: usize,
     pub last: usize,
@@ -19,7 +19,7 @@ pub struct Span {
 }
 
 // The run after it, the column of its last dot and its dots.
-#[derive(Drop)]
+#[derive(Clone, Copy)]
 pub struct Extent {
     pub next: usize,
     pub last: usize,
@@ -27,7 +27,7 @@ pub struct Extent {
 }
 
 // How far a sweep over the runs has come: the next run, and how many components it has met.
-#[derive(Drop)]
+#[derive(Clone, Copy)]
 pub struct Reached {
     pub next: usize,
     pub count: usize,

@@ -8,14 +8,14 @@ ghost use Rattle.levelling.specs.rules.Frames.{PageSides, frame};
 use crate::shears::{Drift, fill_shear, greatest_entry};
 
 // The sides of the frame.
-#[derive(Drop)]
+#[derive(Clone, Copy)]
 pub struct FrameSize {
     pub w: u32,
     pub h: u32,
 }
 
 // The sides of a page and of its frame, as lengths.
-#[derive(Drop)]
+#[derive(Clone, Copy)]
 pub struct Sides {
     pub page_w: usize,
     pub page_h: usize,
@@ -25,10 +25,10 @@ pub struct Sides {
 
 // The page's sides and what the two shears add.
 pub fn frame_size(page_w: u32, page_h: u32, slope: f64) -> FrameSize
-    requires fact_1 { PageSides page_w page_h }
-    requires fact_2 { WithinOne slope }
-    ensures fact_1 { (result.w ≡ (frame page_w page_h slope).w) × (result.h ≡ (frame page_w page_h slope).h) }
-    ensures fact_2 { (result.w ≤ max_frame_width) × (result.h ≤ max_frame_height) }
+    requires sides { PageSides page_w page_h }
+    requires slope { WithinOne slope }
+    ensures sides { (result.w ≡ (frame page_w page_h slope).w) × (result.h ≡ (frame page_w page_h slope).h) }
+    ensures limits { (result.w ≤ max_frame_width) × (result.h ≤ max_frame_height) }
 {
     let h = page_h + greatest_entry(Drift::Row, page_w, slope);
     let w = page_w + greatest_entry(Drift::Column, h, slope);
@@ -37,9 +37,9 @@ pub fn frame_size(page_w: u32, page_h: u32, slope: f64) -> FrameSize
 
 // The shear of each page column over the front of words, and behind it the shear of each frame row.
 pub fn fill_shears(words: &mut [u32], page_w: u32, page_h: u32, slope: f64)
-    requires fact_1 { PageSides page_w page_h }
-    requires fact_2 { WithinOne slope }
-    requires fact_3 { page_w + (frame page_w page_h slope).h ≤ length words.old }
+    requires sides { PageSides page_w page_h }
+    requires slope { WithinOne slope }
+    requires room { page_w + (frame page_w page_h slope).h ≤ length words.old }
     ensures { words.new ≡ over ((frame page_w page_h slope).shear ++ (frame page_w page_h slope).shear_x) words.old }
 {
     let size = frame_size(page_w, page_h, slope);

@@ -1,5 +1,7 @@
 // Levelling: the two shears that make text lines level, the frame they give, a page plane moved into it, and the way back to
 // the page (layout.rs).
+#![tactic(auto)]
+
 mod frame;
 mod mapping;
 mod plane;
@@ -13,7 +15,7 @@ pub use plane::level_plane;
 pub use shears::{Drift, applied, is_shear};
 
 // A point in page coordinates. It may lie outside the page, so its coordinates are signed.
-#[derive(Drop)]
+#[derive(Clone, Copy)]
 pub struct Point {
     pub x: i64,
     pub y: i64,

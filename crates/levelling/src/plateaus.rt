@@ -28,8 +28,8 @@ pub fn level_by_plateaus(
     shear_x: &[u32],
     out: &mut [u8],
 )
-    requires fact_1 { PlaneFits (frame_of sides.page_w sides.page_h shear.now shear_x.now sides.w sides.h) page.now out.old }
-    requires fact_2 { sides.page_w ≤ max_page_side }
+    requires planes { PlaneFits (frame_of sides.page_w sides.page_h shear.now shear_x.now sides.w sides.h) page.now out.old }
+    requires narrow { sides.page_w ≤ max_page_side }
     ensures { out.new ≡ over (levelled (frame_of sides.page_w sides.page_h shear.now shear_x.now sides.w sides.h) fill page.now) out.old }
 {
     let mut ends = [0u32; COLUMNS];
@@ -47,9 +47,9 @@ fn level_rows(
     ends: &[u32],
     out: &mut [u8],
 )
-    requires fact_1 { PlaneFits (frame_of sides.page_w sides.page_h shear.now shear_x.now sides.w sides.h) page.now out.old }
-    requires fact_2 { sides.page_w ≤ length ends.now }
-    requires fact_3 { Plateaus shear.now ends.now 0 }
+    requires planes { PlaneFits (frame_of sides.page_w sides.page_h shear.now shear_x.now sides.w sides.h) page.now out.old }
+    requires room { sides.page_w ≤ length ends.now }
+    requires plateaus { Plateaus shear.now ends.now 0 }
     ensures { out.new ≡ over (levelled (frame_of sides.page_w sides.page_h shear.now shear_x.now sides.w sides.h) fill page.now) out.old }
 {
     let page_w = sides.page_w;
@@ -78,8 +78,8 @@ fn level_columns(
     r: usize,
     out: &mut [u8],
 )
-    requires fact_1 { (length page.now ≡ sides.page_w * sides.page_h) × (length shear.now ≡ sides.page_w) × (length out.old ≡ sides.page_w) × (sides.page_w ≤ length ends.now) }
-    requires fact_2 { Plateaus shear.now ends.now 0 }
+    requires room { (length page.now ≡ sides.page_w * sides.page_h) × (length shear.now ≡ sides.page_w) × (length out.old ≡ sides.page_w) × (sides.page_w ≤ length ends.now) }
+    requires plateaus { Plateaus shear.now ends.now 0 }
     ensures { out.new ≡ table (λ c. column_at page.now fill sides.page_w sides.page_h r (get_or shear.now c 0) c) sides.page_w }
 {
     let page_w = sides.page_w;
@@ -104,8 +104,8 @@ fn chunk_end(c: usize, e: usize, page_w: usize) -> usize
 
 // The columns c, c + 1, .. of frame row r, which all move by s rows.
 fn level_plateau(page: &[u8], fill: u8, sides: Sides, r: usize, s: usize, c: usize, out: &mut [u8])
-    requires fact_1 { length page.now ≡ sides.page_w * sides.page_h }
-    requires fact_2 { c + length out.old ≤ sides.page_w }
+    requires page_size { length page.now ≡ sides.page_w * sides.page_h }
+    requires inside { c + length out.old ≤ sides.page_w }
     ensures { out.new ≡ table (λ i. column_at page.now fill sides.page_w sides.page_h r s (c + i)) (length out.old) }
 {
     if r < s {
@@ -157,8 +157,8 @@ fn plateau_ends(shear: &[u32], ends: &mut [u32])
 
 // The end of the plateau that begins at column c, by the one that begins behind it.
 fn plateau_end(shear: &[u32], ends: &[u32], c: usize) -> u32
-    requires fact_1 { (c < length shear.now) × (length shear.now ≤ length ends.now) × (length shear.now ≤ max_page_side) }
-    requires fact_2 { Plateaus shear.now ends.now (c + 1) }
+    requires room { (c < length shear.now) × (length shear.now ≤ length ends.now) × (length shear.now ≤ max_page_side) }
+    requires plateaus { Plateaus shear.now ends.now (c + 1) }
     ensures { Plateau shear.now c result }
 {
     let next = c + 1;

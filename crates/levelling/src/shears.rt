@@ -14,7 +14,7 @@ use params::LayoutParams;
 const STEP: u32 = 16;
 
 // The row drift of a page column, or the column drift of a frame row.
-#[derive(Drop)]
+#[derive(Clone, Copy)]
 pub enum Drift {
     Row,
     Column,
@@ -34,8 +34,8 @@ pub fn applied(sheet: LayoutParams, skew: f64, v: f64) -> f64
 
 // The shear of n drifts over the front of out.
 pub fn fill_shear(out: &mut [u32], which: Drift, n: u32, slope: f64)
-    requires fact_1 { (0 < n) × (n ≤ 2 ^ 15) × (n ≤ length out.old) }
-    requires fact_2 { WithinOne slope }
+    requires count { (0 < n) × (n ≤ 2 ^ 15) × (n ≤ length out.old) }
+    requires slope { WithinOne slope }
     ensures { out.new ≡ over (shear_of (table (drift_of which slope) n)) out.old }
 {
     let least = least_drift(which, n, slope);
@@ -51,8 +51,8 @@ pub fn fill_shear(out: &mut [u32], which: Drift, n: u32, slope: f64)
 
 // Whether the first n words are the shear of n drifts.
 pub fn is_shear(words: &[u32], which: Drift, n: u32, slope: f64) -> bool
-    requires fact_1 { (0 < n) × (n ≤ 2 ^ 15) × (n ≤ length words.now) }
-    requires fact_2 { WithinOne slope }
+    requires count { (0 < n) × (n ≤ 2 ^ 15) × (n ≤ length words.now) }
+    requires slope { WithinOne slope }
     ensures { result ≡ same_words (take n words.now) (shear_of (table (drift_of which slope) n)) }
 {
     let least = least_drift(which, n, slope);
@@ -69,8 +69,8 @@ pub fn is_shear(words: &[u32], which: Drift, n: u32, slope: f64) -> bool
 
 // The greatest entry of the shear of n drifts: it runs one way, so it is the first or the last.
 pub fn greatest_entry(which: Drift, n: u32, slope: f64) -> u32
-    requires fact_1 { (0 < n) × (n ≤ 2 ^ 15) }
-    requires fact_2 { WithinOne slope }
+    requires count { (0 < n) × (n ≤ 2 ^ 15) }
+    requires slope { WithinOne slope }
     ensures { result ≡ greatest (shear_of (table (drift_of which slope) n)) }
 {
     let least = least_drift(which, n, slope);
@@ -88,8 +88,8 @@ fn step_entries(left: u32) -> u32
 
 // n entries of the shear, from c on. It runs one way, so where the first and the last are equal all are.
 fn fill_entries(out: &mut [u32], which: Drift, c: u32, n: u32, slope: f64, least: i64)
-    requires fact_1 { (0 < n) × (length out.old ≡ n) }
-    requires fact_2 { LeastOf which slope (c + n) least }
+    requires count { (0 < n) × (length out.old ≡ n) }
+    requires least { LeastOf which slope (c + n) least }
     ensures { out.new ≡ table (λ i. entry_of which slope least (c + i)) (length out.old) }
 {
     let first = shear_entry(which, c, slope, least);
@@ -102,8 +102,8 @@ fn fill_entries(out: &mut [u32], which: Drift, c: u32, n: u32, slope: f64, least
 
 // The same one by one.
 fn each_entry(out: &mut [u32], which: Drift, c: u32, n: u32, slope: f64, least: i64)
-    requires fact_1 { (0 < n) × (length out.old ≡ n) }
-    requires fact_2 { LeastOf which slope (c + n) least }
+    requires count { (0 < n) × (length out.old ≡ n) }
+    requires least { LeastOf which slope (c + n) least }
     ensures { out.new ≡ table (λ i. entry_of which slope least (c + i)) (length out.old) }
 {
     let mut i: u32 = 0;

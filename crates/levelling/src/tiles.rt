@@ -20,14 +20,14 @@ const CHUNK: usize = 64;
 const QUARTER: usize = 16;
 
 // A tile of a page: n columns, from column c on.
-#[derive(Drop)]
+#[derive(Clone, Copy)]
 struct Tile {
     c: usize,
     n: usize,
 }
 
 // A part of a page row: n dots of row y, from column c on.
-#[derive(Drop)]
+#[derive(Clone, Copy)]
 struct Part {
     y: usize,
     c: usize,
@@ -78,8 +78,8 @@ fn move_tile(
     tile: Tile,
     out: &mut [u8],
 )
-    requires fact_1 { PlaneFits (frame_of sides.page_w sides.page_h shear.now shear_x.now sides.w (length shear_x.now)) page.now out.old }
-    requires fact_2 { tile.c + tile.n ≤ sides.page_w }
+    requires planes { PlaneFits (frame_of sides.page_w sides.page_h shear.now shear_x.now sides.w (length shear_x.now)) page.now out.old }
+    requires inside { tile.c + tile.n ≤ sides.page_w }
     ensures { (done : ℕ → Bool) (s : List ℕ) → out.old ≡ partly (frame_of sides.page_w sides.page_h shear.now shear_x.now sides.w (length shear_x.now)) fill page.now done s → out.new ≡ partly (frame_of sides.page_w sides.page_h shear.now shear_x.now sides.w (length shear_x.now)) fill page.now (or_rows done sides.page_w tile.c tile.n sides.page_h) s }
 {
     let page_h = sides.page_h;
@@ -139,8 +139,8 @@ fn move_chunk(
     part: Part,
     out: &mut [u8],
 )
-    requires fact_1 { part.n ≡ 64 }
-    requires fact_2 { PartFits sides.page_w shear.now shear_x.now sides.w page.now out.old part.y part.c part.n }
+    requires chunk { part.n ≡ 64 }
+    requires fits { PartFits sides.page_w shear.now shear_x.now sides.w page.now out.old part.y part.c part.n }
     ensures { MovesPart sides.page_w shear.now shear_x.now sides.w fill page.now part.y part.c part.n out.old out.new }
 {
     let from = part.y * sides.page_w + part.c;
@@ -198,8 +198,8 @@ fn move_quarter(
     part: Part,
     out: &mut [u8],
 )
-    requires fact_1 { part.n ≡ 16 }
-    requires fact_2 { PartFits sides.page_w shear.now shear_x.now sides.w page.now out.old part.y part.c part.n }
+    requires quarter { part.n ≡ 16 }
+    requires fits { PartFits sides.page_w shear.now shear_x.now sides.w page.now out.old part.y part.c part.n }
     ensures { MovesPart sides.page_w shear.now shear_x.now sides.w fill page.now part.y part.c part.n out.old out.new }
 {
     let from = part.y * sides.page_w + part.c;

@@ -61,7 +61,7 @@ pub fn entries_at(words: &[u32], at: usize, kind: usize, n: u32) -> &[u32]
 }
 
 // How many entries a kind has, and the two kinds after it.
-#[derive(Drop)]
+#[derive(Clone, Copy)]
 pub struct ThreeCounts {
     pub first: u32,
     pub second: u32,

@@ -1,4 +1,6 @@
 // The printed sheet of a segmentation as text, and a refusal's line (01, "Leaves to try").
+#![tactic(auto)]
+
 mod digits;
 mod entries;
 mod formats;

@@ -59,7 +59,7 @@ pub fn sheet_length(figures: &[u32]) -> usize
 }
 
 // The sides of a frame and of its page.
-#[derive(Drop)]
+#[derive(Clone, Copy)]
 pub struct SheetSides {
     pub w: u32,
     pub h: u32,

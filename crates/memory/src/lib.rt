@@ -1,5 +1,7 @@
 // Lent memory: words, floats in two words, and the chain of tests that refuses a call; boxes of dots, and the small numbers' work that all share. Every crate above keeps its records in
 // memory that the caller lends, and says what that memory holds by the definitions in specs/.
+#![tactic(auto)]
+
 mod floats;
 mod limits;
 mod masks;

@@ -5,7 +5,7 @@ ghost use Rattle.memory.specs.rules.Rects.{width, height, union, box_words, box_
 
 use crate::numbers::{max_u32, min_u32};
 
-#[derive(Drop)]
+#[derive(Clone, Copy)]
 pub struct Rect {
     pub x0: u32,
     pub y0: u32,

@@ -1,6 +1,8 @@
 // What a host program calls, under plain C names: the store's entries and readings, each with the entry's own promise. A slice comes as a
 // pointer to its first element and then a length, the pointer valid for that many elements (and never null, not even for the length 0).
 // No function asks anything else of its caller.
+#![tactic(auto)]
+
 mod answers;
 mod frames;
 mod pages;

@@ -25,6 +25,12 @@ no-sizes a b h =
 
 pub not-lt→le : (x y : Float) → T (finite x) → T (finite y) → T (not (lt x y)) → T (le y x)
 unfolding le lt
+not-lt→le lib.Ieee.nan y p q t = elim p [ ]
+not-lt→le (lib.Ieee.inf _) y p q t = elim p [ ]
+not-lt→le (fin false m e) lib.Ieee.nan p q t = elim q [ ]
+not-lt→le (fin false m e) (lib.Ieee.inf _) p q t = elim q [ ]
+not-lt→le (fin true m e) lib.Ieee.nan p q t = elim q [ ]
+not-lt→le (fin true m e) (lib.Ieee.inf _) p q t = elim q [ ]
 not-lt→le (fin false m e) (fin false n d) p q t =
     let a = m * up e * down d in
     let b = n * up d * down e in

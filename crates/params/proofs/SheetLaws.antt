@@ -12,6 +12,8 @@ use Rattle.params.proofs.FiniteOrder.{not-lt→le, not-le→lt}
 
 -- none of two or three is so
 neither : (a b : Bool) → T (not (a || b)) → T (not a) × T (not b)
+neither false true t = elim t [ ]
+neither true b t = elim t [ ]
 neither false false t = (tt, tt)
 
 finite-zero : T (finite sheet.float_zero)
@@ -27,6 +29,7 @@ unfolding of_bits
 finite-ten-thousand = tt
 
 kept : (b : Bool) → T (not (not b)) → T b
+kept false t = elim t [ ]
 kept true t = tt
 
 length-of : (v : Float) → T (sheet.length_ok v) → Length v
@@ -37,13 +40,36 @@ length-of v t =
     record { is_finite = f; low = not-lt→le v sheet.float_zero f finite-zero above.1; high = not-lt→le sheet.ten_thousand v finite-ten-thousand f inside.1 }
 
 both : (a b : Bool) → T (a && b) → T a × T b
+both false b t = elim t [ ]
+both true false t = elim t [ ]
 both true true t = (tt, tt)
 
 six : (a b c d e f : Bool) → T (a && b && c && d && e && f) → T a × T b × T c × T d × T e × T f
+six false b c d e f t = elim t [ ]
+six true false c d e f t = elim t [ ]
+six true true false d e f t = elim t [ ]
+six true true true false e f t = elim t [ ]
+six true true true true false f t = elim t [ ]
+six true true true true true false t = elim t [ ]
 six true true true true true true t = (tt, tt, tt, tt, tt, tt)
 
 fifteen : (a b c d e f g h i j k l m n o : Bool) → T (a && b && c && d && e && f && g && h && i && j && k && l && m && n && o)
     → T a × T b × T c × T d × T e × T f × T g × T h × T i × T j × T k × T l × T m × T n × T o
+fifteen false b c d e f g h i j k l m n o t = elim t [ ]
+fifteen true false c d e f g h i j k l m n o t = elim t [ ]
+fifteen true true false d e f g h i j k l m n o t = elim t [ ]
+fifteen true true true false e f g h i j k l m n o t = elim t [ ]
+fifteen true true true true false f g h i j k l m n o t = elim t [ ]
+fifteen true true true true true false g h i j k l m n o t = elim t [ ]
+fifteen true true true true true true false h i j k l m n o t = elim t [ ]
+fifteen true true true true true true true false i j k l m n o t = elim t [ ]
+fifteen true true true true true true true true false j k l m n o t = elim t [ ]
+fifteen true true true true true true true true true false k l m n o t = elim t [ ]
+fifteen true true true true true true true true true true false l m n o t = elim t [ ]
+fifteen true true true true true true true true true true true false m n o t = elim t [ ]
+fifteen true true true true true true true true true true true true false n o t = elim t [ ]
+fifteen true true true true true true true true true true true true true false o t = elim t [ ]
+fifteen true true true true true true true true true true true true true true false t = elim t [ ]
 fifteen true true true true true true true true true true true true true true true t = (tt, tt, tt, tt, tt, tt, tt, tt, tt, tt, tt, tt, tt, tt, tt)
 
 some : (n : ℕ) → T (not (eqb n 0)) → 1 ≤ n

@@ -5,6 +5,8 @@
 // and a line feed. They are numbers of 32 bits, each a digit that counts its digits and then those. Two
 // numbers are a word, the high half first. The words are the inputs and then the Rust's answers, as
 // kinds.rt has them for each kind. A line that is not so made counts as a difference.
+#![tactic(auto)]
+
 mod histories;
 mod kinds;
 mod levels;
@@ -23,14 +25,14 @@ const HEAD: usize = 6;
 
 const LINE_FEED: u8 = 10;
 
-#[derive(Drop)]
+#[derive(Clone, Copy)]
 enum Outcome {
     End,
     Same,
     Differs,
 }
 
-#[derive(Drop)]
+#[derive(Clone, Copy)]
 struct Tally {
     cases: u64,
     differences: u64,

@@ -23,7 +23,7 @@ const RECORD_WORDS: usize = 576;
 const SCRATCH_WORDS: usize = 21568;
 
 // The sides of a mask.
-#[derive(Drop)]
+#[derive(Clone, Copy)]
 struct Size {
     width: u32,
     height: u32,

@@ -32,6 +32,8 @@ signed s n = cond s (neg_ℤ (pos n)) (pos n)
 -- a whole number's float times a finite float
 times : (x : Float) (c : ℕ) (s : Bool) (m : ℕ) (e : ℤ) → HasValue x false c 1 → mul binary64 x (fin s m e) ≡ round binary64 s (c * (m * up e)) (down e)
 unfolding mul
+times nan c s m e v = elim v [ ]
+times (inf _) c s m e v = elim v [ ]
 times (fin true m' e') c s m e v = absurd (true≢false v.0)
 times (fin false m' e') c s m e v =
     ap (λ (t : Bool). round binary64 t (m' * up e' * (m * up e)) (down e' * down e)) (sign s)
@@ -54,6 +56,9 @@ Wide h = 32768 ≤ 2 ^ h - 1
 uncut : (h : ℕ) → Wide h → (y : Float) → T (fits binary64 y) → T (finite-nonneg y) → nearest_whole (num y) (den y) ≤ 2 ^ 15
     → (round_to_signed h y ≡ pos (nearest_whole (num y) (den y))) × (round_to_signed h (neg y) ≡ neg_ℤ (pos (nearest_whole (num y) (den y))))
 unfolding neg Wide
+uncut h wide nan F p l = elim p [ ]
+uncut h wide (inf _) F p l = elim p [ ]
+uncut h wide (fin true m e) F p l = elim p [ ]
 uncut h wide (fin false m e) F p l = (
   round_to_signed-is h (fin false m e) F tt ∙ ap pos (min-eq_left (le_trans l wide)),
   round_to_signed-is h (fin true m e) (neg-fits binary64 (fin false m e) F) tt ∙ ap (λ (z : ℕ). neg_ℤ (pos z)) (min-eq_left (le_trans l (omega arith))),

@@ -18,10 +18,22 @@ two_to w = fin false 1 (pos w)
 -- ---- the order of two positive floats is that of their fractions
 lt→frac : (x y : Float) → T (positive x) → T (positive y) → T (lt x y) → num x * den y < num y * den x
 unfolding lt
+lt→frac nan y p q h = elim p [ ]
+lt→frac (inf _) y p q h = elim p [ ]
+lt→frac (fin false m e) nan p q h = elim q [ ]
+lt→frac (fin false m e) (inf _) p q h = elim q [ ]
+lt→frac (fin false m e) (fin true n d) p q h = elim q [ ]
+lt→frac (fin true m e) y p q h = elim p [ ]
 lt→frac (fin false m e) (fin false n d) p q h = ltb→lt (m * up e * down d) (n * up d * down e) h
 
 frac→lt : (x y : Float) → T (positive x) → T (positive y) → num x * den y < num y * den x → T (lt x y)
 unfolding lt
+frac→lt nan y p q h = elim p [ ]
+frac→lt (inf _) y p q h = elim p [ ]
+frac→lt (fin false m e) nan p q h = elim q [ ]
+frac→lt (fin false m e) (inf _) p q h = elim q [ ]
+frac→lt (fin false m e) (fin true n d) p q h = elim q [ ]
+frac→lt (fin true m e) y p q h = elim p [ ]
 frac→lt (fin false m e) (fin false n d) p q h = lt→ltb (m * up e * down d) (n * up d * down e) h
 
 -- ---- at least a half and below 2 ^ w
@@ -127,6 +139,9 @@ double-fin m e F M B =
     regroup3 N D = ap (λ (z : ℕ). z * D) (dbl (N * D)) ∙ simp (mul_assoc)
 
 pub double : (x : Float) → T (fits binary64 x) → T (positive x) → num x < 2 ^ 64 * den x → HasValue (add binary64 x x) false (2 * num x) (den x)
+double nan F p h = elim p [ ]
+double (inf _) F p h = elim p [ ]
+double (fin true m e) F p h = elim p [ ]
 double (fin false m e) F p h = double-fin m e F (ltb→lt 0 m p) h
 
 -- ---- the whole part of a value
@@ -135,6 +150,9 @@ uncapped a c h = omega arith
 
 whole_part : (w : ℕ) (x : Float) → T (positive x) → num x < 2 ^ w * den x → to_unsigned w x ≡ num x / den x
 unfolding to_unsigned
+whole_part w nan p h = elim p [ ]
+whole_part w (inf _) p h = elim p [ ]
+whole_part w (fin true m e) p h = elim p [ ]
 whole_part w (fin false m e) p h = uncapped (m * up e / down e) (2 ^ w) ((div-lt_iff_lt-mul (down_pos e)).1 h)
 
 -- of any fraction that x equals
@@ -156,6 +174,9 @@ value-lt w x a c v A h =
 
 pub above_minus_one : (x : Float) → T (positive x) → T (lt (fin true 1 (pos 0)) x)
 unfolding lt
+above_minus_one nan p = elim p [ ]
+above_minus_one (inf _) p = elim p [ ]
+above_minus_one (fin true m e) p = elim p [ ]
 above_minus_one (fin false m e) p = lt→ltb 0 (1 * 1 * down e + m * up e * 1) (pos_sum (down e) (m * up e) (down_pos e))
   where
     pos_sum : (d n : ℕ) → 0 < d → 0 < 1 * 1 * d + n * 1
@@ -163,6 +184,9 @@ above_minus_one (fin false m e) p = lt→ltb 0 (1 * 1 * down e + m * up e * 1) (
 
 -- ---- from 2 ^ 52 on a float is whole
 pub large-whole : (x : Float) → T (fits binary64 x) → T (positive x) → 2 ^ 52 * den x ≤ num x → den x ≡ 1
+large-whole nan F p h = elim p [ ]
+large-whole (inf _) F p h = elim p [ ]
+large-whole (fin true m _) F p h = elim p [ ]
 large-whole (fin false m (pos k)) F p h = refl
 large-whole (fin false m (negsuc k)) F p h = absurd (go m (2 ^ k) (2 ^ suc k) (held m (negsuc k) F (ltb→lt 0 m p)).digits (pow_pos k) (pow-suc 2 k) (subst (λ (z : ℕ). 2 ^ 52 * 2 ^ suc k ≤ z) (mul-one m) h))
   where

@@ -17,6 +17,9 @@ use Rattle.rounding.proofs.Signs.{not-not, neg-round}
 -- ---- the whole number as a float
 pub round_half_away-of-positive : (x : Float) → T (positive x) → round_half_away x ≡ of_int binary64 (pos (nearest_whole (num x) (den x)))
 unfolding round_half_away of_int
+round_half_away-of-positive nan p = elim p [ ]
+round_half_away-of-positive (inf _) p = elim p [ ]
+round_half_away-of-positive (fin true m e) p = elim p [ ]
 round_half_away-of-positive (fin false m e) p = refl
 
 in-range : (n d : ℕ) → n ≤ 9007199254740991 * d → nearest_whole n d ≤ 2 ^ 53

@@ -37,18 +37,33 @@ round-nonneg f a b = subst (λ (z : Float). T (nonneg z)) (sym (round_is f false
 -- ---- the order of two such values, as one of fractions
 cross : (x y : Float) → T (finite-nonneg x) → T (finite-nonneg y) → T (le x y) → num x * den y ≤ num y * den x
 unfolding le
+cross nan y p q h = elim p [ ]
+cross (inf _) y p q h = elim p [ ]
+cross (fin false m e) nan p q h = elim q [ ]
+cross (fin false m e) (inf _) p q h = elim q [ ]
+cross (fin false m e) (fin true n d) p q h = elim q [ ]
+cross (fin true m e) y p q h = elim p [ ]
 cross (fin false m e) (fin false n d) p q h = at_most (m * up e * down d) (n * up d * down e) (eqb (m * up e * down d) (n * up d * down e)) (eqb→eq (m * up e * down d) (n * up d * down e)) h
 
 finite-below : (x y : Float) → T (nonneg x) → T (finite-nonneg y) → T (le x y) → T (finite-nonneg x)
 unfolding le
+finite-below nan y p q h = elim p [ ]
+finite-below (inf false) nan p q h = elim q [ ]
+finite-below (inf false) (inf _) p q h = elim q [ ]
+finite-below (inf true) y p q h = elim p [ ]
+finite-below (fin true m e) y p q h = elim p [ ]
 finite-below (inf false) (fin s n d) p q h = absurd h
 finite-below (fin false m e) y p q h = tt
 
 finite-of-value : (x : Float) (a c : ℕ) → HasValue x false a c → T (finite-nonneg x)
+finite-of-value nan a c v = elim v [ ]
+finite-of-value (inf _) a c v = elim v [ ]
 finite-of-value (fin true m e) a c v = absurd (mathlib.Core.Bool.true≢false v.0)
 finite-of-value (fin false m e) a c v = tt
 
 value-cross : (x : Float) (a c : ℕ) → HasValue x false a c → num x * c ≡ a * den x
+value-cross nan a c v = elim v [ ]
+value-cross (inf _) a c v = elim v [ ]
 value-cross (fin s m e) a c v = v.1
 
 -- ---- k / 2 ^ t is a value of the format

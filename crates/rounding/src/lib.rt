@@ -1,4 +1,6 @@
 // Rounding to whole numbers, the casts after it, and the sum of a list in a fixed order (math.rs).
+#![tactic(auto)]
+
 ghost use Rattle.std.specs.Prelude.{◌≡◌, true, false, T, pos, negsuc};
 ghost use Rattle.std.specs.Float.Ieee as Ieee;
 ghost use Rattle.std.specs.Float.{fin};
@@ -106,8 +108,8 @@ fn block_sum(values: &[f64]) -> f64
 
 // The whole number nearest to x, a half up, for 0.5 <= x < 2^52, where doubling x is exact.
 fn nearest_whole(x: f64) -> u64
-    requires fact_1 { T (Ieee.le (fin false 1 (negsuc 0)) x) }
-    requires fact_2 { T (Ieee.lt x (fin false 1 (pos 52))) }
+    requires at_least_half { T (Ieee.le (fin false 1 (negsuc 0)) x) }
+    requires below { T (Ieee.lt x (fin false 1 (pos 52))) }
     ensures { result ≡ nearest_whole (num x) (den x) }
 {
     let twice = x + x;

@@ -1,4 +1,6 @@
 // Thin rulings (layout.rs, thin_ruling_pixels): the ink dots of long thin runs along rows and along columns.
+#![tactic(auto)]
+
 mod columns;
 mod lengths;
 mod scanlines;

@@ -59,7 +59,7 @@ const BLOCKS: u32 = 17;
 const SHEET: u32 = 18;
 
 // What the log gets of a call.
-#[derive(Drop)]
+#[derive(Clone, Copy)]
 struct Logged {
     number: u32,
     value: u32,

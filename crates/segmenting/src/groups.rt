@@ -12,7 +12,7 @@ use params::LayoutParams;
 use sorting::Plan;
 
 // How many blocks and columns there are.
-#[derive(Drop)]
+#[derive(Clone, Copy)]
 pub struct GroupCounts {
     pub blocks: usize,
     pub columns: usize,

@@ -1,5 +1,7 @@
 // Segmenting: a whole page, from its ink to its lists (layout.rs, segment). The stages lie in one slice of scratch, laid out in sorting's
 // specs/Scratch; what they leave is in specs/.
+#![tactic(auto)]
+
 mod boxes;
 mod figures;
 mod groups;

@@ -9,7 +9,7 @@ use crate::places::ResultPlaces;
 use sorting::{GRAPHIC, Plan, SortCounts};
 
 // How many rules and graphics there are.
-#[derive(Drop)]
+#[derive(Clone, Copy)]
 pub struct BoxCounts {
     pub rules: usize,
     pub graphics: usize,

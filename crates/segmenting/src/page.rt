@@ -11,7 +11,7 @@ use smoothing::{Smears, SmearsAnswer, find_smears};
 use sorting::{Plan, SortAnswer, SortCounts, plan_of, sort_ink};
 
 // The figures of a segmentation, or the number that it is refused with.
-#[derive(Drop)]
+#[derive(Clone, Copy)]
 pub enum SegmentAnswer {
     Segmented(Segmentation),
     Refused(u32),

@@ -17,7 +17,7 @@ use smoothing::Smears;
 use sorting::{GLYPH, GRAPHIC, Plan, RULE, SPECK, SortCounts, Unit};
 
 // What is told of a segmentation besides its lists: the unit, how long each list is, the dots of ink and of each kind.
-#[derive(Drop)]
+#[derive(Clone, Copy)]
 pub struct Segmentation {
     pub unit: Unit,
     pub rules: u32,
@@ -35,7 +35,7 @@ pub struct Segmentation {
 }
 
 // The dots of each kind.
-#[derive(Drop)]
+#[derive(Clone, Copy)]
 pub struct KindDots {
     pub cut: u32,
     pub rule: u32,

@@ -1,4 +1,6 @@
 // The show program (01, "Leaves to try"): reads standard input to its end and writes what `showing::show` prints for it.
+#![tactic(auto)]
+
 ghost use Rattle.std.specs.Prelude.{◌≡◌, ◌≤◌, length, take};
 ghost use Rattle.store.specs.rules.Answers.{answer_value};
 ghost use Rattle.showing.specs.rules.Shows.{shown};

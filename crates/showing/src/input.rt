@@ -27,7 +27,7 @@ const HEAD_DIGITS: usize = 40;
 const MOST_SIDE: usize = 16;
 
 // What an input says: a page's sides, and its skew and slope as f64 bits; or it is malformed.
-#[derive(Drop)]
+#[derive(Clone, Copy)]
 pub enum Parsed {
     Malformed,
     Page {

@@ -127,8 +127,8 @@ fn show_leaf(
     scratch: &mut [u32],
     out: &mut [u8],
 ) -> Answer
-    requires fact_1 { (width ≤ max_shown_side) × (height ≤ max_shown_side) }
-    requires fact_2 { ShownRoom store.old ink.old kinds.old scratch.old }
+    requires small { (width ≤ max_shown_side) × (height ≤ max_shown_side) }
+    requires room { ShownRoom store.old ink.old kinds.old scratch.old }
     ensures { told (answer_number result) (answer_value result) (words out.new) ≡ text_told (leaf_text (page_shown mask.now width height skew slope)) out.old }
 {
     let refused = level_page(mask, width, height, skew, slope, store, ink);

@@ -1,5 +1,7 @@
 // Smoothing and lines: from the sorted ink to the smoothed components, the lines that they are and the glyphs of each (layout.rs). The
 // stages lie in one slice of scratch, laid out in sorting's specs/Scratch.
+#![tactic(auto)]
+
 mod glyphs;
 mod lines;
 mod smears;

@@ -16,14 +16,14 @@ use rounding::round_to_u32;
 use sorting::Plan;
 
 // How many smoothed components and lines there are.
-#[derive(Drop)]
+#[derive(Clone, Copy)]
 pub struct Smears {
     pub smears: usize,
     pub lines: usize,
 }
 
 // Found; or more smoothed components than the capacity; or more lines than a page may have.
-#[derive(Drop)]
+#[derive(Clone, Copy)]
 pub enum SmearsAnswer {
     Found(Smears),
     TooMany,
@@ -31,7 +31,7 @@ pub enum SmearsAnswer {
 }
 
 // How many smoothed runs there are, and how many components they have.
-#[derive(Drop)]
+#[derive(Clone, Copy)]
 pub struct SmearLabels {
     pub runs: usize,
     pub smears: usize,

@@ -10,7 +10,7 @@ const GLYPH: u32 = 4;
 
 // Where things stand in the words behind the runs: the numbers of their components, the smoothed runs of the page, the kinds of all
 // components and their words.
-#[derive(Drop)]
+#[derive(Clone, Copy)]
 pub struct Places {
     pub numbers: usize,
     pub smoothed: usize,
@@ -20,7 +20,7 @@ pub struct Places {
 
 // How far the walk has come: runs and smoothed runs of the page so far, the greatest number of a glyph among them, and the end of the
 // row's last glyph run, or 0 where there is none yet.
-#[derive(Drop)]
+#[derive(Clone, Copy)]
 pub struct Walk {
     pub passed: usize,
     pub smoothed: usize,
@@ -29,7 +29,7 @@ pub struct Walk {
 }
 
 // A glyph run: the number of its component, its first dot and its end. A run of another component has number 0.
-#[derive(Drop)]
+#[derive(Clone, Copy)]
 pub struct GlyphRun {
     pub number: usize,
     pub start: u32,

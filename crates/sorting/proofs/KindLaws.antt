@@ -53,6 +53,7 @@ five : (ℕ → ℕ) → ℕ → ℕ
 five g n = count_if (λ i. eqb (g i) 1) n + count_if (λ i. eqb (g i) 2) n + count_if (λ i. eqb (g i) 3) n + count_if (λ i. eqb (g i) 4) n + count_if (λ i. eqb (g i) 5) n
 
 one-of-five : (b : Bool) (k : ℕ) → KindOfDot b k → cond (eqb k 1) 1 0 + (cond (eqb k 2) 1 0 + (cond (eqb k 3) 1 0 + (cond (eqb k 4) 1 0 + cond (eqb k 5) 1 0))) ≡ cond b 1 0
+one-of-five false (suc _) x3 = elim x3 [ ]
 one-of-five false zero blank = refl
 one-of-five true zero (ink a c) = absurd (not-suc-le-zero a)
 one-of-five true (suc zero) (ink a c) = refl

@@ -1,6 +1,8 @@
 // Sorting: the x-height and the kind of each component, and a whole ink plane sorted (layout.rs). What the functions must do is in
 // specs/.
 
+#![tactic(auto)]
+
 ghost use Rattle.std.specs.Prelude.{◌≡◌};
 ghost use Rattle.sorting.specs.rules.Units.{unit_value};
 
@@ -20,7 +22,7 @@ pub use plan::{Plan, plan_of};
 pub use sort::{CutAnswer, Cuts, SortAnswer, SortCounts, cut_ink, label_rulings, sort_ink};
 
 // The x-height of the page, 01's unit: the length that every threshold is a multiple of, and whether it was measured.
-#[derive(Drop)]
+#[derive(Clone, Copy)]
 pub enum Unit {
     Measured(f64),
     Assumed(f64),

@@ -16,7 +16,7 @@ use params::LayoutParams;
 use rulings::{Found, mark_rulings, thin_rulings};
 
 // The unit, the dots of ink before the cut, how many cuts of each kind, and the runs and components after the cut.
-#[derive(Drop)]
+#[derive(Clone, Copy)]
 pub struct SortCounts {
     pub unit: Unit,
     pub ink: u32,
@@ -27,21 +27,21 @@ pub struct SortCounts {
 }
 
 // How many cuts of each kind.
-#[derive(Drop)]
+#[derive(Clone, Copy)]
 pub struct Cuts {
     pub horizontal: usize,
     pub vertical: usize,
 }
 
 // Cut, or one kind of cuts has more components than the capacity.
-#[derive(Drop)]
+#[derive(Clone, Copy)]
 pub enum CutAnswer {
     Cut(Cuts),
     TooMany,
 }
 
 // Sorted, or a labelling has more components than the capacity.
-#[derive(Drop)]
+#[derive(Clone, Copy)]
 pub enum SortAnswer {
     Sorted(SortCounts),
     TooMany,

@@ -97,10 +97,10 @@ fn level(
     shears: &mut [u32],
     out: &mut [u8],
 )
-    requires fact_1 { PageSides page_w page_h }
-    requires fact_2 { WithinOne slope }
-    requires fact_3 { (w ≡ (frame page_w page_h slope).w) × (h ≡ (frame page_w page_h slope).h) }
-    requires fact_4 { (length page.now ≡ page_w * page_h) × (page_w + h ≤ length shears.old) × (w * h ≤ length out.old) }
+    requires sides { PageSides page_w page_h }
+    requires slope { WithinOne slope }
+    requires frame_sides { (w ≡ (frame page_w page_h slope).w) × (h ≡ (frame page_w page_h slope).h) }
+    requires room { (length page.now ≡ page_w * page_h) × (page_w + h ≤ length shears.old) × (w * h ≤ length out.old) }
     ensures { (shears.new ≡ over ((frame page_w page_h slope).shear ++ (frame page_w page_h slope).shear_x) shears.old) × (out.new ≡ over (levelled (frame page_w page_h slope) fill page.now) out.old) }
 {
     let pw = page_w as usize;

@@ -3,6 +3,8 @@
 // its caller beyond the types: a slice comes as a pointer to its first element and then a length,
 // the pointer valid for that many elements (and never null, not even for the length 0); a bool is
 // one byte, 0 or 1.
+#![tactic(auto)]
+
 ghost use Rattle.std.specs.Prelude.{◌≡◌};
 ghost use Rattle.rounding.specs.rules.Rounding.{round_half_away, round_to_unsigned, round_to_signed, round_output};
 ghost use Rattle.rounding.specs.rules.Sums.{pairwise_sum};

@@ -22,7 +22,7 @@ pub fn judge_plane(ink: &[u8], width: u32, height: u32) -> u32
 }
 
 // How long what is lent is.
-#[derive(Drop)]
+#[derive(Clone, Copy)]
 struct Lent {
     words: usize,
     results: usize,

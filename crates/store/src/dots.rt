@@ -51,8 +51,8 @@ fn counted(store: &[u32], kinds: &[u8], kind: u8, r: Rect) -> u32
 
 // Column and row of each over the front of the words lent.
 fn written(store: &[u32], kinds: &[u8], kind: u8, r: Rect, out: &mut [u32])
-    requires fact_1 { FrameHere store.now kinds.now }
-    requires fact_2 { 2 * count_if (listed (words_frame store.now) (words_kinds store.now kinds.now) kind r) (get_or store.now 1 0 * get_or store.now 2 0) ≤ length out.old }
+    requires frame_here { FrameHere store.now kinds.now }
+    requires room { 2 * count_if (listed (words_frame store.now) (words_kinds store.now kinds.now) kind r) (get_or store.now 1 0 * get_or store.now 2 0) ≤ length out.old }
     ensures { out.new ≡ over (dot_list (words_frame store.now) (words_kinds store.now kinds.now) kind r) out.old }
 {
     let page_w = store[PAGE_WIDTH] as usize;

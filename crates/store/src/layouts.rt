@@ -54,8 +54,8 @@ fn segment_parts(
     kinds: &mut [u8],
     scratch: &mut [u32],
 ) -> SegmentAnswer
-    requires fact_1 { SegmentRoom sheet w h (take (w * h) ink.now) capacity (take (scratch_words (w * h) capacity) scratch.old) (length store.old - start) (length kinds.old) }
-    requires fact_2 { (w * h ≤ length ink.now) × (scratch_words (w * h) capacity ≤ length scratch.old) × (start ≤ length store.old) }
+    requires segment_room { SegmentRoom sheet w h (take (w * h) ink.now) capacity (take (scratch_words (w * h) capacity) scratch.old) (length store.old - start) (length kinds.old) }
+    requires lengths { (w * h ≤ length ink.now) × (scratch_words (w * h) capacity ≤ length scratch.old) × (start ≤ length store.old) }
     ensures { (take start store.new ≡ take start store.old) × (Answers.segment_outcome result (drop start store.new) kinds.new ≡ segment_plane sheet w h (take (w * h) ink.now) capacity (drop start store.old) kinds.old) × (drop (scratch_words (w * h) capacity) scratch.new ≡ drop (scratch_words (w * h) capacity) scratch.old) }
 {
     let dots = area(w, h);

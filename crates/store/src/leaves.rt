@@ -19,7 +19,7 @@ use memory::{bits_of, copy_words};
 use params::LayoutParams;
 
 // What levelling is handed beside mask and sheet (01, part 3).
-#[derive(Drop)]
+#[derive(Clone, Copy)]
 pub struct Handed {
     pub width: u32,
     pub height: u32,
@@ -43,7 +43,7 @@ impl Handed {
 }
 
 // What the store's head says of a levelled leaf: the sides of page and frame, the capacity, the applied skew and slope.
-#[derive(Drop)]
+#[derive(Clone, Copy)]
 struct Head {
     page_w: u32,
     page_h: u32,
@@ -77,10 +77,10 @@ fn write_head(a: Head, store: &mut [u32])
 
 // Both shears, and the mask moved by them.
 fn move_page(mask: &[u8], a: Head, shears: &mut [u32], ink: &mut [u8])
-    requires fact_1 { PageSides a.page_w a.page_h }
-    requires fact_2 { WithinOne a.slope }
-    requires fact_3 { (a.w ≡ (frame a.page_w a.page_h a.slope).w) × (a.h ≡ (frame a.page_w a.page_h a.slope).h) }
-    requires fact_4 { (length mask.now ≡ a.page_w * a.page_h) × (a.page_w + a.h ≤ length shears.old) × (a.w * a.h ≤ length ink.old) }
+    requires sides { PageSides a.page_w a.page_h }
+    requires slope { WithinOne a.slope }
+    requires frame_sides { (a.w ≡ (frame a.page_w a.page_h a.slope).w) × (a.h ≡ (frame a.page_w a.page_h a.slope).h) }
+    requires room { (length mask.now ≡ a.page_w * a.page_h) × (a.page_w + a.h ≤ length shears.old) × (a.w * a.h ≤ length ink.old) }
     ensures { (shears.new ≡ over ((frame a.page_w a.page_h a.slope).shear ++ (frame a.page_w a.page_h a.slope).shear_x) shears.old) × (ink.new ≡ over (levelled (frame a.page_w a.page_h a.slope) 0 mask.now) ink.old) }
 {
     let pw = a.page_w as usize;
@@ -100,10 +100,10 @@ fn move_page(mask: &[u8], a: Head, shears: &mut [u32], ink: &mut [u8])
 
 // Both shears behind the header, and the mask moved by them.
 fn move_mask(mask: &[u8], a: Head, store: &mut [u32], ink: &mut [u8])
-    requires fact_1 { PageSides a.page_w a.page_h }
-    requires fact_2 { WithinOne a.slope }
-    requires fact_3 { (a.w ≡ (frame a.page_w a.page_h a.slope).w) × (a.h ≡ (frame a.page_w a.page_h a.slope).h) }
-    requires fact_4 { (length mask.now ≡ a.page_w * a.page_h) × (header_words + (a.page_w + a.h) ≤ length store.old) × (a.w * a.h ≤ length ink.old) }
+    requires sides { PageSides a.page_w a.page_h }
+    requires slope { WithinOne a.slope }
+    requires frame_sides { (a.w ≡ (frame a.page_w a.page_h a.slope).w) × (a.h ≡ (frame a.page_w a.page_h a.slope).h) }
+    requires room { (length mask.now ≡ a.page_w * a.page_h) × (header_words + (a.page_w + a.h) ≤ length store.old) × (a.w * a.h ≤ length ink.old) }
     ensures { (store.new ≡ put_at header_words ((frame a.page_w a.page_h a.slope).shear ++ (frame a.page_w a.page_h a.slope).shear_x) store.old) × (ink.new ≡ over (levelled (frame a.page_w a.page_h a.slope) 0 mask.now) ink.old) }
 {
     move_page(mask, a, &mut store[HEADER..], ink);
@@ -111,10 +111,10 @@ fn move_mask(mask: &[u8], a: Head, store: &mut [u32], ink: &mut [u8])
 
 // Header, shears and ink plane of a leaf that is accepted.
 fn write_leaf(mask: &[u8], a: Head, store: &mut [u32], ink: &mut [u8])
-    requires fact_1 { PageSides a.page_w a.page_h }
-    requires fact_2 { WithinOne a.slope }
-    requires fact_3 { (a.w ≡ (frame a.page_w a.page_h a.slope).w) × (a.h ≡ (frame a.page_w a.page_h a.slope).h) }
-    requires fact_4 { (length mask.now ≡ a.page_w * a.page_h) × (header_words + (a.page_w + a.h) ≤ length store.old) × (a.w * a.h ≤ length ink.old) }
+    requires sides { PageSides a.page_w a.page_h }
+    requires slope { WithinOne a.slope }
+    requires frame_sides { (a.w ≡ (frame a.page_w a.page_h a.slope).w) × (a.h ≡ (frame a.page_w a.page_h a.slope).h) }
+    requires room { (length mask.now ≡ a.page_w * a.page_h) × (header_words + (a.page_w + a.h) ≤ length store.old) × (a.w * a.h ≤ length ink.old) }
     ensures { (store.new ≡ put_at header_words ((frame a.page_w a.page_h a.slope).shear ++ (frame a.page_w a.page_h a.slope).shear_x) (over (1 ∷ head_words a.page_w a.page_h a.w a.h a.capacity a.skew a.slope) store.old)) × (ink.new ≡ over (levelled (frame a.page_w a.page_h a.slope) 0 mask.now) ink.old) }
 {
     write_head(a, store);

@@ -1,4 +1,6 @@
 // The store: its entries and readings. What each answers and leaves is in specs/rules/Outcomes.
+#![tactic(auto)]
+
 mod answers;
 mod clearing;
 mod dots;

@@ -17,7 +17,7 @@ use segmenting::{BOX_WORDS, COLUMN_WORDS, result_places};
 use smoothing::{GLYPH_WORDS, LINE_WORDS};
 
 // A list of a store: the place of its first word, the words of a record, how many records it has.
-#[derive(Drop)]
+#[derive(Clone, Copy)]
 struct RecordList {
     at: usize,
     width: usize,

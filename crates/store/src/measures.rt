@@ -32,8 +32,8 @@ pub fn twenty_line_measure(store: &[u32], ink: &[u8], kinds: &[u8]) -> Answer
 
 // The summary of what the words say.
 fn summary_of(store: &[u32]) -> Summary
-    requires fact_1 { LinesAt store.now }
-    requires fact_2 { get_or store.now 3 0 * get_or store.now 4 0 ≤ 4294967295 }
+    requires lines { LinesAt store.now }
+    requires dots { get_or store.now 3 0 * get_or store.now 4 0 ≤ 4294967295 }
     ensures { result ≡ summary_words store.now }
 {
     let pitch = pitch_read(store);

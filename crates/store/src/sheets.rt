@@ -26,8 +26,8 @@ fn sheet_size(store: &[u32]) -> usize
 
 // The sheet over the front of the bytes lent.
 fn put_sheet(store: &[u32], out: &mut [u8])
-    requires fact_1 { ListsAt store.now }
-    requires fact_2 { length (sheet_read store.now) ≤ length out.old }
+    requires lists { ListsAt store.now }
+    requires room { length (sheet_read store.now) ≤ length out.old }
     ensures { out.new ≡ over (sheet_read store.now) out.old }
 {
     let w = store[FRAME_WIDTH];

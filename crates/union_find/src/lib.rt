@@ -1,5 +1,7 @@
 // Union-find: a parent for each of some numbers, none above the number itself; each class is named by its first, its root. Runs of ink and lines of
 // type are joined by it.
+#![tactic(auto)]
+
 ghost use Rattle.std.specs.Prelude.{ℕ, ◌≤◌, ◌<◌, length, get_or};
 ghost use Rattle.union_find.specs.stages.Forests.{Found, United};
 
