@@ -114,8 +114,8 @@ module _ (s ink kinds : List ℕ) (R : ReadableResults s ink kinds) where
       let b = word 7 (omega arith) in
       (λ i. lists_ok (a.1 i) (a.2 i) s (lists_at (a.4 i) (a.2 i)) (a.3 i) (r i) (g i) (y i) (l i) (b i)) ∙ lists-are
 
-  pub lines_at : LinesAt s
-  lines_at =
+  pub lines_at_lem : LinesAt s
+  lines_at_lem =
       let low = sides-low s ink kinds R in
       let room = there s ink kinds R Which.lines in
       let few = (counts-low s ink kinds R).3 in

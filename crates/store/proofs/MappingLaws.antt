@@ -83,7 +83,7 @@ module _ (s : List ℕ) (lacking bad : Bool) (R : Readable s lacking bad) (pw ph
       let c = row_by in
       let S = few.sides in
       let r = R.room in
-      (let q = S.wide in omega arith, let q = S.high in omega arith, let q = S.w_Fits in omega arith, let q = S.h_fits in omega arith, omega arith)
+      (let q = S.wide in omega arith, let q = S.high in omega arith, let q = S.w_fits in omega arith, let q = S.h_fits in omega arith, omega arith)
 
   first_part : take pw (drop 64 s) ≡ (frame_held (held s)).shear
   first_part = ap (λ z. take z (drop 64 s)) pw-by ∙ first-held s R.limits R.sound

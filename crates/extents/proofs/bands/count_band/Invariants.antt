@@ -1,0 +1,16 @@
+use native.Mathlib.Omega.{arith}
+use mathlib.Core.Path.{◌≡◌, refl, ap}
+use Prim.Native.Nat.{◌≤◌, ◌-◌, ◌*◌}
+use native.Mathlib.Nat.{le_refl, mul-le-mul_right}
+use Rattle.extents.specs.stages.Scans.{capped_count}
+use Rattle.extents.specs.stages.Bands.{Put}
+use Rattle.extents.proofs.ExtentLaws.{row_next}
+use Rattle.extents.proofs.PutLaws.{put-none, put-ends, put-more}
+use Rattle.extents.proofs.BandLaws.{counts-row}
+use Rattle.extents.proofs.bands.count_band.Given as goal
+
+abbrev pub invariant-loop-y : goal.invariant-loop-y
+invariant-loop-y l = (l.start ≤ l.y) × (l.y ≤ l.end) × Put (capped_count l.w l.mask) (l.start * l.w) (l.y * l.w) l.initial.extents l.extents
+
+abbrev pub decreases-loop-y : goal.decreases-loop-y
+decreases-loop-y l = l.end - l.y

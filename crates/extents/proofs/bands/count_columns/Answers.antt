@@ -1,0 +1,66 @@
+use native.Mathlib.Omega.{arith}
+use mathlib.Core.Path.{◌≡◌, refl, ap, ◌∙◌}
+use Prim.Native.Nat.{ℕ, ◌≤◌, ◌<◌, ◌+◌, ◌-◌, ◌*◌}
+use lib.ListN.{length, get_or}
+use Rattle.extents.specs.rules.Extents.{ink_at, behind}
+use Rattle.extents.specs.stages.Bands.{count_from}
+use Rattle.memory.proofs.PartLaws.{length_part}
+use Rattle.extents.proofs.RunLaws.{behind-le}
+use Rattle.extents.proofs.ExtentLaws.{row_upto}
+use Rattle.extents.proofs.BandLaws.{rows_fit, columns-more}
+use Rattle.extents.proofs.bands.count_columns.Goals as goal
+
+-- the dots of the row that comes next are the mask's
+row_fits : (c : tie.In-loop invariant-loop decreases-loop) → let a = c.before.before.before.before.args in (a.y + c.before.loop.r ≤ length a.mask.now) × ((a.y + c.before.loop.r) * a.w + a.x + a.n ≤ length a.mask.now)
+row_fits c =
+    let a = c.before.before.before.before.args in
+    let p = c.before.before.before.before.requires in
+    let z = row_upto a.w (a.y + 32) (a.y + c.before.loop.r) (omega arith) in
+    let y = rows_fit a.w (a.y + 32) p.0 in
+    (omega arith, omega arith)
+
+pub loop-r-init : goal.loop-r-init
+unfolding behind
+loop-r-init c = let p = c.requires in (omega arith, refl, p.4)
+
+pub overflow_add-from : goal.overflow_add-from
+overflow_add-from c = let z = row_fits c in omega arith
+
+pub overflow_mul-from : goal.overflow_mul-from
+overflow_mul-from c = let z = row_fits c in omega arith
+
+pub overflow_add-from-in-loop-r : goal.overflow_add-from-in-loop-r
+overflow_add-from-in-loop-r c = let z = row_fits c in omega arith
+
+pub overflow_add-to : goal.overflow_add-to
+overflow_add-to c = let z = row_fits c in omega arith
+
+pub slice_bounds-count_more-count : goal.slice_bounds-count_more-count
+slice_bounds-count_more-count c = let z = row_fits c in omega arith
+
+pub slice_bounds-count_more-start : goal.slice_bounds-count_more-start
+slice_bounds-count_more-start c = let z = row_fits c in omega arith
+
+pub slice_bounds-count_more-end : goal.slice_bounds-count_more-end
+slice_bounds-count_more-end c = let z = row_fits c in omega arith
+
+pub count_more-requires : goal.count_more-requires
+count_more-requires c =
+    let a = c.args in
+    let z = row_fits c in
+    let q = length_part ((a.y + c.loop-r.r) * a.w + a.x) ((a.y + c.loop-r.r) * a.w + a.x + a.n) a.mask.now (omega arith) (omega arith) in
+    (omega arith, λ k u. let e = c.loop-r.invariant.2 k (omega arith) in let b = behind-le (λ j. ink_at a.w a.mask.now (a.x + k) (a.y + j)) c.loop-r.r in omega arith)
+
+pub loop-r-preserved : goal.loop-r-preserved
+loop-r-preserved c =
+    let a = c.args in
+    let p = c.requires in
+    let z = row_fits c in
+    let q = length_part ((a.y + c.loop-r.r) * a.w + a.x) ((a.y + c.loop-r.r) * a.w + a.x + a.n) a.mask.now (omega arith) (omega arith) in
+    (omega arith, c.count_more.ensures.size ∙ c.loop-r.invariant.1, λ k u. c.count_more.ensures.put k (omega arith) (omega arith) ∙ columns-more a.w a.y a.x a.n c.loop-r.r a.mask.now c.loop-r.counts k p.2 u (c.loop-r.invariant.2 k u))
+
+pub returns : goal.returns
+returns c =
+    let a = c.args in
+    let e : c.loop-r.r ≡ 32 = omega arith in
+    λ k u. c.loop-r.invariant.2 k u ∙ ap (count_from a.w a.mask.now a.y (a.x + k)) e

@@ -1,0 +1,15 @@
+use native.Mathlib.Omega.{arith}
+use mathlib.Core.Path.{refl}
+use Prim.Native.Nat.{◌≤◌, ◌-◌}
+use native.Mathlib.Nat.{le_refl}
+use Rattle.extents.specs.stages.Scans.{capped_count}
+use Rattle.extents.specs.stages.Bands.{Put}
+use Rattle.extents.proofs.PutLaws.{put-none, put_up, put-ends}
+use Rattle.extents.proofs.BandLaws.{counts-next, above-le, count-below}
+use Rattle.extents.proofs.bands.count_dots.Given as goal
+
+abbrev pub invariant-loop-i : goal.invariant-loop-i
+invariant-loop-i l = (l.from ≤ l.i) × (l.i ≤ l.to) × Put (capped_count l.w l.mask) l.from l.i l.initial.extents l.extents
+
+abbrev pub decreases-loop-i : goal.decreases-loop-i
+decreases-loop-i l = l.to - l.i

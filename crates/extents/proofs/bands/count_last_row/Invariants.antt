@@ -1,0 +1,15 @@
+use native.Mathlib.Omega.{arith}
+use mathlib.Core.Path.{refl, ◌∙◌}
+use Prim.Native.Nat.{◌≤◌, ◌+◌, ◌-◌, ◌*◌}
+use native.Mathlib.Nat.{le_refl}
+use Rattle.extents.specs.stages.Scans.{capped_count}
+use Rattle.extents.specs.stages.Bands.{Put}
+use Rattle.extents.proofs.PutLaws.{put-none, put-ends, put-more}
+use Rattle.extents.proofs.BandLaws.{counts-kept}
+use Rattle.extents.proofs.bands.count_last_row.Given as goal
+
+abbrev pub invariant-loop-x : goal.invariant-loop-x
+invariant-loop-x l = (l.x ≤ l.w) × Put (capped_count l.w l.mask) ((l.y + 31) * l.w) ((l.y + 31) * l.w + l.x) l.initial.extents l.extents
+
+abbrev pub decreases-loop-x : goal.decreases-loop-x
+decreases-loop-x l = l.w - l.x

@@ -1,0 +1,16 @@
+use native.Mathlib.Omega.{arith}
+use mathlib.Core.Path.{◌≡◌, sym, ap, ◌∙◌}
+use Prim.Native.Nat.{◌≤◌, ◌+◌, ◌-◌, ◌*◌}
+use native.Mathlib.Nat.{le_refl, zero-mul}
+use Rattle.extents.specs.stages.Scans.{capped_count}
+use Rattle.extents.specs.stages.Bands.{Put}
+use Rattle.extents.proofs.ExtentLaws.{row_from}
+use Rattle.extents.proofs.PutLaws.{put-none, put-ends, put-more}
+use Rattle.extents.proofs.BandLaws.{counts-next}
+use Rattle.extents.proofs.bands.count_row.Given as goal
+
+abbrev pub invariant-loop-i : goal.invariant-loop-i
+invariant-loop-i l = (l.y * l.w ≤ l.i) × (l.i ≤ l.y * l.w + l.w) × Put (capped_count l.w l.mask) (l.y * l.w) l.i l.initial.extents l.extents
+
+abbrev pub decreases-loop-i : goal.decreases-loop-i
+decreases-loop-i l = l.y * l.w + l.w - l.i

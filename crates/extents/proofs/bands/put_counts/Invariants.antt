@@ -1,0 +1,13 @@
+use native.Mathlib.Omega.{arith}
+use mathlib.Core.Path.{◌≡◌, refl, ap}
+use Prim.Native.Nat.{◌≤◌, ◌+◌, ◌-◌}
+use lib.ListN.{get_or}
+use Rattle.extents.specs.stages.Bands.{Put}
+use Rattle.extents.proofs.PutLaws.{put-none, put_up, put-ends}
+use Rattle.extents.proofs.bands.put_counts.Given as goal
+
+abbrev pub invariant-loop-i : goal.invariant-loop-i
+invariant-loop-i l = (l.i ≤ l.n) × Put (λ k. get_or l.counts (k - l.at) 0) l.at (l.at + l.i) l.initial.extents l.extents
+
+abbrev pub decreases-loop-i : goal.decreases-loop-i
+decreases-loop-i l = l.n - l.i

@@ -1,0 +1,15 @@
+use native.Mathlib.Omega.{arith}
+use mathlib.Core.Path.{refl}
+use Prim.Native.Nat.{◌≤◌, ◌-◌}
+use native.Mathlib.Nat.{le_refl}
+use Rattle.extents.specs.stages.Scans.{column_extent}
+use Rattle.extents.specs.stages.Bands.{Put}
+use Rattle.extents.proofs.PutLaws.{put-none, put-down, put-ends}
+use Rattle.extents.proofs.BandLaws.{takes-next, take-bounds, take-above}
+use Rattle.extents.proofs.bands.take_dots.Given as goal
+
+abbrev pub invariant-loop-i : goal.invariant-loop-i
+invariant-loop-i l = (l.from ≤ l.i) × (l.i ≤ l.to) × Put (column_extent l.w l.h l.mask) l.i l.to l.initial.extents l.extents
+
+abbrev pub decreases-loop-i : goal.decreases-loop-i
+decreases-loop-i l = l.i - l.from

@@ -1,0 +1,19 @@
+use Rattle.extents.proofs.ExtentLaws.{row-size}
+use mathlib.Core.Path.{subst, sym, ap, ◌∙◌, ◌≡◌}
+use Rattle.extents.proofs.RunLaws.{starts-run}
+use Rattle.extents.proofs.CrowdedLaws.{parts_none, parts_more, parts-other, count_at, count_small}
+use mathlib.Core.Bool.{true}
+use Prim.Native.Nat.{suc, ◌+◌, ◌-◌, ◌≤◌}
+use lib.ListN.{length}
+use Rattle.memory.specs.rules.Masks.{is_ink}
+use Rattle.extents.specs.rules.Extents.{behind, extent}
+use Rattle.extents.specs.stages.Scans.{RowParts, single_dot}
+use native.Mathlib.Omega.{arith}
+use borrow.Author.Rules.{rules}
+use Rattle.extents.proofs.crowded.count_on.Given as goal
+
+abbrev pub invariant-loop-i : goal.invariant-loop-i
+invariant-loop-i l = (l.x ≤ l.i) × (l.i ≤ l.to) × (l.count ≤ l.i - l.x) × RowParts l.row l.x l.i l.to (λ k. behind (is_ink l.row) (suc k)) (single_dot l.row) l.extents × (is_ink l.row l.i ≡ true → l.count ≡ behind (is_ink l.row) l.i)
+
+abbrev pub decreases-loop-i : goal.decreases-loop-i
+decreases-loop-i l = l.to - l.i

@@ -1,0 +1,16 @@
+use mathlib.Core.Path.{◌≡◌, refl, ◌∙◌}
+use Prim.Native.Nat.{◌+◌, ◌-◌, ◌≤◌}
+use native.Mathlib.Nat.{le_refl}
+use native.Mathlib.Omega.{arith}
+use Rattle.extents.specs.stages.Scans.{short_extent_at}
+use Rattle.extents.specs.stages.Bands.{Put}
+use Rattle.extents.proofs.CrowdedLaws.{row_put, short-is}
+use Rattle.extents.proofs.ExtentLaws.{row-size}
+use Rattle.extents.proofs.PutLaws.{put-none, put_as, put-ends, put-more, put-over}
+use Rattle.extents.proofs.crowded.short_extents.Given as goal
+
+abbrev pub invariant-loop-i : goal.invariant-loop-i
+invariant-loop-i l = (l.x ≤ l.i) × (l.i ≤ l.to) × Put (short_extent_at l.row) l.x l.i l.initial.extents l.extents
+
+abbrev pub decreases-loop-i : goal.decreases-loop-i
+decreases-loop-i l = l.to - l.i

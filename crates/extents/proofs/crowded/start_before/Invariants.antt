@@ -1,0 +1,13 @@
+use mathlib.Core.Path.{subst, ◌≡◌}
+use Rattle.extents.specs.stages.Scans.{Starts}
+use Rattle.extents.proofs.CrowdedLaws.{starts-here, starts-after}
+use Prim.Native.Nat.{◌-◌, ◌≤◌}
+use Rattle.memory.specs.rules.Masks.{is_ink}
+use native.Mathlib.Omega.{arith}
+use Rattle.extents.proofs.crowded.start_before.Given as goal
+
+abbrev pub invariant-loop-r : goal.invariant-loop-r
+invariant-loop-r l = (l.x ≤ l.r) × (l.r ≤ l.to)
+
+abbrev pub decreases-loop-r : goal.decreases-loop-r
+decreases-loop-r l = l.r - l.x

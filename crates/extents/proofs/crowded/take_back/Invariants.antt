@@ -1,0 +1,16 @@
+use mathlib.Core.Path.{sym, ◌∙◌, subst, ◌≡◌}
+use Rattle.extents.proofs.CrowdedLaws.{parts-less, parts-second, back_at}
+use Prim.Native.Nat.{suc, ◌+◌, ◌-◌, ◌≤◌, ◌<◌}
+use lib.ListN.{length}
+use Rattle.memory.specs.rules.Masks.{is_ink}
+use Rattle.extents.specs.rules.Extents.{behind, extent}
+use Rattle.extents.specs.stages.Scans.{RowCounted}
+use native.Mathlib.Omega.{arith}
+use borrow.Author.Rules.{rules}
+use Rattle.extents.proofs.crowded.take_back.Given as goal
+
+abbrev pub invariant-loop-i : goal.invariant-loop-i
+invariant-loop-i l = (l.x ≤ l.i) × (l.i ≤ l.to) × RowCounted l.row l.x l.i l.to l.extents × (l.i < l.to → l.later ≡ extent (is_ink l.row) (length l.row) l.i)
+
+abbrev pub decreases-loop-i : goal.decreases-loop-i
+decreases-loop-i l = l.i - l.x

@@ -1,0 +1,14 @@
+use mathlib.Core.Path.{refl, ◌∙◌, ◌≡◌, ap}
+use Prim.Native.Nat.{◌+◌, ◌-◌, ◌≤◌}
+use native.Mathlib.Omega.{arith}
+use borrow.Author.Rules.{rules}
+use lib.ListN.{get_or, length}
+use Rattle.extents.specs.stages.Bands.{Put}
+use Rattle.extents.proofs.PutLaws.{put-none, put_up, put-ends}
+use Rattle.extents.proofs.crowded.widen.Given as goal
+
+abbrev pub invariant-loop-k : goal.invariant-loop-k
+invariant-loop-k l = (l.k ≤ 32) × Put (λ i. get_or l.bytes (i - l.x) 0) l.x (l.x + l.k) l.initial.extents l.extents
+
+abbrev pub decreases-loop-k : goal.decreases-loop-k
+decreases-loop-k l = 32 - l.k

@@ -1,0 +1,15 @@
+use native.Mathlib.Omega.{arith}
+use Prim.Native.Nat.{ℕ, ◌≤◌, ◌<◌, ◌-◌}
+use mathlib.Core.Path.{◌≡◌}
+use mathlib.Core.Bool.{true}
+use native.Mathlib.Nat.{le_refl}
+use lib.ListN.{length}
+use Rattle.memory.specs.rules.Masks.{is_ink}
+use Rattle.extents.proofs.ExtentLaws.{ink-zero, ink-nonzero, scan-none, scan-more}
+use Rattle.extents.proofs.rows.ink_end.Given as goal
+
+abbrev pub invariant-loop-e : goal.invariant-loop-e
+invariant-loop-e l = (l.x ≤ l.e) × (l.e ≤ length l.row) × ((k : ℕ) → l.x ≤ k → k < l.e → is_ink l.row k ≡ true)
+
+abbrev pub decreases-loop-e : goal.decreases-loop-e
+decreases-loop-e l = length l.row - l.e

@@ -1,0 +1,15 @@
+use Prim.Native.Nat.{ℕ, ◌+◌, ◌-◌, ◌≤◌, ◌<◌}
+use mathlib.Core.Path.{◌≡◌, refl, sym, ap, ◌∙◌, subst}
+use Rattle.memory.specs.declared.rect.Rect.{Rect}
+use Rattle.grouping.specs.stages.Joining.{least_with}
+use Rattle.memory.specs.stages.Boxes.{Inside}
+use Rattle.grouping.proofs.GapLaws.{gaps_from, pair_fits, walk-on, walk_end, walk-stop}
+use native.Mathlib.Omega.{arith}
+use borrow.Author.Rules.{rules}
+use Rattle.grouping.proofs.block.nearest_gap.Given as goal
+
+abbrev pub invariant-loop-j : goal.invariant-loop-j
+invariant-loop-j l = (l.i + 1 ≤ l.j) × (least_with l.h (gaps_from l.overlap l.cap l.a l.lines l.n (l.i + 1)) ≡ least_with l.nearest (gaps_from l.overlap l.cap l.a l.lines l.n l.j))
+
+abbrev pub decreases-loop-j : goal.decreases-loop-j
+decreases-loop-j l = l.n - l.j

@@ -1,0 +1,18 @@
+use mathlib.Core.Path.{sym}
+use lib.ListN.{length-take}
+use lib.Seq.{length-take-le}
+use Rattle.grouping.specs.rules.Blocks.{nearest_gaps}
+use Rattle.grouping.specs.stages.LineBoxes.{line_boxes}
+use Rattle.grouping.proofs.MedianWords.{counts_of, gaps-below}
+use native.Mathlib.Omega.{arith}
+use borrow.Author.Rules.{rules}
+use Rattle.grouping.proofs.block.typical_gap.Goals as goal
+
+pub slice_bounds-median_of_counts-end-2 : goal.slice_bounds-median_of_counts-end-2
+slice_bounds-median_of_counts-end-2 c = sym (length-take-le c.args.h c.count_gaps-found.new.table (omega (arith, c.count_gaps-found.auto.table)))
+
+pub median_of_counts-requires : goal.median_of_counts-requires
+median_of_counts-requires c = omega (arith, length-take c.args.h c.count_gaps-found.new.table)
+
+pub returns : goal.returns
+returns c = c.median_of_counts.ensures (nearest_gaps c.args.overlap c.args.cap (line_boxes c.args.lines.now c.args.n)) (rw c.count_gaps-found.ensures.0 (counts_of _ c.args.table.now c.count_gaps-found.new.table c.args.h (gaps-below c.args.overlap c.args.cap c.requires.0.0 c.args.h c.args.n c.args.lines.now c.requires.0.1) c.count_gaps-found.ensures.1))

@@ -1,0 +1,14 @@
+use Prim.Native.Nat.{ℕ, ◌+◌, ◌-◌, ◌≤◌, ◌<◌, zero-le}
+use mathlib.Core.Path.{◌≡◌, refl}
+use lib.ListN.{length, length-set}
+use Rattle.grouping.specs.stages.Covers.{CoverSteps}
+use Rattle.grouping.proofs.CoverSums.{Summed, summed-none, summed-here, summed-ended, summed-more, summed-all}
+use native.Mathlib.Omega.{arith}
+use borrow.Author.Rules.{rules}
+use Rattle.grouping.proofs.column.sum_cover.Given as goal
+
+abbrev pub invariant-loop-x : goal.invariant-loop-x
+invariant-loop-x l = (l.x ≤ l.w) × (length l.counts ≡ length l.initial.counts) × ((f : ℕ → ℕ) → CoverSteps l.w l.initial.counts f → Summed l.w l.initial.counts f l.counts l.depth l.busiest l.x)
+
+abbrev pub decreases-loop-x : goal.decreases-loop-x
+decreases-loop-x l = l.w - l.x

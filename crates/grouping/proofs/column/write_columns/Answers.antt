@@ -1,0 +1,26 @@
+use mathlib.Core.Path.{sym, ◌∙◌, ◌≡◌, refl}
+use Prim.Native.Nat.{ℕ, ◌+◌, ◌-◌, ◌≤◌, ◌<◌, zero-le}
+use mathlib.Core.Logic.{⊎_elim}
+use lib.ListN.{length, get_or}
+use Rattle.grouping.specs.rules.Columns.{enough_cover}
+use Rattle.grouping.proofs.ColumnWords.{Written, written_none, written-few, written_last, written-no, written-yes, written_all}
+use native.Mathlib.Omega.{arith}
+use borrow.Author.Rules.{rules}
+use Rattle.grouping.proofs.column.write_columns.Goals as goal
+
+pub loop-x-init : goal.loop-x-init
+loop-x-init c = (zero-le, refl, written_none _ _ _)
+
+pub put_column-n-requires : goal.put_column-n-requires
+put_column-n-requires c = let v = c.loop-x.invariant.2 in let f = written-few _ _ _ _ _ _ v in (omega arith, written_last _ _ _ _ _ _ v)
+
+pub loop-x-preserved : goal.loop-x-preserved
+loop-x-preserved c = let q = c.args in
+    let e = c.enough_cover.ensures in
+    ⊎_elim
+    (λ w. rw (w.5, w.6) (omega arith, omega (arith, w.2.kept.0), written-yes q.gap _ q.out.now c.loop-x.out c.loop-x.n c.loop-x.x c.loop-x.invariant.2 w.2.last.0 w.2.result (sym e ∙ w.0.taken) w.2.ensures))
+    (λ w. rw (w.1, w.2) (omega arith, c.loop-x.invariant.1, written-no q.gap _ q.out.now c.loop-x.out c.loop-x.n c.loop-x.x c.loop-x.invariant.2 (sym e ∙ w.0.left)))
+    c.if-enough_cover.branch
+
+pub returns : goal.returns
+returns c = let v = c.loop-x.invariant.2 in let e : c.loop-x.x ≡ c.args.w = omega arith in written_all _ _ _ _ _ _ _ v e

@@ -1,0 +1,31 @@
+use Prim.Native.Nat.{ℕ, ◌+◌, ◌-◌, ◌*◌, ◌≤◌}
+use mathlib.Core.Path.{◌≡◌, ap, ◌∙◌}
+use mathlib.Core.Bool.{Bool, cond}
+use Rattle.memory.specs.rules.Lists.{count_if}
+use Rattle.levelling.specs.rules.Frames.{Frame}
+use Rattle.grouping.specs.rules.Readings.{listed}
+use Rattle.grouping.specs.stages.Dots.{frame_by}
+use Rattle.grouping.proofs.DotLaws.{count-dot, count-few, dot-below, bit-at-most, row-start, row-end}
+use Rattle.memory.proofs.PlaceLaws.{count-gap}
+use Rattle.grouping.proofs.SpanLaws.{sheared}
+use native.Mathlib.Omega.{arith}
+use borrow.Author.Rules.{rules}
+use Rattle.grouping.proofs.dots.count_row.Goals as goal
+
+pub column_span-columns-requires : goal.column_span-columns-requires
+column_span-columns-requires c = (sheared c.requires.0 c.requires.1, c.requires.2)
+
+pub loop-c-init : goal.loop-c-init
+loop-c-init c = (c.column_span-columns.ensures.first_inside, count-gap (row-start c.args.kinds.now c.args.q.kind c.column_span-columns.ensures) c.requires.3)
+
+pub is_listed-requires : goal.is_listed-requires
+is_listed-requires c = (c.requires.0, omega (arith, c.column_span-columns.ensures.end_inside), c.requires.2)
+
+pub overflow_add-m : goal.overflow_add-m
+overflow_add-m c = let f = count-few (passes c) (c.args.y * c.args.q.sides.page_w + c.loop-c.c) in let b = dot-below c.args.y c.loop-c.c c.args.q.sides.page_w c.args.q.sides.page_h (omega (arith, c.column_span-columns.ensures.end_inside)) c.requires.2 c.requires.0.page_wide c.requires.0.page_high in let q = bit-at-most c.is_listed.result c.one_if-m.result c.one_if-m.ensures in omega arith
+
+pub loop-c-preserved : goal.loop-c-preserved
+loop-c-preserved c = (omega (arith, c.column_span-columns.ensures.end_inside), count-dot (here c) c.args.kinds.now c.args.q.kind c.args.q.r c.loop-c.c c.args.y c.loop-c.m c.one_if-m.result (omega (arith, c.column_span-columns.ensures.end_inside)) c.loop-c.invariant.1 (c.one_if-m.ensures ∙ ap (λ (t : Bool). cond t 1 0) c.is_listed.ensures))
+
+pub returns : goal.returns
+returns c = count-gap (row-end c.args.kinds.now c.args.q.kind c.column_span-columns.ensures c.loop-c.c (omega arith) c.loop-c.invariant.0) c.loop-c.invariant.1

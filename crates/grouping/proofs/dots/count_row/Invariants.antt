@@ -1,0 +1,19 @@
+use Prim.Native.Nat.{ℕ, ◌+◌, ◌-◌, ◌*◌, ◌≤◌}
+use mathlib.Core.Path.{◌≡◌, ap, ◌∙◌}
+use mathlib.Core.Bool.{Bool, cond}
+use Rattle.memory.specs.rules.Lists.{count_if}
+use Rattle.levelling.specs.rules.Frames.{Frame}
+use Rattle.grouping.specs.rules.Readings.{listed}
+use Rattle.grouping.specs.stages.Dots.{frame_by}
+use Rattle.grouping.proofs.DotLaws.{count-dot, count-few, dot-below, bit-at-most, row-start, row-end}
+use Rattle.memory.proofs.PlaceLaws.{count-gap}
+use Rattle.grouping.proofs.SpanLaws.{sheared}
+use native.Mathlib.Omega.{arith}
+use borrow.Author.Rules.{rules}
+use Rattle.grouping.proofs.dots.count_row.Given as goal
+
+abbrev pub invariant-loop-c : goal.invariant-loop-c
+invariant-loop-c l = (l.c ≤ l.q.sides.page_w) × (l.m ≡ count_if (listed (frame_by l.q.sides l.shear l.shear_x) l.kinds l.q.kind l.q.r) (l.y * l.q.sides.page_w + l.c))
+
+abbrev pub decreases-loop-c : goal.decreases-loop-c
+decreases-loop-c l = l.end - l.c

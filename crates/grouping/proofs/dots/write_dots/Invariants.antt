@@ -1,0 +1,21 @@
+use Prim.Native.Nat.{ℕ, ◌-◌, ◌*◌, ◌≤◌}
+use mathlib.Core.Path.{◌≡◌, refl, ◌∙◌}
+use mathlib.Core.Bool.{Bool}
+use lib.ListN.{length}
+use Rattle.memory.specs.rules.Lists.{count_if, keep, upto}
+use Rattle.memory.specs.rules.Words.{over}
+use Rattle.levelling.specs.rules.Frames.{Frame}
+use Rattle.grouping.specs.rules.Readings.{listed, columns_and_rows}
+use Rattle.grouping.specs.stages.Dots.{frame_by}
+use Rattle.grouping.proofs.DotLaws.{count_none, dots-start, dots-gap, dots-all, rows_start, rows_end}
+use Rattle.memory.proofs.PlaceLaws.{count-gap}
+use Rattle.grouping.proofs.SpanLaws.{sheared}
+use native.Mathlib.Omega.{arith}
+use borrow.Author.Rules.{rules}
+use Rattle.grouping.proofs.dots.write_dots.Given as goal
+
+abbrev pub invariant-loop-y : goal.invariant-loop-y
+invariant-loop-y l = (l.y ≤ l.q.sides.page_h) × (length l.out ≡ length l.initial.out) × (l.n ≡ count_if (listed (frame_by l.q.sides l.shear l.shear_x) l.kinds l.q.kind l.q.r) (l.y * l.q.sides.page_w)) × (l.out ≡ over (columns_and_rows l.q.sides.page_w (keep (listed (frame_by l.q.sides l.shear l.shear_x) l.kinds l.q.kind l.q.r) (upto (l.y * l.q.sides.page_w)))) l.initial.out)
+
+abbrev pub decreases-loop-y : goal.decreases-loop-y
+decreases-loop-y l = l.end - l.y

@@ -1,0 +1,16 @@
+use Prim.Native.Nat.{ℕ, ◌+◌, ◌-◌, ◌≤◌, ◌<◌, zero-le}
+use mathlib.Core.Path.{◌≡◌, refl, sym, ap, ◌∙◌}
+use mathlib.Core.List.{List}
+use lib.ListN.{length, drop}
+use Rattle.union_find.specs.rules.Classes.{first_of}
+use Rattle.union_find.specs.stages.Forests.{Forest}
+use Rattle.grouping.proofs.NumberLaws.{rest_at, number-rest, Numbered, numbered-none, numbered_more, numbered-all}
+use native.Mathlib.Omega.{arith}
+use borrow.Author.Rules.{rules}
+use Rattle.grouping.proofs.number.number_blocks.Given as goal
+
+abbrev pub invariant-loop-i : goal.invariant-loop-i
+invariant-loop-i l = (l.i ≤ l.n) × (length l.parents ≡ length l.initial.parents) × (l.count ≤ l.i) × (drop l.i l.parents ≡ drop l.i l.initial.parents) × ((fs : List ℕ) → Forest (first_of fs) l.initial.parents l.n → ((k : ℕ) → first_of fs k ≤ k) → Numbered fs l.initial.parents l.parents l.count l.i)
+
+abbrev pub decreases-loop-i : goal.decreases-loop-i
+decreases-loop-i l = l.n - l.i

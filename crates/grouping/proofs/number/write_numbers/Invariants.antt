@@ -1,0 +1,14 @@
+use Prim.Native.Nat.{ℕ, ◌+◌, ◌-◌, ◌≤◌, ◌<◌, zero-le}
+use mathlib.Core.Path.{◌≡◌, refl, sym, ap, ◌∙◌}
+use lib.ListN.{length, get_or, length-set}
+use Rattle.grouping.specs.stages.Numbering.{with_blocks}
+use Rattle.grouping.proofs.NumberLaws.{blocks-none, blocks_more}
+use native.Mathlib.Omega.{arith}
+use borrow.Author.Rules.{rules}
+use Rattle.grouping.proofs.number.write_numbers.Given as goal
+
+abbrev pub invariant-loop-i : goal.invariant-loop-i
+invariant-loop-i l = (l.i ≤ l.n) × (length l.lines ≡ length l.initial.lines) × (l.lines ≡ with_blocks (λ (k : ℕ). get_or l.numbers k 0) l.i l.initial.lines)
+
+abbrev pub decreases-loop-i : goal.decreases-loop-i
+decreases-loop-i l = l.n - l.i

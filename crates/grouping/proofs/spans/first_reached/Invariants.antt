@@ -1,0 +1,14 @@
+use Prim.Native.Nat.{ℕ, ◌+◌, ◌-◌, ◌/◌, ◌≤◌, ◌<◌}
+use mathlib.Core.Path.{◌≡◌, sym, ◌∙◌}
+use mathlib.Core.Bool.{true, false}
+use native.Mathlib.Omega.{arith}
+use Rattle.levelling.specs.rules.Frames.{row_of, column_of}
+use Rattle.grouping.specs.stages.Dots.{frame_by, is_short}
+use Rattle.grouping.proofs.SpanLaws.{first-reached-low, first-reached-high}
+use Rattle.grouping.proofs.spans.first_reached.Given as goal
+
+abbrev pub invariant-loop-low : goal.invariant-loop-low
+invariant-loop-low l = (l.low ≤ l.high) × (l.high ≤ l.sides.page_w) × ((c : ℕ) → c < l.low → is_short l.end.r l.end.falls l.end.start (column_of (frame_by l.sides l.shear l.shear_x) c l.y) (row_of (frame_by l.sides l.shear l.shear_x) c l.y) ≡ true) × ((c : ℕ) → l.high ≤ c → c < l.sides.page_w → is_short l.end.r l.end.falls l.end.start (column_of (frame_by l.sides l.shear l.shear_x) c l.y) (row_of (frame_by l.sides l.shear l.shear_x) c l.y) ≡ false)
+
+abbrev pub decreases-loop-low : goal.decreases-loop-low
+decreases-loop-low l = l.high - l.low

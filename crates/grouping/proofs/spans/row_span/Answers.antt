@@ -1,0 +1,26 @@
+use Prim.Native.Nat.{◌-◌}
+use borrow.Author.Rules.{rules}
+use native.Mathlib.Omega.{arith}
+use Rattle.grouping.proofs.SpanLaws.{row-place, column-place, some-sides, row-span}
+use Rattle.grouping.proofs.spans.row_span.Goals as goal
+
+pub overflow_sub-sides : goal.overflow_sub-sides
+overflow_sub-sides c = omega (arith, some-sides c.requires)
+
+pub overflow_sub-sides-2 : goal.overflow_sub-sides-2
+overflow_sub-sides-2 c = omega (arith, some-sides c.requires)
+
+pub ends-requires : goal.ends-requires
+ends-requires c = (row-place c.requires c.min_usize-top.result c.args.r.y0 c.min_usize-top.ensures, row-place c.requires c.min_usize-bottom.result c.args.r.y1 c.min_usize-bottom.ensures)
+
+pub overflow_sub-sides-3 : goal.overflow_sub-sides-3
+overflow_sub-sides-3 c = omega (arith, some-sides c.requires)
+
+pub ends-requires-2 : goal.ends-requires-2
+ends-requires-2 c = (column-place c.requires c.reach-columns.result.from (c.args.r.x0 - c.ends.result.to) c.reach-columns.ensures.0, column-place c.requires c.reach-columns.result.to (c.args.r.x1 - c.ends.result.from) c.reach-columns.ensures.1)
+
+pub overflow_sub-sides-4 : goal.overflow_sub-sides-4
+overflow_sub-sides-4 c = omega (arith, some-sides c.requires)
+
+pub returns : goal.returns
+returns c = row-span c.requires c.min_usize-top.ensures c.min_usize-bottom.ensures c.ends.ensures.0 c.ends.ensures.1 c.reach-columns.ensures.0 c.reach-columns.ensures.1 c.ends-2.ensures.0 c.ends-2.ensures.1 c.reach.ensures.0 c.reach.ensures.1

@@ -1,0 +1,19 @@
+use Rattle.judging.proofs.LimitLaws.{point-sides, point-within, point-held}
+use mathlib.Core.Path.{sym, ap, ◌∙◌}
+use Rattle.levelling.specs.rules.Frames.{Frame}
+use Rattle.judging.proofs.LevelLaws.{frame-by-words, frame-short, frame-room, frame-judged}
+use borrow.Author.Rules.{rules}
+use Rattle.judging.proofs.levels.judge_frame.Goals as goal
+
+-- `judging::levels::judge_frame` meets its contract: the frame, then what hangs on it. Assumes nothing.
+
+pub returns-then-store-store_words : goal.returns-then-store-store_words
+returns-then-store-store_words c = frame-short c.args.store.now _ _ c.requires.2 c.requires.3 _ c.store_words.ensures _ _ c.if-store-store_words.true
+
+pub frame_differs-differs-requires : goal.frame_differs-differs-requires
+frame_differs-differs-requires c =
+    let e = sym (frame-by-words c.args.store.now _ c.float_at-slope.ensures) in
+    (point-sides c.args.store.now c.requires.1 _ c.float_at-slope.ensures, (point-within c.args.store.now c.requires.1 _ c.float_at-slope.ensures, ((c.requires.2 ∙ ap (λ (z : Frame). z.w) e, c.requires.3 ∙ ap (λ (z : Frame). z.h) e, frame-room c.args.store.now _ _ c.requires.2 c.requires.3 _ c.store_words.ensures c.if-store-store_words.false), point-held c.args.store.now c.requires.1 _ c.float_at-slope.ensures)))
+
+pub returns : goal.returns
+returns c = frame-judged c.args.store.now _ _ c.requires.2 c.requires.3 _ c.store_words.ensures c.args.lacking c.args.bad _ _ _ _ c.if-store-store_words.false c.refuse_if.ensures c.refuse_if-by_frame.ensures c.frame_differs-differs.ensures c.refuse_if-by_bad.ensures

@@ -1,0 +1,16 @@
+use Rattle.judging.proofs.ShearTests.{rows-asked, columns-asked, differs-is}
+use borrow.Author.Rules.{rules}
+use Rattle.judging.proofs.shears.frame_differs.Goals as goal
+
+-- `judging::shears::frame_differs` meets its contract: both shears, then the frame words. Assumes nothing.
+
+pub is_shear-rows-requires : goal.is_shear-rows-requires
+is_shear-rows-requires c =
+    record { count = rows-asked c.args.store.now c.args.page_w c.args.page_h c.args.slope c.requires.sides c.requires.slope.0 c.args.w c.args.h c.requires.slope.1.0.0 c.requires.slope.1.0.1 c.requires.slope.1.0.2 c.requires.slope.1.1.0 c.requires.slope.1.1.1 c.requires.slope.1.1.2; slope = c.requires.slope.0 }
+
+pub is_shear-columns-requires : goal.is_shear-columns-requires
+is_shear-columns-requires c =
+    record { count = columns-asked c.args.store.now c.args.page_w c.args.page_h c.args.slope c.requires.sides c.requires.slope.0 c.args.w c.args.h c.requires.slope.1.0.0 c.requires.slope.1.0.1 c.requires.slope.1.0.2 c.requires.slope.1.1.0 c.requires.slope.1.1.1 c.requires.slope.1.1.2; slope = c.requires.slope.0 }
+
+pub returns : goal.returns
+returns c = differs-is c.args.store.now c.args.page_w c.args.page_h c.args.slope c.requires.sides c.requires.slope.0 c.args.w c.args.h c.requires.slope.1.0.0 c.requires.slope.1.0.1 c.requires.slope.1.0.2 c.requires.slope.1.1.0 c.requires.slope.1.1.1 c.requires.slope.1.1.2 _ _ c.is_shear-rows.ensures c.is_shear-columns.ensures

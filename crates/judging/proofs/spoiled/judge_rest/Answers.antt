@@ -1,0 +1,31 @@
+use native.Mathlib.Omega.{arith}
+use Rattle.judging.proofs.LimitLaws.{point-sides, point-within, point-few, point-held}
+use Rattle.judging.proofs.SpoiledLaws.{rest-lacking, rest-room, rest-judged}
+use borrow.Author.Rules.{rules}
+use Rattle.judging.proofs.spoiled.judge_rest.Goals as goal
+
+-- `judging::spoiled::judge_rest` meets its contract. Assumes nothing.
+
+pub frame_size-size-requires : goal.frame_size-size-requires
+frame_size-size-requires c = record { sides = point-sides c.args.store.now c.requires.1 c.float_at-slope.result c.float_at-slope.ensures; slope = point-within c.args.store.now c.requires.1 c.float_at-slope.result c.float_at-slope.ensures }
+
+pub returns-then-store-words : goal.returns-then-store-words
+returns-then-store-words c = rest-lacking c.args.store.now c.args.ink.now c.args.kinds.now c.args.lacking c.float_at-slope.result c.float_at-slope.ensures c.frame_size-size.result.w c.frame_size-size.result.h c.frame_size-size.ensures.sides.0 c.frame_size-size.ensures.sides.1 c.area-dots.result c.area-dots.ensures c.store_words-words.result c.store_words-words.ensures c.if-store-words.true
+
+pub frame_differs-moved-requires : goal.frame_differs-moved-requires
+frame_differs-moved-requires c =
+    let r = rest-room c.args.store.now c.args.ink.now c.args.kinds.now c.args.lacking c.float_at-slope.result c.float_at-slope.ensures c.frame_size-size.result.w c.frame_size-size.result.h c.frame_size-size.ensures.sides.0 c.frame_size-size.ensures.sides.1 c.area-dots.result c.area-dots.ensures c.store_words-words.result c.store_words-words.ensures c.if-store-words.false in
+    (point-sides c.args.store.now c.requires.1 c.float_at-slope.result c.float_at-slope.ensures, (point-within c.args.store.now c.requires.1 c.float_at-slope.result c.float_at-slope.ensures, ((c.frame_size-size.ensures.sides.0, c.frame_size-size.ensures.sides.1, omega (arith, r.0, c.store_words-words.ensures)), point-held c.args.store.now c.requires.1 c.float_at-slope.result c.float_at-slope.ensures)))
+
+pub words_ok-right-requires : goal.words_ok-right-requires
+words_ok-right-requires c =
+    let r = rest-room c.args.store.now c.args.ink.now c.args.kinds.now c.args.lacking c.float_at-slope.result c.float_at-slope.ensures c.frame_size-size.result.w c.frame_size-size.result.h c.frame_size-size.ensures.sides.0 c.frame_size-size.ensures.sides.1 c.area-dots.result c.area-dots.ensures c.store_words-words.result c.store_words-words.ensures c.if-store-words.false in
+    ((point-sides c.args.store.now c.requires.1 c.float_at-slope.result c.float_at-slope.ensures).w_fits, c.frame_size-size.ensures.limits.0, c.frame_size-size.ensures.limits.1, point-few c.args.store.now c.requires.1 c.float_at-slope.result c.float_at-slope.ensures, omega (arith, r.0, c.store_words-words.ensures))
+
+pub planes_ok-agree-requires : goal.planes_ok-agree-requires
+planes_ok-agree-requires c =
+    let r = rest-room c.args.store.now c.args.ink.now c.args.kinds.now c.args.lacking c.float_at-slope.result c.float_at-slope.ensures c.frame_size-size.result.w c.frame_size-size.result.h c.frame_size-size.ensures.sides.0 c.frame_size-size.ensures.sides.1 c.area-dots.result c.area-dots.ensures c.store_words-words.result c.store_words-words.ensures c.if-store-words.false in
+    (r.1, r.2)
+
+pub returns : goal.returns
+returns c = rest-judged c.args.store.now c.args.ink.now c.args.kinds.now c.args.lacking c.float_at-slope.result c.float_at-slope.ensures c.frame_size-size.result.w c.frame_size-size.result.h c.frame_size-size.ensures.sides.0 c.frame_size-size.ensures.sides.1 c.area-dots.result c.area-dots.ensures c.store_words-words.result c.store_words-words.ensures c.if-store-words.false c.refuse_if.result c.frame_differs-moved.result c.words_ok-right.result c.planes_ok-agree.result c.refuse_if.ensures c.frame_differs-moved.ensures c.words_ok-right.ensures c.planes_ok-agree.ensures

@@ -1,0 +1,5 @@
+use borrow.Author.Rules.{rules}
+use Rattle.labelling.proofs.component.Component.absorb.Goals as goal
+
+pub returns : goal.returns
+returns c = cc

@@ -1,0 +1,11 @@
+use borrow.Author.Rules.{rules}
+use native.Mathlib.Omega.{arith}
+use Prim.Native.Nat.{◌-◌}
+use Rattle.labelling.proofs.RunLinkLaws.{RowWalk, walk_none, walk-room, walk_start, walk-linkable, walk_more, walk-done}
+use Rattle.labelling.proofs.link.link_row.Given as goal
+
+abbrev pub invariant-loop-j : goal.invariant-loop-j
+invariant-loop-j l = RowWalk l.list.w l.list.c l.list.parents l.limit l.initial.words l.words l.above l.here l.i l.j
+
+abbrev pub decreases-loop-j : goal.decreases-loop-j
+decreases-loop-j l = l.list.c - l.j

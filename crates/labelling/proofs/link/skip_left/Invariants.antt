@@ -1,0 +1,14 @@
+use borrow.Author.Rules.{rules}
+use native.Mathlib.Omega.{arith}
+use Prim.Native.Nat.{ℕ, ◌-◌, ◌≤◌, ◌<◌}
+use native.Mathlib.Nat.{le_refl}
+use Rattle.labelling.specs.stages.InkRuns.{end_of}
+use Rattle.labelling.proofs.RangeLaws.{range_none, range-more}
+use Rattle.labelling.proofs.RunLinkLaws.{before-end}
+use Rattle.labelling.proofs.link.skip_left.Given as goal
+
+abbrev pub invariant-loop-k : goal.invariant-loop-k
+invariant-loop-k l = (l.i ≤ l.k) × (l.k ≤ l.to) × ((a : ℕ) → l.i ≤ a → a < l.k → end_of l.runs 0 a < l.start)
+
+abbrev pub decreases-loop-k : goal.decreases-loop-k
+decreases-loop-k l = l.to - l.k

@@ -1,0 +1,23 @@
+use borrow.Author.Rules.{rules}
+use native.Mathlib.Omega.{arith}
+use Prim.Native.Nat.{◌-◌}
+use Rattle.labelling.proofs.MarkedLaws.{MarkedPlane, marked-plane-none, marked-row-inside, marked_row, marked-row-more, marked-plane-done}
+use Rattle.labelling.proofs.marked.extract_marked.Goals as goal
+
+pub loop-y-init : goal.loop-y-init
+loop-y-init c = marked-plane-none c.args.test c.requires
+
+pub overflow_add-end : goal.overflow_add-end
+overflow_add-end c = let h = marked-row-inside c.loop-y.invariant c.loop-y-test.true in omega (arith, c.requires.dots, c.requires.whole)
+
+pub slice_bounds-extract_row-end : goal.slice_bounds-extract_row-end
+slice_bounds-extract_row-end c = marked-row-inside c.loop-y.invariant c.loop-y-test.true
+
+pub extract_row-k-requires : goal.extract_row-k-requires
+extract_row-k-requires c = marked_row c.loop-y.invariant c.loop-y-test.true
+
+pub loop-y-preserved : goal.loop-y-preserved
+loop-y-preserved c = marked-row-more c.loop-y.invariant c.loop-y-test.true _ _ c.extract_row-k.ensures
+
+pub returns : goal.returns
+returns c = marked-plane-done c.loop-y.invariant c.loop-y-test.false

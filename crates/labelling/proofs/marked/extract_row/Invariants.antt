@@ -1,0 +1,14 @@
+use borrow.Author.Rules.{rules}
+use native.Mathlib.Omega.{arith}
+use mathlib.Core.Path.{◌∙◌}
+use Prim.Native.Nat.{◌-◌, ◌+◌}
+use native.Mathlib.Nat.{le_refl}
+use lib.ListN.{length, length-set}
+use Rattle.labelling.proofs.MarkedLaws.{MarkedRowScan, marked_start, marked-dots, marked-upto, marked-asks, marked-read, marked-blank, marked-fits-end, marked-ink}
+use Rattle.labelling.proofs.marked.extract_row.Given as goal
+
+abbrev pub invariant-loop-x : goal.invariant-loop-x
+invariant-loop-x l = MarkedRowScan l.row.test l.ink l.row.base l.initial.words l.words l.at l.row.marks l.k l.x
+
+abbrev pub decreases-loop-x : goal.decreases-loop-x
+decreases-loop-x l = length l.ink - l.x

@@ -1,0 +1,11 @@
+use borrow.Author.Rules.{rules}
+use mathlib.Core.Path.{◌∙◌}
+use Prim.Native.Nat.{◌-◌}
+use Rattle.labelling.proofs.NumberLaws.{NumberSweep, number-none, number-asks, number_more, number-stop, number-done}
+use Rattle.labelling.proofs.number.number_runs.Given as goal
+
+abbrev pub invariant-loop-k : goal.invariant-loop-k
+invariant-loop-k l = NumberSweep l.c l.capacity l.initial.parents l.parents l.k l.count
+
+abbrev pub decreases-loop-k : goal.decreases-loop-k
+decreases-loop-k l = l.c - l.k

@@ -1,0 +1,20 @@
+use mathlib.Core.Path.{◌∙◌}
+use native.Mathlib.Omega.{arith}
+use lib.ListN.{length-set}
+use Rattle.labelling.proofs.PaintLaws.{stored-first}
+use borrow.Author.Rules.{rules}
+use Rattle.labelling.proofs.paint.paint_run.Goals as goal
+
+pub slice_bounds-fill_words-end : goal.slice_bounds-fill_words-end
+slice_bounds-fill_words-end c =
+    let p = c.requires in
+    let k = c.clear_to-clear.ensures.filled.within.len in
+    simp length-set (omega arith)
+
+pub returns : goal.returns
+returns c =
+    let a = c.args in
+    let p = c.requires in
+    let k = c.clear_to-clear.ensures.filled.within.len in
+    let f = stored-first a.label a.start a.end c.clear_to-clear.new.labels c.fill_words.new.dst p.0 (omega arith) c.fill_words.ensures in
+    record { between = c.clear_to-clear.new.labels; cleared = c.clear_to-clear.ensures; filled = f }

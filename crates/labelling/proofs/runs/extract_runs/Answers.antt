@@ -1,0 +1,23 @@
+use borrow.Author.Rules.{rules}
+use native.Mathlib.Omega.{arith}
+use Prim.Native.Nat.{◌-◌}
+use Rattle.labelling.proofs.ExtractLaws.{PlaneScan, plane-none, plane-inside, plane-row, plane-more, plane-done}
+use Rattle.labelling.proofs.runs.extract_runs.Goals as goal
+
+pub loop-y-init : goal.loop-y-init
+loop-y-init c = plane-none c.requires
+
+pub overflow_add-end : goal.overflow_add-end
+overflow_add-end c = let h = plane-inside c.loop-y.invariant c.loop-y-test.true in omega (arith, c.requires.dots, c.requires.whole)
+
+pub slice_bounds-extract_row-end : goal.slice_bounds-extract_row-end
+slice_bounds-extract_row-end c = plane-inside c.loop-y.invariant c.loop-y-test.true
+
+pub extract_row-k-requires : goal.extract_row-k-requires
+extract_row-k-requires c = plane-row c.loop-y.invariant c.loop-y-test.true
+
+pub loop-y-preserved : goal.loop-y-preserved
+loop-y-preserved c = plane-more c.loop-y.invariant c.loop-y-test.true _ _ c.extract_row-k.ensures
+
+pub returns : goal.returns
+returns c = plane-done c.loop-y.invariant c.loop-y-test.false

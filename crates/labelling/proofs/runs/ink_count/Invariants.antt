@@ -1,0 +1,16 @@
+use borrow.Author.Rules.{rules}
+use native.Mathlib.Omega.{arith}
+use lib.ListN.{get_or, length}
+use lib.Dec.{eqb}
+use mathlib.Core.Path.{◌≡◌, ap, ◌∙◌}
+use Prim.Native.Nat.{◌-◌, ◌≤◌}
+use Rattle.memory.specs.rules.Lists.{count_if}
+use Rattle.memory.specs.rules.Masks.{is_ink}
+use Rattle.labelling.proofs.ExtractLaws.{ink-none, ink-more, turn_small}
+use Rattle.labelling.proofs.runs.ink_count.Given as goal
+
+abbrev pub invariant-loop-i : goal.invariant-loop-i
+invariant-loop-i l = (l.i ≤ length l.chunk) × (l.count ≤ l.i) × (l.count ≡ count_if (is_ink l.chunk) l.i)
+
+abbrev pub decreases-loop-i : goal.decreases-loop-i
+decreases-loop-i l = length l.chunk - l.i

@@ -1,0 +1,16 @@
+use borrow.Author.Rules.{rules}
+use Prim.Native.Nat.{◌-◌}
+use Rattle.labelling.proofs.RowSizeLaws.{PlaneSweep, plane-none, plane-row, plane-more, plane-long, plane-done}
+use Rattle.labelling.proofs.sizes.size_runs.Goals as goal
+
+pub loop-y-init : goal.loop-y-init
+loop-y-init c = plane-none c.requires
+
+pub size_row-reached-requires : goal.size_row-reached-requires
+size_row-reached-requires c = (_, plane-row c.loop-y.invariant c.loop-y-test.true)
+
+pub loop-y-preserved : goal.loop-y-preserved
+loop-y-preserved c = plane-more c.loop-y.invariant c.loop-y-test.true c.size_row-reached.ensures
+
+pub returns : goal.returns
+returns c = plane-done c.loop-y.invariant c.loop-y-test.false

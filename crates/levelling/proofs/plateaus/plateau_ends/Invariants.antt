@@ -1,0 +1,14 @@
+use mathlib.Core.Path.{◌≡◌, refl, subst}
+use Prim.Native.Nat.{◌+◌, ◌-◌, ◌≤◌}
+use native.Mathlib.Nat.{le_refl}
+use native.Mathlib.Omega.{arith}
+use lib.ListN.{length, length-set}
+use Rattle.levelling.specs.stages.Moves.{Plateaus}
+use Rattle.levelling.proofs.RowLaws.{plateaus-more}
+use Rattle.levelling.proofs.plateaus.plateau_ends.Given as goal
+
+abbrev pub invariant-loop-c : goal.invariant-loop-c
+invariant-loop-c l = (l.c ≤ length l.shear) × Plateaus l.shear l.ends l.c × (length l.ends ≡ length l.initial.ends)
+
+abbrev pub decreases-loop-c : goal.decreases-loop-c
+decreases-loop-c l = l.c

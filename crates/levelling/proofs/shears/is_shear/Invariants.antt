@@ -1,0 +1,17 @@
+use mathlib.Core.Path.{◌≡◌, sym, ◌∙◌}
+use Prim.Native.Nat.{ℕ, ◌+◌, ◌-◌, ◌≤◌, ◌<◌, zero-le}
+use native.Mathlib.Omega.{arith}
+use borrow.Author.Rules.{rules}
+use lib.ListN.{get_or}
+use mir.Syntax.{w64}
+use mir.Val.{to_z, of_z}
+use Rattle.memory.proofs.WordLaws.{one_more}
+use Rattle.levelling.specs.stages.Entries.{entry_of}
+use Rattle.levelling.proofs.ShearTests.{least-of, shear-same, shear-other}
+use Rattle.levelling.proofs.shears.is_shear.Given as goal
+
+abbrev pub invariant-loop-c : goal.invariant-loop-c
+invariant-loop-c l = (l.c ≤ l.n) × ((i : ℕ) → i < l.c → get_or l.words i 0 ≡ entry_of l.which l.slope l.least i)
+
+abbrev pub decreases-loop-c : goal.decreases-loop-c
+decreases-loop-c l = l.n - l.c

@@ -1,0 +1,16 @@
+use mathlib.Core.Path.{◌≡◌, refl, ap, ◌∙◌}
+use Prim.Native.Nat.{◌-◌, ◌*◌, ◌≤◌, zero-le}
+use native.Mathlib.Omega.{arith}
+use borrow.Author.Rules.{rules}
+use lib.ListN.{length, take, drop, length-take, length-drop}
+use Rattle.memory.specs.rules.Words.{over}
+use Rattle.levelling.specs.rules.Frames.{frame_of}
+use Rattle.levelling.specs.rules.Planes.{levelled}
+use Rattle.levelling.proofs.TileLaws.{Tiled, tiled-none, tiled-more, tiled-all, fits-again}
+use Rattle.levelling.proofs.tiles.level_by_tiles.Given as goal
+
+abbrev pub invariant-loop-c : goal.invariant-loop-c
+invariant-loop-c l = (l.c ≤ l.page_w) × Tiled (frame_of l.sides.page_w l.sides.page_h l.shear l.shear_x l.sides.w (length l.shear_x)) l.fill l.page l.initial.out l.out l.c × (length l.out ≡ length l.initial.out)
+
+abbrev pub decreases-loop-c : goal.decreases-loop-c
+decreases-loop-c l = l.page_w - l.c

@@ -1,0 +1,13 @@
+use borrow.Author.Tests.{lt-ltb, le-ltb}
+use Rattle.listing.specs.rules.Digits.{digit_of}
+use native.Mathlib.Omega.{arith}
+use borrow.Author.Rules.{rules}
+use Rattle.listing.proofs.digits.digit.Goals as goal
+
+pub returns-then-d-lt10 : goal.returns-then-d-lt10
+unfolding digit_of
+returns-then-d-lt10 c = (simp (lt-ltb _ _ c.if-d-lt10.true), omega arith)
+
+pub returns-else-d-lt10 : goal.returns-else-d-lt10
+unfolding digit_of
+returns-else-d-lt10 c = (simp (le-ltb _ _ c.if-d-lt10.false), omega arith)

@@ -1,0 +1,12 @@
+use mathlib.Core.Path.{◌≡◌, refl, sym, ap, ◌∙◌}
+use Prim.Native.Nat.{◌+◌, ◌-◌, ◌/◌, ◌^◌, ◌≤◌}
+use lib.ListN.{length, length-set}
+use Rattle.listing.proofs.DigitLaws.{Written, none_written, pair_step, two-quotients, hex-written, odd-digit, length-hex}
+use native.Mathlib.Omega.{arith}
+use Rattle.listing.proofs.digits.put_hex.Given as goal
+
+abbrev pub invariant-loop-done : goal.invariant-loop-done
+invariant-loop-done l = (l.done ≤ l.digits) × (l.v ≡ l.value / 16 ^ l.done) × Written l.initial.out l.at l.digits l.done l.value l.out × (length l.out ≡ length l.initial.out)
+
+abbrev pub decreases-loop-done : goal.decreases-loop-done
+decreases-loop-done l = l.digits - l.done

@@ -1,0 +1,12 @@
+use mathlib.Core.Path.{◌≡◌, ap, ◌∙◌}
+use Prim.Native.Nat.{◌+◌, ◌-◌, ◌*◌, ◌≤◌}
+use native.Mathlib.Omega.{arith}
+use Rattle.listing.specs.rules.Sheets.{field_count}
+use Rattle.listing.proofs.EntryLaws.{fields-few, digits-few, digits_to, digits-none, digits_more, digits-all}
+use Rattle.listing.proofs.formats.entry_length.Given as goal
+
+abbrev pub invariant-loop-j : goal.invariant-loop-j
+invariant-loop-j l = (l.n ≡ field_count l.kind) × (l.j ≤ l.n) × (l.bytes ≡ 3 + digits_to l.kind l.j) × (l.bytes ≤ 3 + 8 * l.j)
+
+abbrev pub decreases-loop-j : goal.decreases-loop-j
+decreases-loop-j l = l.n - l.j

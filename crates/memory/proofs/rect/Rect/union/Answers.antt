@@ -1,0 +1,5 @@
+use borrow.Author.Rules.{rules}
+use Rattle.memory.proofs.rect.Rect.union.Goals as goal
+
+pub returns : goal.returns
+returns c = cc

@@ -1,0 +1,21 @@
+use mathlib.Core.Path.{◌≡◌, refl, sym, ap, ◌∙◌}
+use mathlib.Core.List.{List, ◌++◌}
+use Prim.Native.Nat.{ℕ, ◌+◌, ◌-◌, ◌≤◌, ◌<◌, zero-le}
+use native.Mathlib.Omega.{arith}
+use lib.ListN.{length, get_or, take, drop, set, length-set}
+use lib.Seq.{take_all, drop-length}
+use Rattle.memory.proofs.CopyLaws.{copy_step}
+use Rattle.memory.proofs.words.copy_words.Goals as goal
+
+pub loop-i-init : goal.loop-i-init
+loop-i-init c = (zero-le, refl, refl)
+
+pub loop-i-preserved : goal.loop-i-preserved
+loop-i-preserved c = let s = c.args.src.now in
+    let d = c.args.dst.now in
+    (omega arith, rw c.loop-i.invariant.1 (copy_step s d c.loop-i.i (omega arith) (omega arith)), simp length-set c.loop-i.invariant.2)
+
+pub returns : goal.returns
+returns c = let s = c.args.src.now in
+    let e : c.loop-i.i ≡ length s = omega arith in
+    c.loop-i.invariant.1 ∙ rw (e, take_all (length s) s (omega arith))

@@ -1,0 +1,8 @@
+use Rattle.novlizeb.proofs.AnswerLaws.{told-number}
+use borrow.Author.Rules.{rules}
+use Rattle.novlizeb.proofs.frames.novlizeb_read_frame.Goals as goal
+
+-- `novlizeb::frames::novlizeb_read_frame` meets its contract: the entry's promise. Assumes nothing.
+
+pub returns : goal.returns
+returns c = told-number _ _ _ _ c.number_of.ensures c.read_frame.ensures

@@ -1,0 +1,16 @@
+use mathlib.Core.Bool.{true≢false}
+use Prim.Native.Nat.{◌+◌, ◌-◌, ◌<◌, ◌≤◌, ℕ}
+use native.Mathlib.Omega.{arith}
+use Rattle.extents.specs.rules.Extents.{run_through}
+use Rattle.extents.specs.stages.Scans.{Starts}
+use Rattle.rulings.specs.stages.Sweeps.{widened_scanline}
+use Rattle.extents.proofs.RunLaws.{starts-zero}
+use Rattle.rulings.proofs.SweepLaws.{back-starts}
+use Rattle.rulings.proofs.ColumnLaws.{short-all, short-to}
+use Rattle.rulings.proofs.columns.has_long_run.Given as goal
+
+abbrev pub invariant-loop-x : goal.invariant-loop-x
+invariant-loop-x l = (l.x ≤ l.g.inner) × (Starts (widened_scanline l.g l.ink l.o) l.x) × ((i : ℕ) → i < l.x → run_through (widened_scanline l.g l.ink l.o) l.g.inner i < l.run_min)
+
+abbrev pub decreases-loop-x : goal.decreases-loop-x
+decreases-loop-x l = l.g.inner - l.x

@@ -1,0 +1,33 @@
+use mathlib.Core.Bool.{false}
+use Rattle.rulings.proofs.SweepLaws.{still_both}
+use mathlib.Core.Path.{◌≡◌, refl, subst}
+use Prim.Native.Nat.{◌-◌, ◌≤◌}
+use native.Mathlib.Omega.{arith}
+use lib.ListN.{drop, length}
+use Rattle.rulings.specs.stages.Sweeps.{Risen}
+use Rattle.rulings.proofs.ColumnLaws.{risen-all, risen-scanlines, risen-short, risen-small}
+use Rattle.rulings.proofs.columns.mark_columns.Goals as goal
+
+pub loop-a-init : goal.loop-a-init
+loop-a-init c = let a = c.args in (omega arith, risen-short a.t.sweep a.ink.now a.t.run_min a.t.thick_max 0 0 (drop a.t.marks a.words.now) (λ o i x y z. absurd (omega arith)), refl, λ e. refl)
+
+pub mark_strips-walk-requires : goal.mark_strips-walk-requires
+mark_strips-walk-requires c =
+    let a = c.args in
+    let p = c.requires in
+    (p.0, p.1, omega arith, p.2, risen-small a.t.sweep a.ink.now a.t.run_min a.t.thick_max 0 c.loop-a.a 0 a.t.sweep.inner 2 (drop a.t.marks a.words.now) (drop a.t.marks c.loop-a.words) c.loop-a.invariant.1 p.3, p.4, omega (arith, c.loop-a.invariant.2, p.5))
+
+pub loop-a-smaller : goal.loop-a-smaller
+loop-a-smaller c = let e = c.mark_strips-walk.ensures in omega (arith, e.0, e.1)
+
+pub loop-a-preserved : goal.loop-a-preserved
+loop-a-preserved c =
+    let a = c.args in
+    let e = c.mark_strips-walk.ensures in
+    (e.1, risen-scanlines a.t.sweep a.ink.now a.t.run_min a.t.thick_max 0 c.loop-a.a c.mark_strips-walk.result.to 0 a.t.sweep.inner (drop a.t.marks a.words.now) (drop a.t.marks c.loop-a.words) _ (omega arith) (omega arith) c.loop-a.invariant.1 e.2, omega arith, still_both c.loop-a.found c.mark_strips-walk.result.found _ (drop a.t.marks c.loop-a.words) _ c.loop-a.invariant.3 e.3)
+
+pub returns : goal.returns
+returns c =
+    let a = c.args in
+    let e : c.loop-a.a ≡ a.t.sweep.outer = omega arith in
+    (risen-all a.t.sweep a.ink.now a.t.run_min a.t.thick_max (drop a.t.marks a.words.now) (drop a.t.marks c.loop-a.words) (subst (λ k. Risen a.t.sweep a.ink.now a.t.run_min a.t.thick_max 0 k 0 a.t.sweep.inner (drop a.t.marks a.words.now) (drop a.t.marks c.loop-a.words)) e c.loop-a.invariant.1), c.loop-a.invariant.3)

@@ -1,0 +1,16 @@
+use mathlib.Core.Bool.{false}
+use Rattle.rulings.proofs.SweepLaws.{still_both}
+use mathlib.Core.Path.{◌∙◌, ◌≡◌, refl, subst}
+use Prim.Native.Nat.{◌+◌, ◌-◌, ◌≤◌}
+use native.Mathlib.Nat.{le_refl}
+use native.Mathlib.Omega.{arith}
+use lib.ListN.{drop, length, take}
+use Rattle.rulings.specs.stages.Sweeps.{Risen}
+use Rattle.rulings.proofs.ColumnLaws.{counted-kept, risen-scanlines, risen-small, risen-still}
+use Rattle.rulings.proofs.columns.mark_reached.Given as goal
+
+abbrev pub invariant-loop-o : goal.invariant-loop-o
+invariant-loop-o l = (l.a ≤ l.o) × (l.o ≤ l.b) × (Risen l.t.sweep l.ink l.t.run_min l.t.thick_max l.a l.o l.y (l.y + 1) (drop l.t.marks l.initial.words) (drop l.t.marks l.words)) × (take l.t.marks l.words ≡ take l.t.marks l.initial.words) × (length l.words ≡ length l.initial.words) × (l.found ≡ false → drop l.t.marks l.words ≡ drop l.t.marks l.initial.words)
+
+abbrev pub decreases-loop-o : goal.decreases-loop-o
+decreases-loop-o l = l.b - l.o

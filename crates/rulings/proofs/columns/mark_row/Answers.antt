@@ -1,0 +1,44 @@
+use mathlib.Core.Path.{◌∙◌, ◌≡◌, subst, sym}
+use Prim.Native.Nat.{◌+◌}
+use native.Mathlib.Omega.{arith}
+use lib.ListN.{drop, length}
+use Rattle.rulings.specs.stages.Sweeps.{Risen, UpTo}
+use Rattle.memory.proofs.StoredLaws.{within-drop}
+use Rattle.rulings.proofs.ColumnLaws.{counted-kept, recounted-counted, risen-still}
+use borrow.Author.Rules.{rules}
+use Rattle.rulings.proofs.columns.mark_row.Goals as goal
+
+pub mark_reached-requires : goal.mark_reached-requires
+mark_reached-requires c =
+    let a = c.args in
+    let p = c.requires in
+    let t = c.count_row.new.words in
+    let R = c.count_row.ensures in
+    let D : drop a.t.marks t ≡ drop a.t.marks a.words.now = within-drop {a = a.a} {e = a.b} (record { len = c.words-1.given; before = R.below; past = R.above }) a.t.marks (omega arith) in
+    (p.0, p.2, p.3, p.4, p.5, subst (λ r. UpTo a.t.sweep (length a.ink.now) r 6) (sym D) p.6, recounted-counted a.t.sweep a.ink.now a.a a.b a.y a.words.now t R, p.8, omega (arith, c.words-1.given, p.9))
+
+pub returns-then-any_reached : goal.returns-then-any_reached
+returns-then-any_reached c =
+    let a = c.args in
+    let p = c.requires in
+    let t = c.count_row.new.words in
+    let R = c.count_row.ensures in
+    let D : drop a.t.marks t ≡ drop a.t.marks a.words.now = within-drop {a = a.a} {e = a.b} (record { len = c.words-1.given; before = R.below; past = R.above }) a.t.marks (omega arith) in
+    let M = c.mark_reached.ensures in (
+      subst (λ r. Risen a.t.sweep a.ink.now a.t.run_min a.t.thick_max a.a a.b a.y (a.y + 1) r (drop a.t.marks c.mark_reached.new.words)) D M.0,
+      counted-kept a.t.sweep a.ink.now a.a a.b (a.y + 1) a.t.marks t c.mark_reached.new.words (omega arith) M.1 (recounted-counted a.t.sweep a.ink.now a.a a.b a.y a.words.now t R),
+      λ e. M.2 e ∙ D,
+    )
+
+pub returns : goal.returns
+returns c =
+    let a = c.args in
+    let p = c.requires in
+    let t = c.count_row.new.words in
+    let R = c.count_row.ensures in
+    let D : drop a.t.marks t ≡ drop a.t.marks a.words.now = within-drop {a = a.a} {e = a.b} (record { len = c.words-1.given; before = R.below; past = R.above }) a.t.marks (omega arith) in (
+      subst (λ r. Risen a.t.sweep a.ink.now a.t.run_min a.t.thick_max a.a a.b a.y (a.y + 1) (drop a.t.marks a.words.now) r) (sym D)
+          (risen-still a.t.sweep a.ink.now a.t.run_min a.t.thick_max a.a a.b a.y (drop a.t.marks a.words.now) (λ o h k. let x = R.inside o h k in let z = c.any_reached.ensures c.if-any_reached.false o h k in omega arith)),
+      recounted-counted a.t.sweep a.ink.now a.a a.b a.y a.words.now t R,
+      λ e. D,
+    )

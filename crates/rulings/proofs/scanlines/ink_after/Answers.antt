@@ -1,0 +1,40 @@
+use mathlib.Core.Path.{◌≡◌}
+use Prim.Native.Nat.{◌+◌, ◌-◌, ◌≤◌}
+use native.Mathlib.Omega.{arith}
+use Rattle.extents.specs.rules.Extents.{ahead}
+use Rattle.rulings.specs.stages.Sweeps.{plane_of}
+use Rattle.rulings.proofs.SweepLaws.{test-off, test_on}
+use Rattle.rulings.proofs.ColumnLaws.{ahead-blank, ahead-ended, ahead_step}
+use Rattle.rulings.proofs.scanlines.ink_after.Goals as goal
+
+pub loop-n-init : goal.loop-n-init
+loop-n-init c =
+    let a = c.args in
+    let z : a.o + 0 ≡ a.o = omega arith in
+    let y : a.g.outer - a.o - 0 ≡ a.g.outer - a.o = omega arith in
+    let e : ahead (plane_of a.g a.ink.now a.i) (a.o + 0) (a.g.outer - a.o - 0) ≡ ahead (plane_of a.g a.ink.now a.i) a.o (a.g.outer - a.o) = (λ k. ahead (plane_of a.g a.ink.now a.i) (z k) (y k)) in
+    (omega arith, omega arith)
+
+pub overflow_add-o : goal.overflow_add-o
+overflow_add-o c = let e = c.min_usize-end.ensures in let n = c.requires.0.low in omega arith
+
+pub is_ink-requires : goal.is_ink-requires
+is_ink-requires c = let p = c.requires in let e = c.min_usize-end.ensures in (p.0, p.1, omega arith)
+
+pub returns-then-not-is_ink : goal.returns-then-not-is_ink
+returns-then-not-is_ink c =
+    let a = c.args in
+    let e = c.min_usize-end.ensures in
+    ahead-blank (plane_of a.g a.ink.now a.i) a.o (a.g.outer - a.o) c.loop-n.n a.most (omega arith) (test-off _ _ c.is_ink.ensures c.if-not-is_ink.true) c.loop-n.invariant.1
+
+pub loop-n-preserved : goal.loop-n-preserved
+loop-n-preserved c =
+    let a = c.args in
+    let e = c.min_usize-end.ensures in
+    (omega arith, ahead_step (plane_of a.g a.ink.now a.i) a.o (a.g.outer - a.o) c.loop-n.n (omega arith) (test_on _ _ c.is_ink.ensures c.if-not-is_ink.false) c.loop-n.invariant.1)
+
+pub returns : goal.returns
+returns c =
+    let a = c.args in
+    let e = c.min_usize-end.ensures in
+    ahead-ended (plane_of a.g a.ink.now a.i) a.o (a.g.outer - a.o) c.loop-n.n a.most (omega arith) (omega arith) (λ x y. absurd (omega arith)) c.loop-n.invariant.1

@@ -1,0 +1,14 @@
+use mathlib.Core.Path.{◌≡◌, ap}
+use Prim.Native.Nat.{◌+◌, ◌-◌, ◌≤◌}
+use native.Mathlib.Omega.{arith}
+use Rattle.extents.specs.rules.Extents.{behind}
+use Rattle.rulings.specs.stages.Sweeps.{plane_of}
+use Rattle.rulings.proofs.SweepLaws.{test-off, test_on}
+use Rattle.rulings.proofs.ColumnLaws.{behind-blank, behind-ended, behind-step}
+use Rattle.rulings.proofs.scanlines.ink_before.Given as goal
+
+abbrev pub invariant-loop-n : goal.invariant-loop-n
+invariant-loop-n l = (l.n ≤ l.end) × (behind (plane_of l.g l.ink l.i) l.o ≡ l.n + behind (plane_of l.g l.ink l.i) (l.o - l.n))
+
+abbrev pub decreases-loop-n : goal.decreases-loop-n
+decreases-loop-n l = l.end - l.n

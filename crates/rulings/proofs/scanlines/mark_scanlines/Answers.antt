@@ -1,0 +1,59 @@
+use mathlib.Core.Bool.{false}
+use native.Mathlib.Omega.{arith}
+use mathlib.Core.Path.{◌≡◌, refl, subst, ◌∙◌}
+use Prim.Native.Nat.{◌+◌, ◌*◌, ◌-◌, ◌≤◌}
+use borrow.Rule.Slice.PartMut.{put_mid}
+use lib.ListN.{length, take, drop}
+use lib.Seq.{get_or-take, length-take-le}
+use Rattle.rulings.specs.stages.Sweeps.{is_ruling, Marked, Cached}
+use Rattle.memory.proofs.StoredLaws.{within-drop, stored_at, stored-filled}
+use Rattle.rulings.proofs.SweepLaws.{still_both, marked-none, unmarked-later, cached-none, cached-later, scanlines-loop}
+use Rattle.rulings.proofs.scanlines.mark_scanlines.Goals as goal
+
+pub loop-o-init : goal.loop-o-init
+loop-o-init c =
+    let a = c.args in
+    let f = stored-filled 0 0 a.t.sweep.inner a.words.now c.fill_words.new.dst (omega arith) (omega arith) c.fill_words.ensures in
+    let r : a.t.sweep.inner + a.t.sweep.inner ≤ a.t.marks = c.requires.3 in
+    let z : a.t.marks ≤ length a.words.now = c.requires.4 in (
+      omega arith,
+      marked-none a.t.sweep (length a.ink.now) (is_ruling a.t.sweep a.ink.now a.t.run_min a.t.thick_max) 1 _ _ _ (λ i j li lj x y. absurd (omega arith)),
+      cached-none a.t.sweep a.ink.now a.t.thick_max (take a.t.marks (put_mid 0 (a.t.sweep.inner - 0) a.words.now c.fill_words.new.dst)) (omega (arith, length-take-le a.t.marks (put_mid 0 (a.t.sweep.inner - 0) a.words.now c.fill_words.new.dst) (omega (arith, f.within.len)))) (λ i l. get_or-take a.t.marks (put_mid 0 (a.t.sweep.inner - 0) a.words.now c.fill_words.new.dst) i 0 (omega arith) ∙ stored_at f i (omega arith) (omega arith)),
+      refl,
+      λ e. refl,
+    )
+
+pub mark_scanline-here-requires : goal.mark_scanline-here-requires
+mark_scanline-here-requires c =
+    let p = c.requires in
+    let a = c.args in
+    let f = stored-filled 0 0 a.t.sweep.inner a.words.now c.fill_words.new.dst (omega arith) (omega arith) c.fill_words.ensures in
+    (
+      p.0,
+      omega arith,
+      p.1,
+      unmarked-later a.t.sweep (length a.ink.now) (is_ruling a.t.sweep a.ink.now a.t.run_min a.t.thick_max) 1 (drop a.t.marks a.words.now) (drop a.t.marks c.loop-o.words) 0 (c.loop-o.o * a.t.sweep.inner) (omega arith)
+          (subst (λ s. Marked a.t.sweep (length a.ink.now) (is_ruling a.t.sweep a.ink.now a.t.run_min a.t.thick_max) 1 s (drop a.t.marks c.loop-o.words) 0 (c.loop-o.o * a.t.sweep.inner)) (within-drop f.within a.t.marks (omega arith)) c.loop-o.invariant.1) p.2,
+      c.loop-o.invariant.2,
+      omega (arith, c.loop-o.invariant.3, f.within.len, p.4),
+    )
+
+pub loop-o-preserved : goal.loop-o-preserved
+loop-o-preserved c =
+    let a = c.args in
+    (
+      omega arith,
+      scanlines-loop a.t.sweep (length a.ink.now) (is_ruling a.t.sweep a.ink.now a.t.run_min a.t.thick_max) 1 c.loop-o.o _ (drop a.t.marks c.loop-o.words) _ c.loop-o.invariant.1 c.mark_scanline-here.ensures.0,
+      cached-later a.t.sweep a.ink.now a.t.thick_max c.loop-o.o (c.loop-o.o + 1) _ (omega arith) c.mark_scanline-here.ensures.1,
+      omega arith,
+      still_both c.loop-o.found c.mark_scanline-here.result _ (drop a.t.marks c.loop-o.words) _ c.loop-o.invariant.4 c.mark_scanline-here.ensures.2,
+    )
+
+pub returns : goal.returns
+returns c =
+    let a = c.args in
+    let e : c.loop-o.o ≡ a.t.sweep.outer = omega arith in
+    let f = stored-filled 0 0 a.t.sweep.inner a.words.now c.fill_words.new.dst (omega arith) (omega arith) c.fill_words.ensures in
+    let M = subst (λ k. Marked a.t.sweep (length a.ink.now) (is_ruling a.t.sweep a.ink.now a.t.run_min a.t.thick_max) 1 (drop a.t.marks (put_mid 0 (a.t.sweep.inner - 0) a.words.now c.fill_words.new.dst)) (drop a.t.marks c.loop-o.words) 0 (k * a.t.sweep.inner)) e c.loop-o.invariant.1 in
+    let D = (within-drop f.within a.t.marks (omega arith)) in
+    (subst (λ s. Marked a.t.sweep (length a.ink.now) (is_ruling a.t.sweep a.ink.now a.t.run_min a.t.thick_max) 1 s (drop a.t.marks c.loop-o.words) 0 (a.t.sweep.outer * a.t.sweep.inner)) D M, λ e. c.loop-o.invariant.4 e ∙ D)

@@ -1,0 +1,15 @@
+use native.Mathlib.Omega.{arith}
+use mathlib.Core.Path.{◌≡◌}
+use mathlib.Core.Bool.{true}
+use Prim.Native.Nat.{ℕ, ◌≤◌, ◌<◌, ◌-◌}
+use native.Mathlib.Nat.{le_refl}
+use Rattle.rulings.specs.stages.Sweeps.{widened_scanline}
+use Rattle.extents.proofs.ExtentLaws.{scan-none}
+use Rattle.rulings.proofs.SweepLaws.{back_more, back-stop, test-off, test_on}
+use Rattle.rulings.proofs.scanlines.run_start.Given as goal
+
+abbrev pub invariant-loop-s : goal.invariant-loop-s
+invariant-loop-s l = (l.from ≤ l.s) × (l.s ≤ l.to) × ((k : ℕ) → l.s ≤ k → k < l.to → widened_scanline l.g l.ink l.o k ≡ true)
+
+abbrev pub decreases-loop-s : goal.decreases-loop-s
+decreases-loop-s l = l.s

@@ -1,0 +1,41 @@
+use lib.ListN.{length}
+use Rattle.scripts.proofs.ScriptLaws.{part-long, segment-called}
+use borrow.Author.Rules.{rules}
+use Rattle.scripts.proofs.playing.segment_call.Goals as goal
+
+-- `scripts::playing::segment_call` meets its contract. Assumes nothing.
+
+pub cut-n-requires : goal.cut-n-requires
+cut-n-requires c = tt
+
+pub cut-m-requires : goal.cut-m-requires
+cut-m-requires c = tt
+
+pub cut-k-requires : goal.cut-k-requires
+cut-k-requires c = tt
+
+pub cut-x-requires : goal.cut-x-requires
+cut-x-requires c = tt
+
+pub sheet_of-sheet-requires : goal.sheet_of-sheet-requires
+sheet_of-sheet-requires c = tt
+
+pub slice_bounds-segment-end-2 : goal.slice_bounds-segment-end-2
+slice_bounds-segment-end-2 c = part-long _ _ c.args.store.now c.cut-n.ensures
+
+pub slice_bounds-segment-end-3 : goal.slice_bounds-segment-end-3
+slice_bounds-segment-end-3 c = part-long _ _ c.args.ink.now c.cut-m.ensures
+
+pub slice_bounds-segment-end-5 : goal.slice_bounds-segment-end-5
+slice_bounds-segment-end-5 c = part-long _ _ c.args.kinds.now c.cut-k.ensures
+
+pub slice_bounds-segment-end-7 : goal.slice_bounds-segment-end-7
+slice_bounds-segment-end-7 c = part-long _ _ c.args.scratch.now c.cut-x.ensures
+
+pub segment-requires : goal.segment-requires
+segment-requires c = tt
+
+pub returns : goal.returns
+returns c =
+    let a = c.args in
+    segment-called a.call.now a.floats.now a.store.now a.ink.now a.kinds.now (length a.scratch.now) c.cut-n.ensures c.cut-m.ensures c.cut-k.ensures c.cut-x.ensures c.sheet_of-sheet.ensures (part-long _ _ a.scratch.now c.cut-x.ensures) c.segment.ensures.0 c.segment.auto.store c.segment.auto.kinds

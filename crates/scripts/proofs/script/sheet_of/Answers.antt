@@ -1,0 +1,96 @@
+use mathlib.Core.Path.{◌≡◌, ap, ◌∙◌}
+use Prim.Native.Nat.{ℕ, ◌+◌}
+use native.Mathlib.Omega.{arith}
+use Rattle.memory.specs.rules.Words.{word_at}
+use Rattle.scripts.specs.rules.Scripts.{sheet_at, number_at, sheet_from}
+use borrow.Author.Rules.{rules}
+use Rattle.scripts.proofs.script.sheet_of.Goals as goal
+
+-- `scripts::script::sheet_of` meets its contract. Assumes nothing.
+
+pub word_at-at-requires : goal.word_at-at-requires
+word_at-at-requires c = tt
+
+pub word_at-requires : goal.word_at-requires
+word_at-requires c = tt
+
+pub float_at-requires : goal.float_at-requires
+float_at-requires c = tt
+
+pub word_at-requires-2 : goal.word_at-requires-2
+word_at-requires-2 c = tt
+
+pub float_at-requires-2 : goal.float_at-requires-2
+float_at-requires-2 c = tt
+
+pub float_at-requires-3 : goal.float_at-requires-3
+float_at-requires-3 c = tt
+
+pub float_at-requires-4 : goal.float_at-requires-4
+float_at-requires-4 c = tt
+
+pub float_at-requires-5 : goal.float_at-requires-5
+float_at-requires-5 c = tt
+
+pub float_at-requires-6 : goal.float_at-requires-6
+float_at-requires-6 c = tt
+
+pub float_at-requires-7 : goal.float_at-requires-7
+float_at-requires-7 c = tt
+
+pub word_at-requires-3 : goal.word_at-requires-3
+word_at-requires-3 c = tt
+
+pub float_at-requires-8 : goal.float_at-requires-8
+float_at-requires-8 c = tt
+
+pub float_at-requires-9 : goal.float_at-requires-9
+float_at-requires-9 c = tt
+
+pub float_at-requires-10 : goal.float_at-requires-10
+float_at-requires-10 c = tt
+
+pub float_at-requires-11 : goal.float_at-requires-11
+float_at-requires-11 c = tt
+
+pub float_at-requires-12 : goal.float_at-requires-12
+float_at-requires-12 c = tt
+
+pub float_at-requires-13 : goal.float_at-requires-13
+float_at-requires-13 c = tt
+
+pub float_at-requires-14 : goal.float_at-requires-14
+float_at-requires-14 c = tt
+
+pub overflow_add-at-14 : goal.overflow_add-at-14
+overflow_add-at-14 c = omega (arith, c.word_at-at.type_inv)
+
+pub float_at-requires-15 : goal.float_at-requires-15
+float_at-requires-15 c = tt
+
+pub returns : goal.returns
+unfolding sheet_from
+returns c =
+    let fs = c.args.floats.now in
+    let e : c.word_at-at.result ≡ word_at c.args.call.now sheet_at = c.word_at-at.ensures in
+    let place : (j : ℕ) → number_at fs (c.word_at-at.result + j) ≡ number_at fs (word_at c.args.call.now sheet_at + j) = λ j. ap (λ (k : ℕ). number_at fs (k + j)) e in
+    λ i. record {
+      glyph_min_area = c.word_at.ensures i;
+      glyph_max_extent_frac = (c.float_at.ensures ∙ ap (number_at fs) e) i;
+      xheight_min_area = c.word_at-2.ensures i;
+      xheight_fallback_px = (c.float_at-2.ensures ∙ place 1) i;
+      rule_min_len_xh = (c.float_at-3.ensures ∙ place 2) i;
+      rule_max_thick_xh = (c.float_at-4.ensures ∙ place 3) i;
+      rule_run_xh = (c.float_at-5.ensures ∙ place 4) i;
+      graphic_min_xh = (c.float_at-6.ensures ∙ place 5) i;
+      smear_xh = (c.float_at-7.ensures ∙ place 6) i;
+      line_min_glyphs = c.word_at-3.ensures i;
+      line_min_height_xh = (c.float_at-8.ensures ∙ place 7) i;
+      line_max_height_xh = (c.float_at-9.ensures ∙ place 8) i;
+      block_min_overlap = (c.float_at-10.ensures ∙ place 9) i;
+      block_gap_margin_lines = (c.float_at-11.ensures ∙ place 10) i;
+      block_max_gap_lines = (c.float_at-12.ensures ∙ place 11) i;
+      column_gap_xh = (c.float_at-13.ensures ∙ place 12) i;
+      column_cover_frac = (c.float_at-14.ensures ∙ place 13) i;
+      shear_min_deg = (c.float_at-15.ensures ∙ place 14) i;
+    }

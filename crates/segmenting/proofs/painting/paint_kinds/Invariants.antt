@@ -1,0 +1,12 @@
+use Prim.Native.Nat.{◌-◌}
+use native.Mathlib.Omega.{arith}
+use borrow.Author.Rules.{rules}
+use lib.ListN.{length}
+use Rattle.segmenting.proofs.PaintingLaws.{part-long, KindSweep, kinds-none, kinds-ask, kinds-more, kinds-last, kinds-done, kinds-length}
+use Rattle.segmenting.proofs.painting.paint_kinds.Given as goal
+
+abbrev pub invariant-loop-k : goal.invariant-loop-k
+invariant-loop-k l = KindSweep l.ink l.words l.runs l.kinds l.initial.out l.out l.done l.k
+
+abbrev pub decreases-loop-k : goal.decreases-loop-k
+decreases-loop-k l = l.runs - l.k

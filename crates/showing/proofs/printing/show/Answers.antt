@@ -1,0 +1,44 @@
+use mathlib.Core.Path.{sym, ◌∙◌}
+use Prim.Native.Nat.{◌*◌}
+use lib.Seq.{length-take-le}
+use native.Mathlib.Omega.{arith}
+use borrow.Author.Rules.{rules}
+use Rattle.showing.proofs.PrintLaws.{says, none-shown, sides-small, dots-small, page-shown}
+use Rattle.showing.proofs.printing.show.Goals as goal
+
+pub overflow_mul-dots : goal.overflow_mul-dots
+overflow_mul-dots c =
+    let s = c.args.input.now in
+    let d = dots-small s _ _ _ _ (says s _ _ _ _ (sym c.parse_page.ensures.0 ∙ c.in-Page.is)) in
+    omega arith
+
+pub slice_bounds-mask-end : goal.slice_bounds-mask-end
+slice_bounds-mask-end c =
+    let s = c.args.input.now in
+    let d = dots-small s _ _ _ _ (says s _ _ _ _ (sym c.parse_page.ensures.0 ∙ c.in-Page.is)) in
+    let l = c.parse_page.auto.mask in
+    omega arith
+
+pub slice_bounds-show_page-end : goal.slice_bounds-show_page-end
+slice_bounds-show_page-end c =
+    let s = c.args.input.now in
+    let d = dots-small s _ _ _ _ (says s _ _ _ _ (sym c.parse_page.ensures.0 ∙ c.in-Page.is)) in
+    let l = c.parse_page.auto.mask in
+    sym (length-take-le (c.width-1.given.0.0 * c.width-1.given.0.1.0) c.parse_page.new.mask (omega arith))
+
+pub show_page-requires : goal.show_page-requires
+show_page-requires c =
+    let s = c.args.input.now in
+    sides-small s _ _ _ _ (says s _ _ _ _ (sym c.parse_page.ensures.0 ∙ c.in-Page.is))
+
+pub returns-in-Malformed : goal.returns-in-Malformed
+returns-in-Malformed c =
+    let a = c.args in
+    none-shown a.input.now a.out.now (sym c.parse_page.ensures.0 ∙ c.in-Malformed.is) _ c.tell_refusal.ensures
+
+pub returns-in-Page : goal.returns-in-Page
+returns-in-Page c =
+    let a = c.args in
+    let s = a.input.now in
+    page-shown s _ _ _ _ (says s _ _ _ _ (sym c.parse_page.ensures.0 ∙ c.in-Page.is)) c.parse_page.new.mask _ a.out.now c.parse_page.ensures.1 _
+    c.show_page.ensures

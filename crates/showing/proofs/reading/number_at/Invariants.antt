@@ -1,0 +1,12 @@
+use mathlib.Core.Path.{◌≡◌, refl, ap, ◌∙◌}
+use Prim.Native.Nat.{◌-◌, ◌≤◌, ◌<◌, ◌^◌}
+use Rattle.showing.specs.rules.Inputs.{number_at}
+use Rattle.showing.proofs.ReadLaws.{number_more, power-more, power_small}
+use native.Mathlib.Omega.{arith}
+use Rattle.showing.proofs.reading.number_at.Given as goal
+
+abbrev pub invariant-loop-i : goal.invariant-loop-i
+invariant-loop-i l = (l.i ≤ l.n) × (l.v ≡ number_at l.s l.at l.i) × (l.v < 16 ^ l.i)
+
+abbrev pub decreases-loop-i : goal.decreases-loop-i
+decreases-loop-i l = l.n - l.i

@@ -1,0 +1,14 @@
+use Prim.Native.Nat.{◌-◌, ◌≤◌, zero-le}
+use mathlib.Core.Path.{◌≡◌, ◌∙◌}
+use native.Mathlib.Omega.{arith}
+use borrow.Author.Rules.{rules}
+use Rattle.memory.specs.stages.Stored.{Stored}
+use Rattle.memory.proofs.StoredLaws.{stored-fill, stored-again}
+use Rattle.smoothing.proofs.LabelCounts.{label_count, labels-none, count_room, counts_all, label-room, label-step}
+use Rattle.smoothing.proofs.glyphs.count_glyphs.Given as goal
+
+abbrev pub invariant-loop-k : goal.invariant-loop-k
+invariant-loop-k l = (l.k ≤ l.count) × Stored (label_count l.initial.words l.kinds l.k) l.glyphs l.smears l.initial.words l.words
+
+abbrev pub decreases-loop-k : goal.decreases-loop-k
+decreases-loop-k l = l.count - l.k

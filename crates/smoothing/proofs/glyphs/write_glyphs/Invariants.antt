@@ -1,0 +1,14 @@
+use Prim.Native.Nat.{◌-◌, ◌≤◌, zero-le}
+use mathlib.Core.Path.{◌≡◌, refl, ◌∙◌}
+use native.Mathlib.Omega.{arith}
+use borrow.Author.Rules.{rules}
+use lib.ListN.{length}
+use Rattle.smoothing.specs.stages.LineWords.{WrittenGlyphs}
+use Rattle.smoothing.proofs.GlyphLaws.{glyphs-none, glyphs-few, glyphs-more, glyphs-all}
+use Rattle.smoothing.proofs.glyphs.write_glyphs.Given as goal
+
+abbrev pub invariant-loop-k : goal.invariant-loop-k
+invariant-loop-k l = (l.k ≤ l.count) × (length l.out ≡ length l.initial.out) × WrittenGlyphs l.sizes l.kinds l.k l.numbers l.words l.initial.out l.out l.n
+
+abbrev pub decreases-loop-k : goal.decreases-loop-k
+decreases-loop-k l = l.count - l.k

@@ -1,0 +1,13 @@
+use borrow.Author.Rules.{rules}
+use borrow.Author.Count.{below_more}
+use native.Mathlib.Nat.{le_refl}
+use Prim.Native.Nat.{ℕ, ◌-◌, ◌*◌, ◌≤◌, ◌<◌}
+use native.Mathlib.Omega.{arith}
+use lib.ListN.{get_or}
+use Rattle.smoothing.proofs.smooth.row_end.Given as goal
+
+abbrev pub invariant-loop-end : goal.invariant-loop-end
+invariant-loop-end l = (l.first ≤ l.end) × (l.end ≤ l.c) × ((j : ℕ) → j < l.end → l.first ≤ j → get_or l.words (2 * j) 0 < l.limit)
+
+abbrev pub decreases-loop-end : goal.decreases-loop-end
+decreases-loop-end l = l.c - l.end

@@ -1,0 +1,16 @@
+use native.Mathlib.Omega.{arith}
+use Prim.Native.Nat.{◌+◌, ◌-◌, ◌*◌, ◌≤◌, zero-le}
+use mathlib.Core.Path.{◌≡◌, refl, ap, ◌∙◌}
+use Rattle.labelling.specs.declared.component.Component.{Component}
+use lib.ListN.{length-set}
+use Rattle.memory.specs.stages.Stored.{Stored}
+use Rattle.sorting.specs.stages.Measures.{box_word}
+use Rattle.memory.proofs.StoredLaws.{stored-none, stored_more, stored-count}
+use Rattle.sorting.proofs.SizedLaws.{sized_past, box-word-first, box-word-second}
+use Rattle.sorting.proofs.measure.pack_boxes.Given as goal
+
+abbrev pub invariant-loop-k : goal.invariant-loop-k
+invariant-loop-k l = (l.k ≤ l.count) × (Stored (box_word l.initial.words l.sizes) l.to (2 * l.k) l.initial.words l.words)
+
+abbrev pub decreases-loop-k : goal.decreases-loop-k
+decreases-loop-k l = l.count - l.k

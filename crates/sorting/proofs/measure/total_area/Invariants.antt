@@ -1,0 +1,13 @@
+use native.Mathlib.Omega.{arith}
+use Prim.Native.Nat.{ℕ, ◌-◌, ◌≤◌, zero-le}
+use mathlib.Core.Path.{◌≡◌, ap, ◌∙◌}
+use Rattle.memory.specs.rules.Lists.{table, total}
+use Rattle.sorting.specs.stages.Measures.{sized_at}
+use Rattle.sorting.proofs.AreaLaws.{areas-none, areas-more, areas-fit}
+use Rattle.sorting.proofs.measure.total_area.Given as goal
+
+abbrev pub invariant-loop-k : goal.invariant-loop-k
+invariant-loop-k l = (k ≤ l.count) × (l.sum ≡ total (table (λ k. (sized_at l.words l.sizes k).area) k))
+
+abbrev pub decreases-loop-k : goal.decreases-loop-k
+decreases-loop-k l = l.count - l.k

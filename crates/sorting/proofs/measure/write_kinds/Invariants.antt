@@ -1,0 +1,20 @@
+use native.Mathlib.Omega.{arith}
+use Prim.Native.Nat.{◌+◌, ◌-◌, ◌≤◌, ◌<◌, zero-le}
+use mathlib.Core.Path.{◌≡◌, refl, sym, ap, ◌∙◌, subst}
+use Rattle.labelling.specs.declared.component.Component.{Component}
+use Rattle.memory.specs.stages.Boxes.{Inside}
+use Rattle.labelling.specs.rules.Components.{box_of}
+use Rattle.sorting.specs.rules.Units.{unit_value}
+use Rattle.sorting.specs.rules.Kinds.{kind_of}
+use Rattle.memory.specs.stages.Stored.{Stored}
+use Rattle.sorting.specs.stages.Measures.{sized_at}
+use Rattle.memory.proofs.StoredLaws.{stored-none, stored_more, stored-count}
+use Rattle.sorting.proofs.SizedLaws.{sized-before}
+use Rattle.sorting.proofs.HeightLaws.{box-fits}
+use Rattle.sorting.proofs.measure.write_kinds.Given as goal
+
+abbrev pub invariant-loop-k : goal.invariant-loop-k
+invariant-loop-k l = (k ≤ l.count) × (Stored (λ k. kind_of l.sheet (unit_value l.unit) l.plan.width l.plan.height (sized_at l.initial.words l.plan.sizes k)) l.plan.kinds k l.initial.words l.words)
+
+abbrev pub decreases-loop-k : goal.decreases-loop-k
+decreases-loop-k l = l.count - l.k

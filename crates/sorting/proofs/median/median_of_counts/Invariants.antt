@@ -1,0 +1,14 @@
+use native.Mathlib.Omega.{arith}
+use mathlib.Core.Path.{◌≡◌, refl, ap, ◌∙◌}
+use Prim.Native.Nat.{◌≤◌, ◌-◌}
+use lib.ListN.{length, take}
+use Rattle.memory.specs.rules.Lists.{total}
+use Rattle.sorting.proofs.Medians.{counts-median, counts-none, counts-loop}
+use Rattle.memory.specs.rules.Lists as Lists
+use Rattle.sorting.proofs.median.median_of_counts.Given as goal
+
+abbrev pub invariant-loop-v : goal.invariant-loop-v
+invariant-loop-v l = (l.v ≤ length l.counts) × (l.below ≤ l.half) × (l.below ≡ Lists.total (take l.v l.counts))
+
+abbrev pub decreases-loop-v : goal.decreases-loop-v
+decreases-loop-v l = length l.counts - l.v

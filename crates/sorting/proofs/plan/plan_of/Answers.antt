@@ -1,0 +1,5 @@
+use borrow.Author.Rules.{rules}
+use Rattle.sorting.proofs.plan.plan_of.Goals as goal
+
+pub returns : goal.returns
+returns c = rw c.area-dots.ensures

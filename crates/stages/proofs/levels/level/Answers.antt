@@ -1,0 +1,26 @@
+use mathlib.Core.Path.{ap, ◌∙◌}
+use mathlib.Core.List.{List}
+use native.Mathlib.Omega.{arith}
+use Rattle.memory.specs.rules.Words.{over}
+use Rattle.levelling.specs.rules.Frames.{Frame}
+use Rattle.levelling.specs.rules.Planes.{levelled}
+use Rattle.levelling.proofs.ShearParts.{parts_are, parts-fit}
+use borrow.Author.Rules.{rules}
+use Rattle.stages.proofs.levels.level.Goals as goal
+
+-- `stages::levels::level` meets its contract: the words that were filled are the frame's own shears. Assumes nothing.
+
+pub level_plane-requires : goal.level_plane-requires
+level_plane-requires c =
+    let e = c.requires.slope.1.0 in
+    let n = c.requires.slope.1.1 in
+    (parts-fit _ _ _ _ _ _ _ _ _ c.requires.sides c.requires.slope.0 c.fill_shears.ensures e.0 e.1 n.0 n.2, c.requires.sides.w_fits)
+
+pub returns : goal.returns
+returns c =
+    let e = c.requires.slope.1.0 in
+    let s = c.fill_shears.ensures in (
+      s,
+      c.level_plane.ensures
+          ∙ ap (λ (f : Frame). over (levelled f c.args.fill c.args.page.now) c.args.out.now) (parts_are _ _ _ _ _ _ _ c.requires.sides c.requires.slope.0 s e.0 e.1),
+    )

@@ -1,0 +1,31 @@
+use mathlib.Core.Path.{ap, ◌∙◌}
+use lib.ListN.{length}
+use native.Mathlib.Omega.{arith}
+use Rattle.memory.specs.rules.Words.{over}
+use Rattle.store.specs.rules.Readings.{ResultReading}
+use Rattle.store.specs.stages.Areas.{which_of}
+use Rattle.store.proofs.ToldLaws.{told-refused, told-good}
+use Rattle.store.proofs.TellLaws.{lists_at_lem, list-short, list_done}
+use borrow.Author.Rules.{rules}
+use Rattle.store.proofs.lists.read_list.Goals as goal
+
+pub returns-then-number-ne0 : goal.returns-then-number-ne0
+returns-then-number-ne0 c = told-refused (ResultReading.list (which_of c.args.which) c.args.out.now) c.args.store.now c.args.ink.now c.args.kinds.now c.judge_reading-number.result c.judge_reading-number.ensures c.if-number-ne0.true
+
+pub list_of-list-requires : goal.list_of-list-requires
+list_of-list-requires c = lists_at_lem c.args.store.now c.args.ink.now c.args.kinds.now (told-good (ResultReading.list (which_of c.args.which) c.args.out.now) c.args.store.now c.args.ink.now c.args.kinds.now c.judge_reading-number.result c.judge_reading-number.ensures c.if-number-ne0.false).0
+
+pub returns-then-out-list : goal.returns-then-out-list
+returns-then-out-list c =
+    let e = ap length c.list_of-list.ensures in
+    list-short c.args.store.now c.args.ink.now c.args.kinds.now (told-good (ResultReading.list (which_of c.args.which) c.args.out.now) c.args.store.now c.args.ink.now c.args.kinds.now c.judge_reading-number.result c.judge_reading-number.ensures c.if-number-ne0.false).0 (which_of c.args.which) c.args.out.now c.judge_reading-number.result c.judge_reading-number.ensures c.if-number-ne0.false (omega (arith, c.if-out-list.true))
+
+pub count_of-requires : goal.count_of-requires
+count_of-requires c = lists_at_lem c.args.store.now c.args.ink.now c.args.kinds.now (told-good (ResultReading.list (which_of c.args.which) c.args.out.now) c.args.store.now c.args.ink.now c.args.kinds.now c.judge_reading-number.result c.judge_reading-number.ensures c.if-number-ne0.false).0
+
+pub returns : goal.returns
+returns c =
+    let l = c.list_of-list.ensures in
+    let e = ap length l in
+    list_done c.args.store.now c.args.ink.now c.args.kinds.now (told-good (ResultReading.list (which_of c.args.which) c.args.out.now) c.args.store.now c.args.ink.now c.args.kinds.now c.judge_reading-number.result c.judge_reading-number.ensures c.if-number-ne0.false).0 (which_of c.args.which) c.args.out.now c.judge_reading-number.result c.judge_reading-number.ensures c.if-number-ne0.false (omega (arith, c.if-out-list.false)) c.count_of.result c.copy_words.new.dst c.count_of.ensures
+    (c.copy_words.ensures ∙ ap (λ z. over z c.args.out.now) l)

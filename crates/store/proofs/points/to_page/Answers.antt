@@ -1,0 +1,40 @@
+use mathlib.Core.Path.{sym, ap, ◌∙◌}
+use mathlib.Core.List.{List}
+use native.Mathlib.Omega.{arith}
+use borrow.Author.Tests.{ltb-false}
+use lib.IntN.{ℤ}
+use Rattle.levelling.specs.declared.Point.{Point}
+use Rattle.judging.proofs.LevelLaws.{readable}
+use Rattle.store.specs.rules.Readings.{LevelReading, filled, point_numbers}
+use Rattle.store.specs.rules.Readings.Output.{integers}
+use Rattle.store.specs.rules.Outcomes.{told}
+use Rattle.store.proofs.MappingLaws.{reading-no, reading-yes}
+use Rattle.store.proofs.PointLaws.{map-room, point-is, point-small, mappable}
+use borrow.Author.Rules.{rules}
+use Rattle.store.proofs.points.to_page.Goals as goal
+
+-- `store::points::to_page` meets its contract: one judgement, then one worker. Assumes nothing.
+
+pub returns-then-number-ne0 : goal.returns-then-number-ne0
+returns-then-number-ne0 c = reading-no (LevelReading.point c.args.x c.args.y c.args.point.now) c.args.store.now _ c.judge_point-number.ensures c.if-number-ne0.true
+
+pub mapped-requires : goal.mapped-requires
+mapped-requires c =
+    let m = map-room c.args.store.now c.args.y (mappable c.args.store.now _ c.args.x c.args.y (readable c.args.store.now _ _ (sym c.judge_point-number.ensures ∙ c.if-number-ne0.false))).0 in
+    let a = c.word_at-page_w.ensures in
+    let b = c.word_at-h.ensures in
+    (omega (arith, m.1, a), omega (arith, m.2, b), omega (arith, m.0, a, b))
+
+pub put_point-requires : goal.put_point-requires
+put_point-requires c =
+    let R = (readable c.args.store.now _ _ (sym c.judge_point-number.ensures ∙ c.if-number-ne0.false)) in
+    let z = mappable c.args.store.now _ c.args.x c.args.y (readable c.args.store.now _ _ (sym c.judge_point-number.ensures ∙ c.if-number-ne0.false)) in
+    let p = point-small c.args.store.now c.args.x c.args.y z.0 z.1 _ _ c.word_at-page_w.ensures c.word_at-h.ensures _ c.mapped.ensures in
+    (ltb-false _ _ R.enough, p.0, p.1)
+
+pub returns : goal.returns
+returns c =
+    let z = mappable c.args.store.now _ c.args.x c.args.y (readable c.args.store.now _ _ (sym c.judge_point-number.ensures ∙ c.if-number-ne0.false)) in
+    ap (λ (z : List ℤ). told 0 0 (integers z)) c.put_point.ensures
+    ∙ (ap (λ (p : Point). told 0 0 (integers (filled (point_numbers p) c.args.point.now))) (point-is c.args.store.now c.args.x c.args.y z.0 z.1 _ _ c.word_at-page_w.ensures c.word_at-h.ensures _ c.mapped.ensures)
+    ∙ reading-yes (LevelReading.point c.args.x c.args.y c.args.point.now) c.args.store.now _ c.judge_point-number.ensures c.if-number-ne0.false)
