@@ -19,7 +19,7 @@ use Rattle.extents.specs.stages.Bands.{Put, Counts, BandsCounted, count_from, ba
 use Rattle.memory.proofs.PlaneLaws.{dot-column, dot-row}
 use Rattle.extents.proofs.MaskLaws.{ink_at-dot}
 use Rattle.extents.proofs.OverLaws.{over-unique}
-use Rattle.memory.proofs.PartLaws.{get_d_part, length_part}
+use Rattle.memory.proofs.PartLaws.{get_or-part, length_part}
 use Rattle.extents.proofs.RunLaws.{behind-le, behind-from, count_next, run_through-off, run_through-next, run_through-counted}
 use Rattle.extents.proofs.ExtentLaws.{ink-zero, ink-past, ink-inside, scan-more, row_upto, row_inside, row_next, row_before}
 use Rattle.extents.proofs.PutLaws.{put_same}
@@ -108,7 +108,7 @@ last_row w h m wide q i l k = sym (extent-taken w m wide h q i l ∙ ap (λ t. c
 
 part-ink : (a b : ℕ) (m : List ℕ) (k : ℕ) → a ≤ k → k < b → is_ink (take (b - a) (drop a m)) (k - a) ≡ is_ink m k
 unfolding is_ink
-part-ink a b m k l u = ap (ltb 0) (get_d_part a (b - a) m (k - a) (omega arith) ∙ ap (λ j. get_or m j 0) (let z : a + (k - a) ≡ k = omega arith in z))
+part-ink a b m k l u = ap (ltb 0) (get_or-part a (b - a) m (k - a) (omega arith) ∙ ap (λ j. get_or m j 0) (let z : a + (k - a) ≡ k = omega arith in z))
 
 -- a chunk without ink
 pub chunk-blank : (a b : ℕ) (m : List ℕ) → b ≤ length m → ((j : ℕ) → j < length (take (b - a) (drop a m)) → is_ink (take (b - a) (drop a m)) j ≡ false)
@@ -281,7 +281,7 @@ columns-more w y x n r m s k l u q = (λ i. cond (ink i) (q i + 1) 0) ∙ sym (c
     ink : is_ink (take ((y + r) * w + x + n - ((y + r) * w + x)) (drop ((y + r) * w + x) m)) k ≡ ink_at w m (x + k) (y + r)
     ink =
         ap (ltb 0)
-        (get_d_part ((y + r) * w + x) ((y + r) * w + x + n - ((y + r) * w + x)) m k (omega arith)
+        (get_or-part ((y + r) * w + x) ((y + r) * w + x + n - ((y + r) * w + x)) m k (omega arith)
         ∙ ap (λ j. get_or m j 0) (let z : (y + r) * w + x + k ≡ (y + r) * w + (x + k) = omega arith in z))
         ∙ sym on
 

@@ -20,7 +20,7 @@ use Rattle.extents.specs.rules.Extents.{ink_at, behind, run_through, extent}
 use Rattle.extents.specs.stages.Scans.{ScannedTo, Starts, clear, blank, RowTo, single_dot, row_extent, until}
 use Rattle.memory.proofs.PlaneLaws.{dot-column, dot-row}
 use Rattle.extents.proofs.OverLaws.{until-below, until-from, length_over, over-part, over-whole}
-use Rattle.memory.proofs.PartLaws.{get_d_part, length_part}
+use Rattle.memory.proofs.PartLaws.{get_or-part, length_part}
 use Rattle.extents.proofs.RunLaws.{behind-off, ahead-off, run_through-ends, run_through-off, starts-run, starts-zero}
 
 pub ink-zero : (m : List ℕ) (i : ℕ) → get_or m i 0 ≡ 0 → is_ink m i ≡ false
@@ -122,7 +122,7 @@ row-part w y m l h k u =
     same x = go (dec_lt x w)
       where
         go : Dec (x < w) → ltb 0 (get_or (take (y * w + w - y * w) (drop (y * w) m)) x 0) ≡ (ltb x w && ltb 0 (get_or m (y * w + x) 0))
-        go (yes d) = rw (lt-ltb x w d) (ap (ltb 0) (get_d_part (y * w) (y * w + w - y * w) m x (omega arith)))
+        go (yes d) = rw (lt-ltb x w d) (ap (ltb 0) (get_or-part (y * w) (y * w + w - y * w) m x (omega arith)))
         go (no d) =
             let z : length (take (y * w + w - y * w) (drop (y * w) m)) ≤ x = (let q = length_part (y * w) (y * w + w) m (omega arith) h in omega arith) in
             rw (le-ltb x w (omega arith)) (ap (ltb 0) (get_or-eq_default (take (y * w + w - y * w) (drop (y * w) m)) 0 z))

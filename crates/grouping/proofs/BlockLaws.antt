@@ -12,7 +12,7 @@ use Rattle.memory.specs.rules.Lists.{upto, keep, count_if, occurs}
 use Rattle.union_find.specs.rules.Classes.{first_of}
 use Rattle.memory.specs.declared.rect.Rect.{Rect}
 use Rattle.grouping.specs.rules.Blocks.{Block, opens_block, block_number, block_of, blocks_of}
-use Rattle.memory.proofs.ListLaws.{keep_same, get_d_map}
+use Rattle.memory.proofs.ListLaws.{keep_same, get_or-mapped}
 use Rattle.memory.proofs.PlaceLaws.{Placed, count-below, count-length, count-place, place-count, once}
 
 eqb_swap : (a b : ℕ) → eqb a b ≡ eqb b a
@@ -41,7 +41,7 @@ module _ (ls : List Rect) (fs : List ℕ) (low : (i : ℕ) → first_of fs i ≤
   block-at : (b : ℕ) (d : Block) → b < length (blocks_of ls fs) → get_or (blocks_of ls fs) b d ≡ block_of ls fs (get_or (keep (opens_block fs) (upto (length ls))) b 0)
   unfolding blocks_of
   block-at b d h =
-      get_d_map (block_of ls fs) (keep (opens_block fs) (upto (length ls))) b d 0 (let e = length-map (keep (opens_block fs) (upto (length ls))) (block_of ls fs) in omega arith)
+      get_or-mapped (block_of ls fs) (keep (opens_block fs) (upto (length ls))) b d 0 (let e = length-map (keep (opens_block fs) (upto (length ls))) (block_of ls fs) in omega arith)
 
   opener : (b : ℕ) → b < length (blocks_of ls fs) → Placed (opens_block fs) (length ls) b (get_or (keep (opens_block fs) (upto (length ls))) b 0)
   opener b h = place-count (opens_block fs) (length ls) b 0 (let e = blocks-count in omega arith)

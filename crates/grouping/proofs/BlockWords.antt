@@ -26,7 +26,7 @@ use Rattle.grouping.specs.stages.Numbering.{block_box, block_fields, Grown}
 use Rattle.grouping.specs.rules.BlockRecords.{block_record}
 use Rattle.grouping.specs.rules.HeldLines.{line_box}
 use Rattle.grouping.specs.stages.LineBoxes.{line_boxes}
-use Rattle.memory.proofs.ListLaws.{keep-snoc-yes, keep-snoc-no, upto-suc, map-append, keep-few, get_d_map}
+use Rattle.memory.proofs.ListLaws.{keep-snoc-yes, keep-snoc-no, upto-suc, map-append, keep-few, get_or-mapped}
 use Rattle.memory.proofs.PlaceLaws.{Placed, count-below, count-length, count-place, place-count}
 use Rattle.grouping.proofs.GapLaws.{keep-none}
 use Rattle.grouping.proofs.TableWords.{over-length}
@@ -156,9 +156,9 @@ module _ (ls : List Rect) (fs : List ℕ) where
           let b = length-map K (block_to i) in
           ext_get_or no_block (map (block_to (suc i)) K) (map (block_to i) K) (a ∙ sym b)
           (λ m h. let hk : m < length K = omega arith in
-          get_d_map (block_to (suc i)) K m no_block 0 hk
+          get_or-mapped (block_to (suc i)) K m no_block 0 hk
           ∙ (block_no i (get_or K m 0) (λ z. let p = (place-count (opens_block fs) i m 0 (let c = count-length (opens_block fs) i in omega arith)).below in omega arith)
-          ∙ sym (get_d_map (block_to i) K m no_block 0 hk)))
+          ∙ sym (get_or-mapped (block_to i) K m no_block 0 hk)))
 
       own-none : (j : ℕ) → j ≤ i → own j i ≡ []
       unfolding own upto table keep
@@ -205,7 +205,7 @@ module _ (ls : List Rect) (fs : List ℕ) where
       pub block-there : get_or (blocks_to i) (block_number fs i) no_block ≡ block_to i (first_of fs i)
       unfolding blocks_to
       block-there =
-          get_d_map (block_to i) (keep (opens_block fs) (upto i)) (block_number fs i) no_block 0 (let c = count-length (opens_block fs) i in let b = number-below in omega arith) ∙ ap (block_to i) place
+          get_or-mapped (block_to i) (keep (opens_block fs) (upto i)) (block_number fs i) no_block 0 (let c = count-length (opens_block fs) i in let b = number-below in omega arith) ∙ ap (block_to i) place
 
       pub blocks-later : blocks_to (suc i) ≡ set (blocks_to i) (block_number fs i) (block_to (suc i) (first_of fs i))
       unfolding blocks_to
@@ -223,16 +223,16 @@ module _ (ls : List Rect) (fs : List ℕ) where
               → get_or (map (block_to (suc i)) (keep (opens_block fs) (upto i))) m no_block ≡ get_or (set (map (block_to i) (keep (opens_block fs) (upto i))) (block_number fs i) (block_to (suc i) (first_of fs i))) m no_block
           at m h (yes z) =
               let K : List ℕ = keep (opens_block fs) (upto i) in
-              get_d_map (block_to (suc i)) K m no_block 0 h
+              get_or-mapped (block_to (suc i)) K m no_block 0 h
               ∙ (ap (λ j. block_to (suc i) (get_or K j 0)) z
               ∙ (ap (block_to (suc i)) place
               ∙ sym (ap (λ j. get_or (set (map (block_to i) K) (block_number fs i) (block_to (suc i) (first_of fs i))) j no_block) z
               ∙ get_or-set_same (map (block_to i) K) (block_number fs i) (block_to (suc i) (first_of fs i)) no_block (let b = length-map K (block_to i) in omega arith))))
           at m h (no z) =
               let K : List ℕ = keep (opens_block fs) (upto i) in
-              get_d_map (block_to (suc i)) K m no_block 0 h
+              get_or-mapped (block_to (suc i)) K m no_block 0 h
               ∙ (block_no i (get_or K m 0) (λ q. z (sym (place-count (opens_block fs) i m 0 (let c = count-length (opens_block fs) i in omega arith)).count ∙ (ap (count_if (opens_block fs)) (sym q) ∙ sym number-later)))
-              ∙ sym (get_or-set_other (map (block_to i) K) (block_number fs i) m (block_to (suc i) (first_of fs i)) no_block z ∙ get_d_map (block_to i) K m no_block 0 h))
+              ∙ sym (get_or-set_other (map (block_to i) K) (block_number fs i) m (block_to (suc i) (first_of fs i)) no_block z ∙ get_or-mapped (block_to i) K m no_block 0 h))
 
       pub later-fields : block_record (block_to (suc i) (first_of fs i)) ≡ block_fields (union (block_to i (first_of fs i)).bbox (get_or ls i no_rect)) (length (block_to i (first_of fs i)).lines + 1)
       unfolding block_to

@@ -7,7 +7,7 @@ use lib.ListN.{length, get_or, take, drop, length-append, length-drop, take-appe
 use lib.Seq.{take-append-le, drop-append-le, take_at, drop_at, drop-drop, length-take-le}
 use Rattle.memory.specs.rules.Words.{over, put_at}
 use Rattle.memory.proofs.PartLaws as memory
-use Rattle.memory.proofs.PartLaws.{get_d_part}
+use Rattle.memory.proofs.PartLaws.{get_or-part}
 use Rattle.judging.specs.rules.Header.{part}
 
 pub length_part : (a n : ℕ) (s : List ℕ) → a + n ≤ length s → length (part a n s) ≡ n
@@ -17,7 +17,7 @@ length_part a n s h = subst (λ k. length (take k (drop a s)) ≡ k) (let q : a 
 -- word j of a part
 pub part-word : (a n : ℕ) (s : List ℕ) (j : ℕ) → j < n → get_or (part a n s) j 0 ≡ get_or s (a + j) 0
 unfolding part
-part-word a n s j h = get_d_part a n s j h
+part-word a n s j h = get_or-part a n s j h
 
 -- a part of the first words
 pub part-append : (a n : ℕ) (x y : List ℕ) → a + n ≤ length x → part a n (x ++ y) ≡ part a n x

@@ -10,7 +10,7 @@ use lib.Seq.{get_or-take, get_or-append-add, length-take-le}
 use Rattle.labelling.specs.stages.InkRuns.{turns, run_count, run_of, start_of, end_of, Runs, touch_runs}
 use Rattle.labelling.specs.stages.Extraction.{row_turns, RowExtracted, Extracted}
 use Rattle.labelling.specs.stages.Linking.{touching, Linked, RowAhead, RowLinked, LinkRoom, LinkedRuns}
-use Rattle.union_find.proofs.FirstLaws.{get_d_map}
+use Rattle.union_find.proofs.FirstLaws.{get_or-mapped}
 use Rattle.union_find.proofs.LinkLaws.{seen_wider}
 use Rattle.union_find.proofs.ParentLaws.{forest-same}
 use Rattle.labelling.proofs.RunLabelLaws.{runs-low, turns-whole, runs-whole}
@@ -69,7 +69,7 @@ turns-low : (base : ℕ) (row : List ℕ) (i : ℕ) → i < length (row_turns ro
 turns-low base row i l =
     let t = turns (length row) row (length row) in
     let n = length-map t (λ i. base + i) in
-    let e = get_d_map (λ i. base + i) t i 0 0 (omega arith) in
+    let e = get_or-mapped (λ i. base + i) t i 0 0 (omega arith) in
     omega arith
 
 module _ {w h : ℕ} {m s₀ s : List ℕ} {q above here base y : ℕ} (S : LinkSweep w h m s₀ s q above here base y) (l : y < h) where

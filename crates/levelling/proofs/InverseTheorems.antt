@@ -22,7 +22,7 @@ use lib.ListN.{get_or, length, get_or-eq_default}
 use lib.Seq.{ext_get_or}
 use lib.Dec.{eqb, ltb, T, eqb→eq}
 use Rattle.memory.specs.rules.Lists.{table, count_if, occurs}
-use Rattle.memory.proofs.TableLaws.{length-table, get_or-table, get_d_default}
+use Rattle.memory.proofs.TableLaws.{length-table, get_or-table, get_or-default}
 use Rattle.memory.proofs.CountLaws.{Paired, paired-counts, occurs-table, occurs-by-place}
 use Rattle.memory.proofs.GreatestLaws.{greatest-bounds}
 use Rattle.memory.proofs.PlaneLaws.{dot-column, dot-row, dot-inside}
@@ -126,7 +126,7 @@ dots-at-their-places-is-levelled f fill page plane size room placed filled =
         let n = S.r * f.page_w + S.c in
         sym (ap (λ n. get_or plane n 0) ((λ t. E.1 t * f.w + E.0 t) ∙ div-add-mod' i f.w))
         ∙ (placed S.c S.r S.c_in S.r_in
-        ∙ (get_d_default page n 0 fill (subst (λ m. n < m) (sym size) (dot-inside f.page_w f.page_h S.c S.r S.c_in S.r_in)) ∙ sym (S.value fill page)))
+        ∙ (get_or-default page n 0 fill (subst (λ m. n < m) (sym size) (dot-inside f.page_w f.page_h S.c S.r S.c_in S.r_in)) ∙ sym (S.value fill page)))
 
 source : (f : Frame) (page : List ℕ) (x y : ℕ) → level_at f 0 page x y ≡ 1 → Source f x y
 source f page x y e = go (added-or-source f x y)

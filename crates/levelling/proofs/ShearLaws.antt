@@ -10,7 +10,7 @@ use lib.ListN.{get_or, length, length-map}
 use lib.Seq.{ext_get_or}
 use Rattle.memory.specs.rules.Lists.{table, greatest}
 use Rattle.memory.proofs.GreatestLaws.{greatest-bounds, greatest-at-most}
-use Rattle.memory.proofs.TableLaws.{length-table, get_or-table, get_d_default, table-ext}
+use Rattle.memory.proofs.TableLaws.{length-table, get_or-table, get_or-default, table-ext}
 use Rattle.rounding.proofs.DriftLaws.{signed}
 use Rattle.levelling.specs.rules.Shears.{minℤ, natural, least_entry, shear_of}
 use Rattle.levelling.specs.stages.Entries.{least_end}
@@ -55,8 +55,8 @@ shear-at (d ∷ t) m a k kl e h i l = get_or-map-inside (λ v. natural (v -ℤ l
   where
     least : least_entry d t ≡ m
     least =
-        sym (least-bounds d t k kl) ∙ (ap (minℤ (least_entry d t)) (get_d_default (d ∷ t) k d a kl ∙ e)
-        ∙ least-at-least d t m (λ j q. ap (λ z. minℤ z m) (get_d_default (d ∷ t) j d a q) ∙ h j q))
+        sym (least-bounds d t k kl) ∙ (ap (minℤ (least_entry d t)) (get_or-default (d ∷ t) k d a kl ∙ e)
+        ∙ least-at-least d t m (λ j q. ap (λ z. minℤ z m) (get_or-default (d ∷ t) j d a q) ∙ h j q))
 
 -- ---- the shear of a table that runs one way
 -- entry c of the shear of n drifts of these sizes: a falling table (s is true) is least at its last entry, a rising one at its first

@@ -15,7 +15,7 @@ use lib.Seq.{ext_get_or, get_or-set_same, get_or-set_other, get_or-take, get_or-
 use lib.Dec.{ltb, leb, eqb}
 use Rattle.memory.specs.rules.Lists.{table}
 use Rattle.memory.specs.rules.Words.{over}
-use Rattle.memory.proofs.TableLaws.{length-table, get_or-table, get_d_default, table-ext}
+use Rattle.memory.proofs.TableLaws.{length-table, get_or-table, get_or-default, table-ext}
 use Rattle.memory.proofs.PlaneLaws.{dot-column, dot-row, dot-inside}
 use Rattle.levelling.specs.rules.Frames.{Frame, frame_of, row_of, column_of}
 use Rattle.levelling.specs.rules.Planes.{level_at, levelled}
@@ -190,7 +190,7 @@ module _ (page_w page_h : ℕ) (shear shear_x : List ℕ) (w h fill : ℕ) (page
       let z : y * page_w + (c + n) ≡ a + n = sym (add_assoc (y * page_w) c n) in
       let k : y * page_w + (c + n) < length page = omega (arith, fits.page_size, dot-inside page_w page_h (c + n) y q ly) in
       e
-      ∙ ((λ t. set (b t) (place_of shear shear_x w y (c + n)) (get_d_default page (y * page_w + (c + n)) 0 fill k t))
+      ∙ ((λ t. set (b t) (place_of shear shear_x w y (c + n)) (get_or-default page (y * page_w + (c + n)) 0 fill k t))
       ∙ (dot-moved (or_range done a (a + n)) s y (c + n) ly q
       ∙ ap (λ p. over (levelled F fill p) s) (shown-ext _ _ fill page (λ j m. ap (λ v. or_range done a (a + n) j || eqb j v) z ∙ (range-more (done j) a n j ∙ ap (λ v. or_range done a (a + v) j) (sym (add-one n)))))))
 
@@ -218,7 +218,7 @@ module _ (page_w page_h : ℕ) (shear shear_x : List ℕ) (w h fill : ℕ) (page
       at : (j : ℕ) → j < length page → Dec (a ≤ j) → Dec (j < a + n) → (done j ≡ or_range done a (a + n) j) ⊎ (get_or page j fill ≡ fill)
       at j k (yes u) (yes v) =
           let e : y * page_w + (c + (j - a)) ≡ j = sym (add_assoc (y * page_w) c (j - a)) ∙ (let z : a + (j - a) ≡ j = omega arith in z) in
-          inr (get_d_default page j fill 0 k ∙ (ap (λ z. get_or page z 0) (sym e) ∙ h (j - a) (omega arith)))
+          inr (get_or-default page j fill 0 k ∙ (ap (λ z. get_or page z 0) (sym e) ∙ h (j - a) (omega arith)))
       at j k (no u) v = inl (or-false (done j) ∙ ap (λ b. done j || b) (sym (rw (lt-leb a j (omega arith)))))
       at j k (yes u) (no v) = inl (or-false (done j) ∙ ap (λ b. done j || b) (sym (rw (le-leb a j u, le-ltb j (a + n) (omega arith)))))
 

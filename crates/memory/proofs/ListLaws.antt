@@ -112,7 +112,7 @@ keep_same p q (suc n) h = go (q n) refl (keep_same p q n (λ x l. h x (omega ari
     go true e i = keep-snoc-yes p (upto n) n (h n (le_refl (suc n)) ∙ e) ∙ (ap (λ (t : List ℕ). t ++ (n ∷ [])) i ∙ sym (keep-snoc-yes q (upto n) n e))
     go false e i = keep-snoc-no p (upto n) n (h n (le_refl (suc n)) ∙ e) ∙ (i ∙ sym (keep-snoc-no q (upto n) n e))
 
-pub get_d_map : {A B : Type 0} (f : A → B) (l : List A) (i : ℕ) (d : B) (e : A) → i < length l → get_or (map f l) i d ≡ f (get_or l i e)
-get_d_map f [] i d e h = absurd (not-suc-le-zero h)
-get_d_map f (a ∷ l) zero d e h = refl
-get_d_map f (a ∷ l) (suc i) d e h = get_d_map f l i d e (le_of_suc-le-suc h)
+pub get_or-mapped : {A B : Type 0} (f : A → B) (l : List A) (i : ℕ) (d : B) (e : A) → i < length l → get_or (map f l) i d ≡ f (get_or l i e)
+get_or-mapped f [] i d e h = absurd (not-suc-le-zero h)
+get_or-mapped f (a ∷ l) zero d e h = refl
+get_or-mapped f (a ∷ l) (suc i) d e h = get_or-mapped f l i d e (le_of_suc-le-suc h)

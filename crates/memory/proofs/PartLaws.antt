@@ -58,8 +58,8 @@ part_filled f s out v a n e q =
     ∙ (sym (append_assoc (table f a) (table (λ i. f (a + i)) n) (drop (a + n) s)) ∙ ap (λ (z : List ℕ). z ++ drop (a + n) s) (sym (table-add f a n))))
 
 -- ---- `&mut s[a..e]`
-pub get_d_part : (a k : ℕ) (s : List ℕ) (i : ℕ) → i < k → get_or (take k (drop a s)) i 0 ≡ get_or s (a + i) 0
-get_d_part a k s i l = get_or-take k (drop a s) i 0 l ∙ get_or-drop a s i 0
+pub get_or-part : (a k : ℕ) (s : List ℕ) (i : ℕ) → i < k → get_or (take k (drop a s)) i 0 ≡ get_or s (a + i) 0
+get_or-part a k s i l = get_or-take k (drop a s) i 0 l ∙ get_or-drop a s i 0
 
 pub length_part : (a e : ℕ) (s : List ℕ) → a ≤ e → e ≤ length s → length (take (e - a) (drop a s)) ≡ e - a
 length_part a e s l h = length-take-le (e - a) (drop a s) (let q = length-drop a s in omega arith)

@@ -25,10 +25,10 @@ get_or-table {A} f (suc n) i d l = go (get_or-table f n i d) (ℕ_discrete i n)
     go ih (yes e) = get_or_at (table f n) (f n) [] d i (length-table f n ∙ sym e) ∙ ap f (sym e)
     go ih (no ne) = get_or-append (table f n) (f n ∷ []) d i (let e = length-table f n in omega arith) ∙ ih (omega arith)
 
-pub get_d_default : {A : Type 0} (l : List A) (i : ℕ) (a b : A) → i < length l → get_or l i a ≡ get_or l i b
-get_d_default [] i a b l = absurd (not-suc-le-zero l)
-get_d_default (x ∷ t) zero a b l = refl
-get_d_default (x ∷ t) (suc i) a b l = get_d_default t i a b (le_of_suc-le-suc l)
+pub get_or-default : {A : Type 0} (l : List A) (i : ℕ) (a b : A) → i < length l → get_or l i a ≡ get_or l i b
+get_or-default [] i a b l = absurd (not-suc-le-zero l)
+get_or-default (x ∷ t) zero a b l = refl
+get_or-default (x ∷ t) (suc i) a b l = get_or-default t i a b (le_of_suc-le-suc l)
 
 pub table-ext : {A : Type 0} (f g : ℕ → A) (n : ℕ) → ((i : ℕ) → i < n → f i ≡ g i) → table f n ≡ table g n
 unfolding table

@@ -32,7 +32,7 @@ use Rattle.grouping.specs.stages.LineBoxes.{Lines, ByTop, Groupable, line_boxes}
 use Rattle.grouping.specs.rules.HeldLines.{line_box}
 use Rattle.smoothing.specs.rules.LineRecords.{line_record}
 use Rattle.grouping.specs.rules.BlockRecords.{block_record, column_record}
-use Rattle.memory.proofs.ListLaws.{get_d_map}
+use Rattle.memory.proofs.ListLaws.{get_or-mapped}
 use Rattle.segmenting.proofs.BoxLaws.{length-boxes, boxes-few, rules-few}
 use Rattle.segmenting.proofs.BlockedLines.{blocks-set, text-lines, record-boxes}
 use Rattle.smoothing.proofs.LineRecords.{plain-boxes}
@@ -119,7 +119,7 @@ module _ {w h P : ℕ} {ls : List SmoothedLine} {before results : List ℕ} {n s
     box-at : (i : ℕ) → i < n → line_box s i ≡ (get_or ls i no_line_yet).bbox
     box-at i l =
         sym (get_or-table (line_box s) n i no_rect l)
-        ∙ (ap (λ (z : List Rect). get_or z i no_rect) b ∙ get_d_map (λ (x : SmoothedLine). x.bbox) ls i no_rect no_line_yet (let e = G.count in omega arith))
+        ∙ (ap (λ (z : List Rect). get_or z i no_rect) b ∙ get_or-mapped (λ (x : SmoothedLine). x.bbox) ls i no_rect no_line_yet (let e = G.count in omega arith))
 
     pub lines-inside : Lines w h n s
     lines-inside =

@@ -33,7 +33,7 @@ use Rattle.sorting.specs.rules.Sorted.{sorted, boxes_of, rules_of}
 use Rattle.rulings.proofs.RulingMasks.{horizontal-blank, vertical-blank, after_cut-ink}
 use Rattle.segmenting.specs.stages.Held.{held_kind, KindsHeld, of_kind, held_boxes, held_area, unpacked_boxes, held_rules}
 use Rattle.segmenting.specs.stages.Painting.{painted_kind}
-use Rattle.memory.proofs.ListLaws.{get_d_map, keep-snoc-yes, keep-snoc-no, map-append}
+use Rattle.memory.proofs.ListLaws.{get_or-mapped, keep-snoc-yes, keep-snoc-no, map-append}
 
 -- Components of a kind
 
@@ -56,7 +56,7 @@ as-table l d = ext_get_or d (table (λ k. get_or l k d) (length l)) l (length-ta
 
 module _ (cs : List Component) (f : Component → ℕ) (s : List ℕ) (sizes kinds kind : ℕ) (H : HoldsSizes cs s sizes) (K : KindsHeld (map f cs) s kinds) where
   kind-is : (k : ℕ) → k < length cs → eqb (held_kind s kinds k) kind ≡ eqb (f (get_or cs k no_dots)) kind
-  kind-is k l = ap (λ z. eqb z kind) (K k (let e = length-map cs f in omega arith) ∙ get_d_map f cs k 0 no_dots l)
+  kind-is k l = ap (λ z. eqb z kind) (K k (let e = length-map cs f in omega arith) ∙ get_or-mapped f cs k 0 no_dots l)
 
   -- the boxes read are those of the components of the kind, by number
   pub held-boxes : held_boxes s sizes kinds kind (length cs) ≡ map box_of (keep (λ (c : Component). eqb (f c) kind) cs)
@@ -125,7 +125,7 @@ components-unpacked w h m s from wide narrow low dots e =
     (λ k d l.
     let q : k < length (labelling w h m).components = (let z = many in omega arith) in
     let B = component-boxed w h m wide dots k q in
-    let b = get_d_map box_of (labelling w h m).components k d no_dots q in
+    let b = get_or-mapped box_of (labelling w h m).components k d no_dots q in
     let x = ap (λ (r : Rect). r.x0) b in
     let y = ap (λ (r : Rect). r.y0) b in
     let a₁ = B.wide in

@@ -31,7 +31,7 @@ use Rattle.smoothing.proofs.LineLaws.{label_of, glyph_of, glyphs-are, line_of, l
 use Rattle.smoothing.proofs.LineRecords.{glyph-records, line-records}
 use Rattle.smoothing.proofs.LineRooms.{areas-are, glyphs-kept, smears-kept, smears-counted, order-labels, order-smears}
 use Rattle.smoothing.proofs.SmearLaws.{smears-few, smears-low}
-use Rattle.memory.proofs.ListLaws.{get_d_map, each_at}
+use Rattle.memory.proofs.ListLaws.{get_or-mapped, each_at}
 use Rattle.smoothing.proofs.Theorems.{lines-go-by-top}
 
 module _ {p : LayoutParams} {unit : Float} {cs : List Component} {ks : List ℕ} {labels : ℕ → ℕ} {smears : List Component} {w h dots P : ℕ} {s : List ℕ} {out : ℕ}
@@ -196,8 +196,8 @@ module _ {p : LayoutParams} {unit : Float} {cs : List Component} {ks : List ℕ}
         let a = labels-are p unit (glyphs_of cs ks labels) smears (smears_at dots P) (glyphs_at dots P) s H.smoothed in
         let b = labels-are p unit (glyphs_of cs ks labels) smears (smears_at dots P) (glyphs_at dots P) s₂ smoothed₂ in
         let d = ap (λ (z : List ℕ). get_or z i 1) (sym a ∙ b) in
-        let e = ListN.get_d_map suc (line_smears p unit s (smears_at dots P) (glyphs_at dots P) (length smears)) i 0 in
-        let f = ListN.get_d_map suc (line_smears p unit s₂ (smears_at dots P) (glyphs_at dots P) (length smears)) i 0 in
+        let e = ListN.get_or-map suc (line_smears p unit s (smears_at dots P) (glyphs_at dots P) (length smears)) i 0 in
+        let f = ListN.get_or-map suc (line_smears p unit s₂ (smears_at dots P) (glyphs_at dots P) (length smears)) i 0 in
         let g = L.order i l in
         omega arith
 
@@ -218,7 +218,7 @@ module _ {p : LayoutParams} {unit : Float} {cs : List Component} {ks : List ℕ}
       let n = ap length e ∙ length-map rs (line_of (glyphs_of cs ks labels) smears) in (
         get_or rs i 0,
         each_at (λ t. t < length smears) rs (smears-low p unit s (smears_at dots P) (glyphs_at dots P) (length smears)) i 0 (omega arith),
-        ap (λ (z : List SmoothedLine). (get_or z i d).bbox) e ∙ ap (λ (z : SmoothedLine). z.bbox) (get_d_map (line_of (glyphs_of cs ks labels) smears) rs i d 0 (omega arith)),
+        ap (λ (z : List SmoothedLine). (get_or z i d).bbox) e ∙ ap (λ (z : SmoothedLine). z.bbox) (get_or-mapped (line_of (glyphs_of cs ks labels) smears) rs i d 0 (omega arith)),
       )
 
   pub few_lines : length (kept_lines p unit (glyphs_of cs ks labels) smears) ≤ length smears

@@ -12,7 +12,7 @@ use lib.Seq.{ext_get_or}
 use lib.Dec.{eqb, ltb}
 use Rattle.memory.specs.rules.Lists.{table, upto}
 use Rattle.memory.specs.rules.Records.{encoded}
-use Rattle.memory.proofs.TableLaws.{length-table, get_or-table, get_d_default}
+use Rattle.memory.proofs.TableLaws.{length-table, get_or-table, get_or-default}
 use Rattle.labelling.specs.declared.component.Component.{Component}
 use Rattle.params.specs.declared.LayoutParams.{LayoutParams}
 use Rattle.sorting.specs.rules.Units.{median}
@@ -82,7 +82,7 @@ module _ (cs : List Component) (ks : List ℕ) (labels : ℕ → ℕ) (sizes kin
 
 plain_at : (ls : List SmoothedLine) (i : ℕ) (d : SmoothedLine) → i < length ls
     → line_record (plain_line ls i) ≡ line_fields (get_or ls i d).bbox (get_or ls i d).glyphs (get_or ls i d).ink_area (get_or ls i d).glyph_height
-plain_at ls i d h = ap (λ (l : SmoothedLine). line_fields l.bbox l.glyphs l.ink_area l.glyph_height) (get_d_default ls i _ d h)
+plain_at ls i d h = ap (λ (l : SmoothedLine). line_fields l.bbox l.glyphs l.ink_area l.glyph_height) (get_or-default ls i _ d h)
 
 module _ (p : LayoutParams) (unit : Float) (cs : List Component) (ks : List ℕ) (labels : ℕ → ℕ) (sizes kinds : ℕ) (s : List ℕ) (h : HoldsGlyphs cs ks labels sizes kinds s)
     (smears : List Component) (smoothed glyphs : ℕ) (g : HoldsSmears (glyphs_of cs ks labels) smears smoothed glyphs s) where

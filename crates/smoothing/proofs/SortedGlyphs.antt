@@ -39,7 +39,7 @@ use Rattle.sorting.specs.stages.Scratch.{ink_after_cut}
 use Rattle.rulings.proofs.RulingMasks.{after_cut-ink}
 use Rattle.smoothing.specs.rules.Lines.{first_dot}
 use Rattle.smoothing.specs.stages.RowRuns.{glyph_dot, glyph_run, glyph_runs, GlyphPlane}
-use Rattle.memory.proofs.ListLaws.{get_d_map}
+use Rattle.memory.proofs.ListLaws.{get_or-mapped}
 use Rattle.smoothing.proofs.RunNumberLaws.{number-some, number-high}
 
 -- A frame one dot wide
@@ -180,7 +180,7 @@ module _ (p : LayoutParams) (w h : ℕ) (m : List ℕ) where
 
   kind-is : (k : ℕ) → k < length (sorted p w h m).rest.components → get_or (sorted p w h m).kinds k 0 ≡ kind_of p (unit_value (sorted p w h m).unit) w h (get_or (sorted p w h m).rest.components k no_dots)
   unfolding sorted
-  kind-is k l = get_d_map (kind_of p (unit_value (sorted p w h m).unit) w h) (sorted p w h m).rest.components k 0 no_dots l
+  kind-is k l = get_or-mapped (kind_of p (unit_value (sorted p w h m).unit) w h) (sorted p w h m).rest.components k 0 no_dots l
 
   pub kind-known : (k : ℕ) → k < length (sorted p w h m).rest.components → get_or (sorted p w h m).kinds k 0 < 8
   kind-known k l = subst (λ n. n < 8) (sym (kind-is k l)) (kind-low p (unit_value (sorted p w h m).unit) w h (get_or (sorted p w h m).rest.components k no_dots))

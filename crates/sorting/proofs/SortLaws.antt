@@ -34,7 +34,7 @@ use Rattle.sorting.specs.stages.Scratch.{SortRoom, marks_at, horizontal_at, vert
 use Rattle.sorting.specs.rules.Capacity.{most_components, components_of, most_cuts}
 use Rattle.sorting.specs.declared.Unit.{Unit}
 use Rattle.extents.proofs.OverLaws.{over-at, over-past}
-use Rattle.memory.proofs.PartLaws.{get_d_part, length_part, length-put, get_or-put}
+use Rattle.memory.proofs.PartLaws.{get_or-part, length_part, length-put, get_or-put}
 use Rattle.rulings.specs.declared.scanlines.Found.{Found}
 use Rattle.rulings.proofs.RulingMasks.{after_cut-nothing}
 use Rattle.sorting.specs.declared.sort.Cuts.{Cuts}
@@ -265,7 +265,7 @@ ink-cut {run_min} {thick_max} {w} {h} {m} {found} at s t marks_is low₀ high R�
         ∙ (behind (i - marks_at (w * h)) (omega arith)
         ∙ (over-past f (w * h) (drop (marks_at (w * h) - at) part) (i - marks_at (w * h)) (omega arith)
         ∙ (get_or-drop (marks_at (w * h) - at) part (i - marks_at (w * h)) 0
-        ∙ (get_d_part at (length s - at) s (marks_at (w * h) - at + (i - marks_at (w * h))) (omega arith) ∙ ap (λ (k : ℕ). get_or s k 0) y))))
+        ∙ (get_or-part at (length s - at) s (marks_at (w * h) - at + (i - marks_at (w * h))) (omega arith) ∙ ap (λ (k : ℕ). get_or s k 0) y))))
 
 -- labelling the horizontal cuts leaves the marks
 pub still-blank : (t : Test) {w h P r : ℕ} {m s s' : List ℕ} → CutLabelled First w h m P (horizontal_at (w * h)) s s' r → Blank (passed t w h m s) (w * h) → Blank (passed t w h m s') (w * h)

@@ -28,10 +28,10 @@ chain-sym (fall l k t c) = chain-trans (chain-sym c) (rise l k t here)
 
 -- Lists
 
-pub get_d_map : (f : ℕ → ℕ) (l : List ℕ) (j d d' : ℕ) → j < length l → get_or (map f l) j d ≡ f (get_or l j d')
-get_d_map f [] j d d' l = absurd (not-suc-le-zero l)
-get_d_map f (x ∷ xs) zero d d' l = refl
-get_d_map f (x ∷ xs) (suc j) d d' l = get_d_map f xs j d d' (le_of_suc-le-suc l)
+pub get_or-mapped : (f : ℕ → ℕ) (l : List ℕ) (j d d' : ℕ) → j < length l → get_or (map f l) j d ≡ f (get_or l j d')
+get_or-mapped f [] j d d' l = absurd (not-suc-le-zero l)
+get_or-mapped f (x ∷ xs) zero d d' l = refl
+get_or-mapped f (x ∷ xs) (suc j) d d' l = get_or-mapped f xs j d d' (le_of_suc-le-suc l)
 
 -- Renaming
 
@@ -76,7 +76,7 @@ module _ (r : ℕ → ℕ → Bool) (n : ℕ) where
   join-at l P a b la lb j = go (dec_lt j n)
     where
       go : Dec (j < n) → first_of (join a b l) j ≡ join_f (first_of l) a b j
-      go (yes h) = get_d_map _ l j j j (omega (arith, P.len))
+      go (yes h) = get_or-mapped _ l j j j (omega (arith, P.len))
       go (no h) =
           let past : first_of l j ≡ j = get_or-eq_default l j (omega (arith, P.len)) in
           get_or-eq_default (map (renamed (max (first_of l a) (first_of l b)) (min (first_of l a) (first_of l b))) l) j (rw length-map (omega (arith, P.len)))

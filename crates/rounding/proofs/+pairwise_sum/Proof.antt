@@ -32,40 +32,40 @@ right-whole : (xs : List Float) → take (length xs - half xs) (drop (half xs) x
 right-whole xs = ap (λ (n : ℕ). take n (drop (half xs) xs)) (sym (length-drop (half xs) xs)) ∙ take-length (drop (half xs) xs)
 
 module _ (t : ℕ) where
-  block-sum-requires : lts.Need-block-sum-requires (claims t) (at t) pairwise-sum.Post
+  block-sum-requires : lts.Need-block_sum-requires (claims t) (at t) pairwise-sum.Post
   block-sum-requires c κs = tt
 
-  left-counted : lts.Need-slice-aggregate-pairwise-sum (claims t) (at t) pairwise-sum.Post
+  left-counted : lts.Need-slice_bounds-pairwise_sum-end (claims t) (at t) pairwise-sum.Post
   left-counted c = simp length-take (omega arith)
 
-  left-requires : lts.Need-pairwise-sum-requires (claims t) (at t) pairwise-sum.Post
+  left-requires : lts.Need-pairwise_sum-left-requires (claims t) (at t) pairwise-sum.Post
   left-requires c κs = (simp length-take (omega arith), tt)
 
-  right-start-fits : lts.Need-overflow-mul-pairwise-sum (claims t) (at t) pairwise-sum.Post
-  right-start-fits c = scaled_Fits _ (length c.before.before.before.before.args.values.now) 8 (omega arith) c.before.before.before.before.well-formed.0.1
+  right-start-fits : lts.Need-offset_bounds-values-half (claims t) (at t) pairwise-sum.Post
+  right-start-fits c = scaled_Fits _ (length c.args.values.now) 8 (omega arith) c.well_formed.0.1
 
-  right-length : lts.Need-overflow-sub-pairwise-sum (claims t) (at t) pairwise-sum.Post
+  right-length : lts.Need-slice_bounds-pairwise_sum-count (claims t) (at t) pairwise-sum.Post
   right-length c = search rules
 
-  right-start : lts.Need-slice-bounds-pairwise-sum-start (claims t) (at t) pairwise-sum.Post
+  right-start : lts.Need-slice_bounds-pairwise_sum-start (claims t) (at t) pairwise-sum.Post
   right-start c = search rules
 
-  right_end : lts.Need-slice-bounds-pairwise-sum-end (claims t) (at t) pairwise-sum.Post
+  right_end : lts.Need-slice_bounds-pairwise_sum-end-else-n-le-BLOCK (claims t) (at t) pairwise-sum.Post
   right_end c = search rules
 
-  right-requires : lts.Need-pairwise-sum-requires-2 (claims t) (at t) pairwise-sum.Post
+  right-requires : lts.Need-pairwise_sum-right-requires (claims t) (at t) pairwise-sum.Post
   right-requires c κs = (simp (length-take, length-drop) (omega arith), tt)
 
-  returns : lts.Need-returns (claims t) (at t) pairwise-sum.Post
-  returns c = c.block-sum.ensures ∙ sym (pairwise_sum-short c.before.before.before.args.values.now c.before.if1.true)
+  returns : lts.Need-returns-then-n-le-BLOCK (claims t) (at t) pairwise-sum.Post
+  returns c = c.block_sum.ensures ∙ sym (pairwise_sum-short c.args.values.now c.if-n-le-BLOCK.true)
 
-  returns-2 : lts.Need-returns-2 (claims t) (at t) pairwise-sum.Post
+  returns-2 : lts.Need-returns-else-n-le-BLOCK (claims t) (at t) pairwise-sum.Post
   returns-2 c =
-      let xs = c.before.before.before.before.before.before.args.values.now in
-      (λ i. add binary64 (c.before.before.pairwise-sum.ensures i) ((c.pairwise-sum2.ensures ∙ ap pairwise_sum (right-whole xs)) i))
-      ∙ sym (pairwise_sum-split xs c.before.before.before.before.if1.false)
+      let xs = c.args.values.now in
+      (λ i. add binary64 (c.pairwise_sum-left.ensures i) ((c.pairwise_sum-right.ensures ∙ ap pairwise_sum (right-whole xs)) i))
+      ∙ sym (pairwise_sum-split xs c.if-n-le-BLOCK.false)
 
-pub +pairwise-sum-spec : {M : Type 1} → statement M
-+pairwise-sum-spec =
+pub +pairwise_sum_spec : {M : Type 1} → statement M
++pairwise_sum_spec =
     close μ
     (λ t. lts.spec (claims t) (at t) pairwise-sum.Post (block-sum-requires t) (left-counted t) (left-requires t) (right-start-fits t) (right-length t) (right-start t) (right_end t) (right-requires t) (returns t) (returns-2 t))

@@ -6,18 +6,18 @@ use Rattle.rounding.proofs.Casts.{signed-fits, signed-narrowed, signed_top, sign
 use Rattle.rounding.proofs.saturating_i32.Goals as goal
 
 -- what the machine reads back of the wide result
-narrowed : (c : tie.After-saturating-i64) → to_z w64 (of_z w64 c.saturating-i64.result) ≡ to_signed 31 c.before.before.before.args.x
+narrowed : (c : goal.After-saturating_i64) → to_z w64 (of_z w64 c.saturating_i64.result) ≡ to_signed 31 c.args.x
 unfolding of_bits neg
 narrowed c =
-    let x = c.before.before.before.args.x in
-    let read : to_z w64 (of_z w64 c.saturating-i64.result) ≡ c.saturating-i64.result = search rules in
-    read ∙ c.saturating-i64.ensures ∙ signed-narrowed 31 63 x (lit≤ tt) (yes c.before.before.if1.true) (yes c.before.if2.true)
+    let x = c.args.x in
+    let read : to_z w64 (of_z w64 c.saturating_i64.result) ≡ c.saturating_i64.result = search rules in
+    read ∙ c.saturating_i64.ensures ∙ signed-narrowed 31 63 x (lit≤ tt) (yes c.if-x.true) (yes c.if-x-2.true)
 
 pub overflow_cast-result : goal.overflow_cast-result
 overflow_cast-result c = subst (λ (z : ℤ). SFits w32 z) (sym (narrowed c)) (record { sfits = signed-fits 31 c.args.x })
 
 pub returns-then-x-2 : goal.returns-then-x-2
-returns-then-x-2 c = to_z-of_z w32 (to_z w64 (of_z w64 c.saturating_i64.result)) (cast-result c) ∙ narrowed c
+returns-then-x-2 c = to_z-of_z w32 (to_z w64 (of_z w64 c.saturating_i64.result)) (overflow_cast-result c) ∙ narrowed c
 
 pub returns-else-x-2 : goal.returns-else-x-2
 unfolding of_bits neg

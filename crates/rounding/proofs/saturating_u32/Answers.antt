@@ -4,9 +4,9 @@ use Rattle.rounding.proofs.Tests.{yes, no}
 use Rattle.rounding.proofs.Casts.{unsigned-fits, unsigned-narrowed, unsigned-top, unsigned-bottom}
 use Rattle.rounding.proofs.saturating_u32.Goals as goal
 
-narrowed : (c : tie.After-saturating-u64) → c.saturating-u64.result ≡ to_unsigned 32 c.before.before.before.args.x
+narrowed : (c : goal.After-saturating_u64) → c.saturating_u64.result ≡ to_unsigned 32 c.args.x
 unfolding of_bits
-narrowed c = c.saturating-u64.ensures ∙ unsigned-narrowed 32 64 c.before.before.before.args.x (lit≤ tt) (yes c.before.if2.true)
+narrowed c = c.saturating_u64.ensures ∙ unsigned-narrowed 32 64 c.args.x (lit≤ tt) (yes c.if-x-2.true)
 
 pub overflow_cast-result : goal.overflow_cast-result
 overflow_cast-result c = subst (λ (n : ℕ). Fits w32 n) (sym (narrowed c)) (record { fits = unsigned-fits 32 c.args.x })

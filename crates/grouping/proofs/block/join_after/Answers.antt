@@ -11,6 +11,7 @@ use Rattle.grouping.proofs.PairLaws.{Rooted, rooted-found, rooted-skip, rooted-j
 use native.Mathlib.Omega.{arith}
 use borrow.Author.Rules.{rules}
 use Rattle.grouping.proofs.block.join_after.Goals as goal
+use Rattle.grouping.proofs.block.join_after.Goals.{else-overlaps, then-overlaps}
 
 pub line_box-a-requires : goal.line_box-a-requires
 line_box-a-requires c = omega (arith, c.requires.0.2.room)
@@ -41,10 +42,10 @@ unite-root-requires c = let R = c.loop-j.invariant.2 in let q = R.joined.room in
 pub loop-j-preserved : goal.loop-j-preserved
 loop-j-preserved c = let Near-by = near c.args.overlap c.args.limit (line_box c.args.lines.now c.args.i) (line_box c.args.lines.now c.loop-j.j) (rw (c.line_gap.ensures, c.line_box-b.ensures, c.line_box-a.ensures) at c.if-limit-line_gap.false) in
     let o = rw (c.line_box-b.ensures, c.line_box-a.ensures) at c.overlaps.ensures in
-    ⊎_elim
-    (λ w. rw (w.5, w.6) (omega arith, w.2.kept.0 ∙ c.loop-j.invariant.1, rooted-join (joins c.args.overlap c.args.limit c.args.lines.now) c.args.n c.loop-j.parents w.2.last.0 c.args.i c.loop-j.j c.loop-j.root w.2.result c.loop-j.invariant.2 (omega arith) (omega arith) (Near-by ∙ (sym o ∙ w.0.taken)) w.2.ensures))
-    (λ w. rw (w.1, w.2) (omega arith, c.loop-j.invariant.1, rooted-skip (joins c.args.overlap c.args.limit c.args.lines.now) c.args.n c.loop-j.parents c.loop-j.parents c.args.i c.loop-j.j c.loop-j.root c.loop-j.invariant.2 (Near-by ∙ (sym o ∙ w.0.left))))
-    c.if-overlaps.branch
+    elim c.if-overlaps.branch [
+    then-overlaps w ↦ rw (w.parents-is, w.root-is) (omega arith, w.unite-root.auto.parents ∙ c.loop-j.invariant.1, rooted-join (joins c.args.overlap c.args.limit c.args.lines.now) c.args.n c.loop-j.parents w.unite-root.new.parents c.args.i c.loop-j.j c.loop-j.root w.unite-root.result c.loop-j.invariant.2 (omega arith) (omega arith) (Near-by ∙ (sym o ∙ w.if-overlaps.true)) w.unite-root.ensures)
+    | else-overlaps w ↦ rw (w.parents-is, w.root-is) (omega arith, c.loop-j.invariant.1, rooted-skip (joins c.args.overlap c.args.limit c.args.lines.now) c.args.n c.loop-j.parents c.loop-j.parents c.args.i c.loop-j.j c.loop-j.root c.loop-j.invariant.2 (Near-by ∙ (sym o ∙ w.if-overlaps.false)))
+    ]
 
 pub returns : goal.returns
 returns c = rooted-stop (joins c.args.overlap c.args.limit c.args.lines.now) c.args.n c.loop-j.parents c.loop-j.parents c.args.i c.loop-j.j c.loop-j.root c.loop-j.invariant.2 (λ b l m. absurd (omega arith))

@@ -7,6 +7,7 @@ use Rattle.grouping.proofs.ColumnWords.{Written, written_none, written-few, writ
 use native.Mathlib.Omega.{arith}
 use borrow.Author.Rules.{rules}
 use Rattle.grouping.proofs.column.write_columns.Goals as goal
+use Rattle.grouping.proofs.column.write_columns.Goals.{else-enough_cover, then-enough_cover}
 
 pub loop-x-init : goal.loop-x-init
 loop-x-init c = (zero-le, refl, written_none _ _ _)
@@ -17,10 +18,10 @@ put_column-n-requires c = let v = c.loop-x.invariant.2 in let f = written-few _ 
 pub loop-x-preserved : goal.loop-x-preserved
 loop-x-preserved c = let q = c.args in
     let e = c.enough_cover.ensures in
-    ⊎_elim
-    (λ w. rw (w.5, w.6) (omega arith, omega (arith, w.2.kept.0), written-yes q.gap _ q.out.now c.loop-x.out c.loop-x.n c.loop-x.x c.loop-x.invariant.2 w.2.last.0 w.2.result (sym e ∙ w.0.taken) w.2.ensures))
-    (λ w. rw (w.1, w.2) (omega arith, c.loop-x.invariant.1, written-no q.gap _ q.out.now c.loop-x.out c.loop-x.n c.loop-x.x c.loop-x.invariant.2 (sym e ∙ w.0.left)))
-    c.if-enough_cover.branch
+    elim c.if-enough_cover.branch [
+    then-enough_cover w ↦ rw (w.out-is, w.n-is) (omega arith, omega (arith, w.put_column-n.auto.out), written-yes q.gap _ q.out.now c.loop-x.out c.loop-x.n c.loop-x.x c.loop-x.invariant.2 w.put_column-n.new.out w.put_column-n.result (sym e ∙ w.if-enough_cover.true) w.put_column-n.ensures)
+    | else-enough_cover w ↦ rw (w.out-is, w.n-is) (omega arith, c.loop-x.invariant.1, written-no q.gap _ q.out.now c.loop-x.out c.loop-x.n c.loop-x.x c.loop-x.invariant.2 (sym e ∙ w.if-enough_cover.false))
+    ]
 
 pub returns : goal.returns
 returns c = let v = c.loop-x.invariant.2 in let e : c.loop-x.x ≡ c.args.w = omega arith in written_all _ _ _ _ _ _ _ v e

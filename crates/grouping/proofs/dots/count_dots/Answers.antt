@@ -19,7 +19,7 @@ pub overflow_add-end : goal.overflow_add-end
 overflow_add-end c = omega (arith, c.row_span-rows.ensures.last_inside, c.requires.0.page_high)
 
 pub loop-y-init : goal.loop-y-init
-loop-y-init c = ((let a = c.row_span-rows.ensures.first_inside in omega arith), count-gap (rows_start c.args.kinds.now c.args.kind c.row_span-rows.ensures c.requires.1.some_column) (count_none (passes c)))
+loop-y-init c = ((let a = c.row_span-rows.ensures.first_inside in omega arith), count-gap (rows_start c.args.kinds.now c.args.kind c.row_span-rows.ensures c.requires.1.some_column) (count_none (listed (frame_by c.args.sides c.args.shear.now c.args.shear_x.now) c.args.kinds.now c.args.kind c.args.r)))
 
 pub count_row-n-requires : goal.count_row-n-requires
 count_row-n-requires c = (c.requires.0, c.requires.1, omega (arith, c.row_span-rows.ensures.last_inside), c.loop-y.invariant.1)

@@ -22,10 +22,10 @@ pub is_listed-requires : goal.is_listed-requires
 is_listed-requires c = (c.requires.0, omega (arith, c.column_span-columns.ensures.end_inside), c.requires.2)
 
 pub overflow_add-m : goal.overflow_add-m
-overflow_add-m c = let f = count-few (passes c) (c.args.y * c.args.q.sides.page_w + c.loop-c.c) in let b = dot-below c.args.y c.loop-c.c c.args.q.sides.page_w c.args.q.sides.page_h (omega (arith, c.column_span-columns.ensures.end_inside)) c.requires.2 c.requires.0.page_wide c.requires.0.page_high in let q = bit-at-most c.is_listed.result c.one_if-m.result c.one_if-m.ensures in omega arith
+overflow_add-m c = let f = count-few (listed (frame_by c.args.q.sides c.args.shear.now c.args.shear_x.now) c.args.kinds.now c.args.q.kind c.args.q.r) (c.args.y * c.args.q.sides.page_w + c.loop-c.c) in let b = dot-below c.args.y c.loop-c.c c.args.q.sides.page_w c.args.q.sides.page_h (omega (arith, c.column_span-columns.ensures.end_inside)) c.requires.2 c.requires.0.page_wide c.requires.0.page_high in let q = bit-at-most c.is_listed.result c.one_if-m.result c.one_if-m.ensures in omega arith
 
 pub loop-c-preserved : goal.loop-c-preserved
-loop-c-preserved c = (omega (arith, c.column_span-columns.ensures.end_inside), count-dot (here c) c.args.kinds.now c.args.q.kind c.args.q.r c.loop-c.c c.args.y c.loop-c.m c.one_if-m.result (omega (arith, c.column_span-columns.ensures.end_inside)) c.loop-c.invariant.1 (c.one_if-m.ensures ∙ ap (λ (t : Bool). cond t 1 0) c.is_listed.ensures))
+loop-c-preserved c = (omega (arith, c.column_span-columns.ensures.end_inside), count-dot (frame_by c.args.q.sides c.args.shear.now c.args.shear_x.now) c.args.kinds.now c.args.q.kind c.args.q.r c.loop-c.c c.args.y c.loop-c.m c.one_if-m.result (omega (arith, c.column_span-columns.ensures.end_inside)) c.loop-c.invariant.1 (c.one_if-m.ensures ∙ ap (λ (t : Bool). cond t 1 0) c.is_listed.ensures))
 
 pub returns : goal.returns
 returns c = count-gap (row-end c.args.kinds.now c.args.q.kind c.column_span-columns.ensures c.loop-c.c (omega arith) c.loop-c.invariant.0) c.loop-c.invariant.1

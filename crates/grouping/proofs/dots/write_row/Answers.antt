@@ -15,6 +15,7 @@ use Rattle.grouping.proofs.SpanLaws.{sheared}
 use native.Mathlib.Omega.{arith}
 use borrow.Author.Rules.{rules}
 use Rattle.grouping.proofs.dots.write_row.Goals as goal
+use Rattle.grouping.proofs.dots.write_row.Goals.{else-is_listed, then-is_listed}
 
 pub column_span-columns-requires : goal.column_span-columns-requires
 column_span-columns-requires c = (sheared c.requires.0 c.requires.1, c.requires.2)
@@ -32,22 +33,22 @@ pub overflow_cast-y : goal.overflow_cast-y
 overflow_cast-y c = omega (arith, c.requires.0.page_high)
 
 pub put_dot-requires : goal.put_dot-requires
-put_dot-requires c = let e = dot-room (here c) c.args.kinds.now c.args.q.kind c.args.q.r c.loop-c.c c.args.y (omega (arith, c.column_span-columns.ensures.end_inside)) c.requires.2 (sym c.is_listed.ensures ∙ c.if-is_listed.true) in omega arith
+put_dot-requires c = let e = dot-room (frame_by c.args.q.sides c.args.shear.now c.args.shear_x.now) c.args.kinds.now c.args.q.kind c.args.q.r c.loop-c.c c.args.y (omega (arith, c.column_span-columns.ensures.end_inside)) c.requires.2 (sym c.is_listed.ensures ∙ c.if-is_listed.true) in omega arith
 
 pub overflow_add-m : goal.overflow_add-m
-overflow_add-m c = let f = count-few (passes c) (c.args.y * c.args.q.sides.page_w + c.loop-c.c) in let b = dot-below c.args.y c.loop-c.c c.args.q.sides.page_w c.args.q.sides.page_h (omega (arith, c.column_span-columns.ensures.end_inside)) c.requires.2 c.requires.0.page_wide c.requires.0.page_high in omega arith
+overflow_add-m c = let f = count-few (listed (frame_by c.args.q.sides c.args.shear.now c.args.shear_x.now) c.args.kinds.now c.args.q.kind c.args.q.r) (c.args.y * c.args.q.sides.page_w + c.loop-c.c) in let b = dot-below c.args.y c.loop-c.c c.args.q.sides.page_w c.args.q.sides.page_h (omega (arith, c.column_span-columns.ensures.end_inside)) c.requires.2 c.requires.0.page_wide c.requires.0.page_high in omega arith
 
 pub loop-c-preserved : goal.loop-c-preserved
-loop-c-preserved c = ⊎_elim
-    (λ w. let e = dot-room (here c) c.args.kinds.now c.args.q.kind c.args.q.r c.loop-c.c c.args.y (omega (arith, c.column_span-columns.ensures.end_inside)) c.requires.2 (sym c.is_listed.ensures ∙ w.0.taken) in
-    rw (w.5, w.6) (
+loop-c-preserved c = elim c.if-is_listed.branch [
+    then-is_listed w ↦ let e = dot-room (frame_by c.args.q.sides c.args.shear.now c.args.shear_x.now) c.args.kinds.now c.args.q.kind c.args.q.r c.loop-c.c c.args.y (omega (arith, c.column_span-columns.ensures.end_inside)) c.requires.2 (sym c.is_listed.ensures ∙ w.if-is_listed.true) in
+    rw (w.out-is, w.m-is) (
       omega (arith, c.column_span-columns.ensures.end_inside),
-      w.2.kept.0 ∙ c.loop-c.invariant.1,
-      count-dot-yes (here c) c.args.kinds.now c.args.q.kind c.args.q.r c.loop-c.c c.args.y (omega (arith, c.column_span-columns.ensures.end_inside)) c.loop-c.m (sym c.is_listed.ensures ∙ w.0.taken) c.loop-c.invariant.2,
-      λ s o. w.2.ensures ∙ dots-yes (here c) c.args.kinds.now c.args.q.kind c.args.q.r c.loop-c.c c.args.y (omega (arith, c.column_span-columns.ensures.end_inside)) c.loop-c.m s c.loop-c.out (sym c.is_listed.ensures ∙ w.0.taken) c.loop-c.invariant.2 (omega arith) (c.loop-c.invariant.3 s o),
-    ))
-    (λ w. rw (w.1, w.2) (omega (arith, c.column_span-columns.ensures.end_inside), c.loop-c.invariant.1, count-dot-no (here c) c.args.kinds.now c.args.q.kind c.args.q.r c.loop-c.c c.args.y (omega (arith, c.column_span-columns.ensures.end_inside)) c.loop-c.m (sym c.is_listed.ensures ∙ w.0.left) c.loop-c.invariant.2, λ s o. dots-no (here c) c.args.kinds.now c.args.q.kind c.args.q.r c.loop-c.c c.args.y (omega (arith, c.column_span-columns.ensures.end_inside)) s c.loop-c.out (sym c.is_listed.ensures ∙ w.0.left) (c.loop-c.invariant.3 s o)))
-    c.if-is_listed.branch
+      w.put_dot.auto.out ∙ c.loop-c.invariant.1,
+      count-dot-yes (frame_by c.args.q.sides c.args.shear.now c.args.shear_x.now) c.args.kinds.now c.args.q.kind c.args.q.r c.loop-c.c c.args.y (omega (arith, c.column_span-columns.ensures.end_inside)) c.loop-c.m (sym c.is_listed.ensures ∙ w.if-is_listed.true) c.loop-c.invariant.2,
+      λ s o. w.put_dot.ensures ∙ dots-yes (frame_by c.args.q.sides c.args.shear.now c.args.shear_x.now) c.args.kinds.now c.args.q.kind c.args.q.r c.loop-c.c c.args.y (omega (arith, c.column_span-columns.ensures.end_inside)) c.loop-c.m s c.loop-c.out (sym c.is_listed.ensures ∙ w.if-is_listed.true) c.loop-c.invariant.2 (omega arith) (c.loop-c.invariant.3 s o),
+    )
+    | else-is_listed w ↦ rw (w.out-is, w.m-is) (omega (arith, c.column_span-columns.ensures.end_inside), c.loop-c.invariant.1, count-dot-no (frame_by c.args.q.sides c.args.shear.now c.args.shear_x.now) c.args.kinds.now c.args.q.kind c.args.q.r c.loop-c.c c.args.y (omega (arith, c.column_span-columns.ensures.end_inside)) c.loop-c.m (sym c.is_listed.ensures ∙ w.if-is_listed.false) c.loop-c.invariant.2, λ s o. dots-no (frame_by c.args.q.sides c.args.shear.now c.args.shear_x.now) c.args.kinds.now c.args.q.kind c.args.q.r c.loop-c.c c.args.y (omega (arith, c.column_span-columns.ensures.end_inside)) s c.loop-c.out (sym c.is_listed.ensures ∙ w.if-is_listed.false) (c.loop-c.invariant.3 s o))
+    ]
 
 pub returns : goal.returns
 returns c = (count-gap (row-end c.args.kinds.now c.args.q.kind c.column_span-columns.ensures c.loop-c.c (omega arith) c.loop-c.invariant.0) c.loop-c.invariant.2, λ s o. dots-gap c.args.q.sides.page_w s c.loop-c.out (row-end c.args.kinds.now c.args.q.kind c.column_span-columns.ensures c.loop-c.c (omega arith) c.loop-c.invariant.0) (c.loop-c.invariant.3 s o))

@@ -14,4 +14,4 @@ pub returns : goal.returns
 returns c =
     let e = frame-by-words c.args.store.now _ c.float_at-slope.ensures in
     let f = c.frame_size.ensures in
-    (f.0.0 ∙ ap (λ (z : Frame). z.w) e, f.0.1 ∙ ap (λ (z : Frame). z.h) e, f.1.0, f.1.1)
+    (f.sides.0 ∙ ap (λ (z : Frame). z.w) e, f.sides.1 ∙ ap (λ (z : Frame). z.h) e, f.limits.0, f.limits.1)

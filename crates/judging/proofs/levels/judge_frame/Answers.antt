@@ -13,7 +13,7 @@ returns-then-store-store_words c = frame-short c.args.store.now _ _ c.requires.2
 pub frame_differs-differs-requires : goal.frame_differs-differs-requires
 frame_differs-differs-requires c =
     let e = sym (frame-by-words c.args.store.now _ c.float_at-slope.ensures) in
-    (point-sides c.args.store.now c.requires.1 _ c.float_at-slope.ensures, (point-within c.args.store.now c.requires.1 _ c.float_at-slope.ensures, ((c.requires.2 ∙ ap (λ (z : Frame). z.w) e, c.requires.3 ∙ ap (λ (z : Frame). z.h) e, frame-room c.args.store.now _ _ c.requires.2 c.requires.3 _ c.store_words.ensures c.if-store-store_words.false), point-held c.args.store.now c.requires.1 _ c.float_at-slope.ensures)))
+    record { sides = point-sides c.args.store.now c.requires.1 _ c.float_at-slope.ensures; slope = point-within c.args.store.now c.requires.1 _ c.float_at-slope.ensures; frame_sides = (c.requires.2 ∙ ap (λ (z : Frame). z.w) e, c.requires.3 ∙ ap (λ (z : Frame). z.h) e, frame-room c.args.store.now _ _ c.requires.2 c.requires.3 _ c.store_words.ensures c.if-store-store_words.false); as_held = point-held c.args.store.now c.requires.1 _ c.float_at-slope.ensures }
 
 pub returns : goal.returns
 returns c = frame-judged c.args.store.now _ _ c.requires.2 c.requires.3 _ c.store_words.ensures c.args.lacking c.args.bad _ _ _ _ c.if-store-store_words.false c.refuse_if.ensures c.refuse_if-by_frame.ensures c.frame_differs-differs.ensures c.refuse_if-by_bad.ensures

@@ -24,55 +24,55 @@ pub fields_below-a-requires : goal.fields_below-a-requires
 fields_below-a-requires c =
     let q = places-are _ _ _ c.result_places-places.ensures in
     let p = c.requires in
-    (omega (arith, q.3, p.0.0, p.1.3), omega arith)
+    (omega (arith, q.3, p.room.0, p.counts.3), omega arith)
 
 pub fields_below-b-requires : goal.fields_below-b-requires
 fields_below-b-requires c =
     let q = places-are _ _ _ c.result_places-places.ensures in
     let p = c.requires in
-    (omega (arith, q.4, p.0.0, p.1.4), omega arith)
+    (omega (arith, q.4, p.room.0, p.counts.4), omega arith)
 
 pub boxes_ok-c-requires : goal.boxes_ok-c-requires
 boxes_ok-c-requires c =
     let q = places-are _ _ _ c.result_places-places.ensures in
     let p = c.requires in
-    (omega (arith, q.0, p.0.0, p.1.0), omega arith)
+    (omega (arith, q.0, p.room.0, p.counts.0), omega arith)
 
 pub boxes_ok-d-requires : goal.boxes_ok-d-requires
 boxes_ok-d-requires c =
     let q = places-are _ _ _ c.result_places-places.ensures in
     let p = c.requires in
-    (omega (arith, q.1, p.0.0, p.1.1), omega arith)
+    (omega (arith, q.1, p.room.0, p.counts.1), omega arith)
 
 pub boxes_ok-e-requires : goal.boxes_ok-e-requires
 boxes_ok-e-requires c =
     let q = places-are _ _ _ c.result_places-places.ensures in
     let p = c.requires in
-    (omega (arith, q.2, p.0.0, p.1.2), omega arith)
+    (omega (arith, q.2, p.room.0, p.counts.2), omega arith)
 
 pub boxes_ok-f-requires : goal.boxes_ok-f-requires
 boxes_ok-f-requires c =
     let q = places-are _ _ _ c.result_places-places.ensures in
     let p = c.requires in
-    (omega (arith, q.3, p.0.0, p.1.3), omega arith)
+    (omega (arith, q.3, p.room.0, p.counts.3), omega arith)
 
 pub boxes_ok-g-requires : goal.boxes_ok-g-requires
 boxes_ok-g-requires c =
     let q = places-are _ _ _ c.result_places-places.ensures in
     let p = c.requires in
-    (omega (arith, q.4, p.0.0, p.1.4), omega arith)
+    (omega (arith, q.4, p.room.0, p.counts.4), omega arith)
 
 pub fields_marked-i-requires : goal.fields_marked-i-requires
 fields_marked-i-requires c =
     let q = places-are _ _ _ c.result_places-places.ensures in
     let p = c.requires in
-    (omega (arith, q.2, p.0.0, p.1.2), omega arith)
+    (omega (arith, q.2, p.room.0, p.counts.2), omega arith)
 
 pub fields_below-j-requires : goal.fields_below-j-requires
 fields_below-j-requires c =
     let q = places-are _ _ _ c.result_places-places.ensures in
     let p = c.requires in
-    (omega (arith, q.3, p.0.0, p.1.3), omega arith)
+    (omega (arith, q.3, p.room.0, p.counts.3), omega arith)
 
 pub returns : goal.returns
 returns c =

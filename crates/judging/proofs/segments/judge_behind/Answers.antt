@@ -1,3 +1,5 @@
+use mathlib.Core.Bool.{not}
+use mathlib.Core.Path.{ap}
 use native.Mathlib.Omega.{arith}
 use Rattle.judging.proofs.LimitLaws.{point-sides, point-within, point-held}
 use Rattle.judging.proofs.SegmentLaws.{behind-short, behind-dots, behind-lent, behind-ink, behind-room, behind-judged}
@@ -20,7 +22,7 @@ returns-then-lent-ne0 c = behind-lent c.args.store.now c.args.ink.now c.args.kin
 
 pub frame_differs-differs-requires : goal.frame_differs-differs-requires
 frame_differs-differs-requires c =
-    (point-sides c.args.store.now c.requires.1 _ c.float_at-slope.ensures, (point-within c.args.store.now c.requires.1 _ c.float_at-slope.ensures, ((c.frame_size-size.ensures.sides.0, c.frame_size-size.ensures.sides.1, behind-room c.args.store.now c.args.ink.now c.args.kinds c.args.scratch c.requires.1 _ c.float_at-slope.ensures _ _ c.frame_size-size.ensures.sides.0 c.frame_size-size.ensures.sides.1 _ c.store_words.ensures _ c.area-dots.ensures c.if-store-store_words.false _ c.judge_lengths-lent.ensures), point-held c.args.store.now c.requires.1 _ c.float_at-slope.ensures)))
+    record { sides = point-sides c.args.store.now c.requires.1 _ c.float_at-slope.ensures; slope = point-within c.args.store.now c.requires.1 _ c.float_at-slope.ensures; frame_sides = (c.frame_size-size.ensures.sides.0, c.frame_size-size.ensures.sides.1, behind-room c.args.store.now c.args.ink.now c.args.kinds c.args.scratch c.requires.1 _ c.float_at-slope.ensures _ _ c.frame_size-size.ensures.sides.0 c.frame_size-size.ensures.sides.1 _ c.store_words.ensures _ c.area-dots.ensures c.if-store-store_words.false _ c.judge_lengths-lent.ensures); as_held = point-held c.args.store.now c.requires.1 _ c.float_at-slope.ensures }
 
 pub ink_spoiled-requires : goal.ink_spoiled-requires
 ink_spoiled-requires c = behind-ink c.args.store.now c.args.ink.now c.args.kinds c.args.scratch c.requires.1 _ c.float_at-slope.ensures _ _ c.frame_size-size.ensures.sides.0 c.frame_size-size.ensures.sides.1 _ c.store_words.ensures _ c.area-dots.ensures c.if-store-store_words.false _ c.judge_lengths-lent.ensures c.if-lent-ne0.false

@@ -15,7 +15,7 @@ returns-then-store-words c = rest-lacking c.args.store.now c.args.ink.now c.args
 pub frame_differs-moved-requires : goal.frame_differs-moved-requires
 frame_differs-moved-requires c =
     let r = rest-room c.args.store.now c.args.ink.now c.args.kinds.now c.args.lacking c.float_at-slope.result c.float_at-slope.ensures c.frame_size-size.result.w c.frame_size-size.result.h c.frame_size-size.ensures.sides.0 c.frame_size-size.ensures.sides.1 c.area-dots.result c.area-dots.ensures c.store_words-words.result c.store_words-words.ensures c.if-store-words.false in
-    (point-sides c.args.store.now c.requires.1 c.float_at-slope.result c.float_at-slope.ensures, (point-within c.args.store.now c.requires.1 c.float_at-slope.result c.float_at-slope.ensures, ((c.frame_size-size.ensures.sides.0, c.frame_size-size.ensures.sides.1, omega (arith, r.0, c.store_words-words.ensures)), point-held c.args.store.now c.requires.1 c.float_at-slope.result c.float_at-slope.ensures)))
+    record { sides = point-sides c.args.store.now c.requires.1 c.float_at-slope.result c.float_at-slope.ensures; slope = point-within c.args.store.now c.requires.1 c.float_at-slope.result c.float_at-slope.ensures; frame_sides = (c.frame_size-size.ensures.sides.0, c.frame_size-size.ensures.sides.1, omega (arith, r.0, c.store_words-words.ensures)); as_held = point-held c.args.store.now c.requires.1 c.float_at-slope.result c.float_at-slope.ensures }
 
 pub words_ok-right-requires : goal.words_ok-right-requires
 words_ok-right-requires c =

@@ -16,8 +16,8 @@ overflow_add-base c = let h = plane-small c.loop-y.invariant in omega (arith, c.
 pub link_row-next-requires : goal.link_row-next-requires
 link_row-next-requires c = plane-ahead c.loop-y.invariant
 
-pub overflow_add-base : goal.overflow_add-base
-overflow_add-base c = let h = plane-small c.loop-y.invariant in omega (arith, c.requires.0.narrow)
+pub overflow_add-base-in-loop-y : goal.overflow_add-base-in-loop-y
+overflow_add-base-in-loop-y c = let h = plane-small c.loop-y.invariant in omega (arith, c.requires.0.narrow)
 
 pub loop-y-preserved : goal.loop-y-preserved
 loop-y-preserved c = plane-more c.loop-y.invariant c.link_row-next.result c.link_row-next.ensures.row c.loop-y-test.true c.link_row-next.new.words c.link_row-next.ensures.linked

@@ -30,8 +30,8 @@ overflow_add-i-in-loop-i-2 c = let h = four-inside c.loop-i.invariant.2 c.requir
 pub write_turn-k-requires-in-loop-i-3 : goal.write_turn-k-requires-in-loop-i-3
 write_turn-k-requires-in-loop-i-3 c = let h = four-inside c.loop-i.invariant.2 c.requires.1 c.loop-i-test.true in written-asks (written-three c.loop-i.invariant.1 c.requires.0 h c.write_turn-k.ensures c.write_turn-k-in-loop-i.ensures c.write_turn-k-in-loop-i-2.ensures) c.requires.0 h
 
-pub overflow_add-i : goal.overflow_add-i
-overflow_add-i c = let h = four-inside c.loop-i.invariant.2 c.requires.1 c.loop-i-test.true in let e = c.requires.1 in omega arith
+pub overflow_add-i-in-loop-i-3 : goal.overflow_add-i-in-loop-i-3
+overflow_add-i-in-loop-i-3 c = let h = four-inside c.loop-i.invariant.2 c.requires.1 c.loop-i-test.true in let e = c.requires.1 in omega arith
 
 pub loop-i-smaller : goal.loop-i-smaller
 loop-i-smaller c = omega (arith, c.loop-i-test.true)

@@ -22,4 +22,4 @@ overflow_add-w c = let s = sides-by-shears c.args.page_w c.args.page_h c.args.sl
 pub returns : goal.returns
 returns c = let s = sides-by-shears c.args.page_w c.args.page_h c.args.slope c.requires.sides c.requires.slope c.greatest_entry.result c.greatest_entry-2.result c.greatest_entry.ensures c.greatest_entry-2.ensures in
     let f = frame-fits c.args.page_w c.args.page_h c.args.slope c.requires.sides c.requires.slope in
-    (s, (subst (λ z. z ≤ max_frame_width) (sym s.0) f.0, subst (λ z. z ≤ max_frame_height) (sym s.1) f.1))
+    record { sides = s; limits = (subst (λ z. z ≤ max_frame_width) (sym s.0) f.0, subst (λ z. z ≤ max_frame_height) (sym s.1) f.1) }

@@ -9,4 +9,4 @@ pub overflow_sub-result : goal.overflow_sub-result
 overflow_sub-result c = words-difference-fits c.args.a c.args.b c.ranges.a.fits c.ranges.b.fits
 
 pub returns : goal.returns
-returns c = to_z-of_z w64 _ (sub-result c) ∙ words-difference c.args.a c.args.b c.ranges.a.fits c.ranges.b.fits
+returns c = to_z-of_z w64 _ (overflow_sub-result c) ∙ words-difference c.args.a c.args.b c.ranges.a.fits c.ranges.b.fits

@@ -1,6 +1,8 @@
+use mathlib.Core.Bool.{not}
+use mathlib.Core.Path.{ap}
 use native.Mathlib.Omega.{arith}
 use borrow.Author.Rules.{rules}
 use Rattle.levelling.proofs.plateaus.level_by_plateaus.Goals as goal
 
 pub level_rows-requires : goal.level_rows-requires
-level_rows-requires c = (c.requires.planes, (omega (arith, c.requires.narrow, c.plateau_ends.auto), c.plateau_ends.ensures))
+level_rows-requires c = record { planes = c.requires.planes; room = omega (arith, c.requires.narrow, c.plateau_ends.auto.ends); plateaus = c.plateau_ends.ensures }

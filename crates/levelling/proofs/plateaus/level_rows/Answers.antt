@@ -47,7 +47,7 @@ slice_bounds-level_columns-end c = omega (arith, row-end c.args.sides.w c.args.s
 
 pub level_columns-requires : goal.level_columns-requires
 level_columns-requires c = let F = c.requires.planes in
-    record { room = (F.page_size, F.columns, simp (length-take, length-drop) (omega (arith, row-end c.args.sides.w c.args.sides.h c.loop-r.r c.loop-r-test.true, c.requires.planes.out_size, c.requires.planes.inside c.loop-r.r)), c.requires.room.0); plateaus = c.requires.room.1 }
+    record { room = (F.page_size, F.columns, simp (length-take, length-drop) (omega (arith, row-end c.args.sides.w c.args.sides.h c.loop-r.r c.loop-r-test.true, c.requires.planes.out_size, c.requires.planes.inside c.loop-r.r)), c.requires.room); plateaus = c.requires.plateaus }
 
 pub slice_bounds-fill_bytes-count-in-loop-r : goal.slice_bounds-fill_bytes-count-in-loop-r
 slice_bounds-fill_bytes-count-in-loop-r c = omega (arith, c.requires.planes.inside c.loop-r.r)

@@ -11,17 +11,17 @@ use Rattle.levelling.proofs.ShearTests.{entry-is, entry-small}
 use Rattle.levelling.proofs.shears.shear_entry.Goals as goal
 
 -- what the code takes away is the entry
-difference : (c : tie.After-drift-of) → let a = c.before.args in to_z w64 (of_z w64 c.drift-of.result) -ℤ to_z w64 (of_z w64 a.least) ≡ pos (entry_of a.which a.slope a.least a.i)
+difference : (c : goal.After-drift_of) → let a = c.args in to_z w64 (of_z w64 c.drift_of.result) -ℤ to_z w64 (of_z w64 a.least) ≡ pos (entry_of a.which a.slope a.least a.i)
 difference c =
-    let a = c.before.args in
-    let drift : to_z w64 (of_z w64 c.drift-of.result) ≡ c.drift-of.result = search rules in
+    let a = c.args in
+    let drift : to_z w64 (of_z w64 c.drift_of.result) ≡ c.drift_of.result = search rules in
     let least : to_z w64 (of_z w64 a.least) ≡ a.least = search rules in
-    (λ i. (drift ∙ c.drift-of.ensures) i -ℤ least i) ∙ entry-is a.which a.slope (a.i + 1) a.least c.before.requires a.i (omega arith)
+    (λ i. (drift ∙ c.drift_of.ensures) i -ℤ least i) ∙ entry-is a.which a.slope (a.i + 1) a.least c.requires a.i (omega arith)
 
-small : (c : tie.After-drift-of) → let a = c.before.args in entry_of a.which a.slope a.least a.i < 2147483648
+small : (c : goal.After-drift_of) → let a = c.args in entry_of a.which a.slope a.least a.i < 2147483648
 small c =
-    let a = c.before.args in
-    omega (arith, entry-small a.which a.slope (a.i + 1) a.least c.before.requires a.i (omega arith))
+    let a = c.args in
+    omega (arith, entry-small a.which a.slope (a.i + 1) a.least c.requires a.i (omega arith))
 
 pub overflow_sub-result : goal.overflow_sub-result
 overflow_sub-result c = natural-fits (difference c) (small c)

@@ -59,13 +59,13 @@ overflow_add-x c = plus-word (omega (arith, c.requires.columns)) (c.type_inv.she
 pub overflow_mul-out : goal.overflow_mul-out
 overflow_mul-out c = let a = c.args in
     let inside = place_inside a.shear.now a.shear_x.now a.sides.w a.part.y (a.part.c + c.loop-i.i) (length c.loop-i.out) (omega (arith, c.requires.columns)) c.requires.rows c.requires.inside (omega (arith, c.requires.room)) in
-    let G : Fits w64 (length c.loop-i.out) = omega (arith, c.well_formed) in
+    let G : Fits w64 (length c.loop-i.out) = omega arith in
     omega (arith, inside 0, G)
 
 pub overflow_add-out : goal.overflow_add-out
 overflow_add-out c = let a = c.args in
     let inside = place_inside a.shear.now a.shear_x.now a.sides.w a.part.y (a.part.c + c.loop-i.i) (length c.loop-i.out) (omega (arith, c.requires.columns)) c.requires.rows c.requires.inside (omega (arith, c.requires.room)) in
-    let G : Fits w64 (length c.loop-i.out) = omega (arith, c.well_formed) in
+    let G : Fits w64 (length c.loop-i.out) = omega arith in
     Fits-lt (inside _) G
 
 pub bounds-out-r : goal.bounds-out-r
@@ -77,11 +77,11 @@ loop-i-preserved c = let a = c.args in (
       omega arith,
       λ page_h done s ly fits e.
           let k : a.part.c + c.loop-i.i < a.sides.page_w = omega (arith, c.requires.columns, fits.columns) in
-          ⊎_elim
-          (λ v. dot-stored a.sides.page_w page_h a.shear.now a.shear_x.now a.sides.w (length a.shear_x.now) a.fill a.page.now a.out.now fits done s a.part.y a.part.c c.loop-i.i c.loop-i.out c.if-dot-fill.out ly k (c.loop-i.invariant.1 page_h done s ly fits e) v.3)
-          (λ v. v.1 ∙ (c.loop-i.invariant.1 page_h done s ly fits e ∙ dot-passed a.sides.page_w page_h a.shear.now a.shear_x.now a.sides.w (length a.shear_x.now) a.fill a.page.now a.out.now fits done s a.part.y a.part.c c.loop-i.i ly k v.0.left))
-          c.if-dot-fill.branch,
-      elim c.if-dot-fill.branch [ then-dot-fill w ↦ ap length w.3 ∙ simp length-set c.loop-i.invariant.2 | else-dot-fill w ↦ ap length w.1 ∙ c.loop-i.invariant.2 ],
+          elim c.if-dot-fill.branch [
+            then-dot-fill v ↦ dot-stored a.sides.page_w page_h a.shear.now a.shear_x.now a.sides.w (length a.shear_x.now) a.fill a.page.now a.out.now fits done s a.part.y a.part.c c.loop-i.i c.loop-i.out c.if-dot-fill.out ly k (c.loop-i.invariant.1 page_h done s ly fits e) v.out-is
+            | else-dot-fill v ↦ v.out-is ∙ (c.loop-i.invariant.1 page_h done s ly fits e ∙ dot-passed a.sides.page_w page_h a.shear.now a.shear_x.now a.sides.w (length a.shear_x.now) a.fill a.page.now a.out.now fits done s a.part.y a.part.c c.loop-i.i ly k v.if-dot-fill.false)
+          ],
+      elim c.if-dot-fill.branch [ then-dot-fill v ↦ ap length v.out-is ∙ simp length-set c.loop-i.invariant.2 | else-dot-fill v ↦ ap length v.out-is ∙ c.loop-i.invariant.2 ],
     )
 
 pub returns : goal.returns

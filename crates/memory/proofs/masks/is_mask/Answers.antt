@@ -20,7 +20,7 @@ loop-i-preserved c =
     let i = c.loop-i.i in
     let g = greatest-more (λ k. get_or mask k 0) i in
     let v = c.loop-i.invariant.1 in
-    (omega arith, elim c.if-most-byte.branch [ then-most-byte w ↦ let t = w.0.taken in let e = w.1 in omega arith | else-most-byte w ↦ let t = w.0.left in let e = w.1 in omega arith ])
+    (omega arith, elim c.if-most-byte.branch [ then-most-byte w ↦ let t = w.if-most-byte.true in let e = w.most-is in omega arith | else-most-byte w ↦ let t = w.if-most-byte.false in let e = w.most-is in omega arith ])
 
 pub returns : goal.returns
 returns c = mask-by-greatest c.args.mask.now c.loop-i.most c.loop-i.i (omega arith) c.loop-i.invariant.1

@@ -9,10 +9,10 @@ use Rattle.novlizeb.proofs.answers.word_of.Goals as goal
 
 pub returns-in-Told : goal.returns-in-Told
 returns-in-Told c =
-    let e : c.answer-1.given.0.0 ≡ 0 + c.answer-1.given.0.0 = omega arith in
+    let e : c.in-Told.value ≡ 0 + c.in-Told.value = omega arith in
     e ∙ ap answer_word (sym c.in-Told.is)
 
 pub returns-in-Refused : goal.returns-in-Refused
 returns-in-Refused c =
-    let e : c.answer-in-Refused-1.given.0.0 * 4294967296 ≡ c.answer-in-Refused-1.given.0.0 * 4294967296 + 0 = omega arith in
+    let e : c.in-Refused.number * 4294967296 ≡ c.in-Refused.number * 4294967296 + 0 = omega arith in
     e ∙ ap answer_word (sym c.in-Refused.is)

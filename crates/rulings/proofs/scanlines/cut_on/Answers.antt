@@ -1,3 +1,5 @@
+use mathlib.Core.Bool.{not}
+use mathlib.Core.Path.{ap}
 use mathlib.Core.Path.{◌≡◌, refl}
 use mathlib.Core.Bool.{true, false}
 use native.Mathlib.Omega.{arith}
@@ -19,7 +21,7 @@ is_widened-requires c = let p = c.requires in let a = c.args in (p.0, omega arit
 
 pub returns-then-not-is_widened : goal.returns-then-not-is_widened
 returns-then-not-is_widened c =
-    (record { low = c.loop-i.invariant.0; high = c.loop-i.invariant.1; all = c.loop-i.invariant.2; stop = λ _. test-off _ _ c.is_widened.ensures c.if-not-is_widened.true }, c.loop-i.invariant.3, c.loop-i.invariant.4, c.loop-i.invariant.6)
+    (record { low = c.loop-i.invariant.0; high = c.loop-i.invariant.1; all = c.loop-i.invariant.2; stop = λ _. test-off _ _ c.is_widened.ensures (ap not c.if-not-is_widened.true) }, c.loop-i.invariant.3, c.loop-i.invariant.4, c.loop-i.invariant.6)
 
 pub cut_dot-here-requires : goal.cut_dot-here-requires
 cut_dot-here-requires c =
@@ -33,7 +35,7 @@ loop-i-preserved c =
     (
       omega arith,
       omega arith,
-      scan-more (widened_scanline a.t.sweep a.ink.now a.o) true a.from c.loop-i.i c.loop-i.invariant.2 (test_on _ _ c.is_widened.ensures c.if-not-is_widened.false),
+      scan-more (widened_scanline a.t.sweep a.ink.now a.o) true a.from c.loop-i.i c.loop-i.invariant.2 (test_on _ _ c.is_widened.ensures (ap not c.if-not-is_widened.false)),
       run-loop a.t.sweep (length a.ink.now) (is_thin a.t.sweep a.ink.now a.t.thick_max) 1 (drop a.t.marks a.words.now) (drop a.t.marks c.loop-i.words) _ a.from c.loop-i.i a.o p.0 c.loop-i.invariant.0 (omega arith) p.1 p.3.room c.loop-i.invariant.3 c.cut_dot-here.ensures.0,
       c.cut_dot-here.ensures.1,
       omega arith,

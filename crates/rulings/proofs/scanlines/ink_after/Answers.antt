@@ -1,3 +1,5 @@
+use mathlib.Core.Bool.{not}
+use mathlib.Core.Path.{ap}
 use mathlib.Core.Path.{◌≡◌}
 use Prim.Native.Nat.{◌+◌, ◌-◌, ◌≤◌}
 use native.Mathlib.Omega.{arith}
@@ -25,13 +27,13 @@ pub returns-then-not-is_ink : goal.returns-then-not-is_ink
 returns-then-not-is_ink c =
     let a = c.args in
     let e = c.min_usize-end.ensures in
-    ahead-blank (plane_of a.g a.ink.now a.i) a.o (a.g.outer - a.o) c.loop-n.n a.most (omega arith) (test-off _ _ c.is_ink.ensures c.if-not-is_ink.true) c.loop-n.invariant.1
+    ahead-blank (plane_of a.g a.ink.now a.i) a.o (a.g.outer - a.o) c.loop-n.n a.most (omega arith) (test-off _ _ c.is_ink.ensures (ap not c.if-not-is_ink.true)) c.loop-n.invariant.1
 
 pub loop-n-preserved : goal.loop-n-preserved
 loop-n-preserved c =
     let a = c.args in
     let e = c.min_usize-end.ensures in
-    (omega arith, ahead_step (plane_of a.g a.ink.now a.i) a.o (a.g.outer - a.o) c.loop-n.n (omega arith) (test_on _ _ c.is_ink.ensures c.if-not-is_ink.false) c.loop-n.invariant.1)
+    (omega arith, ahead_step (plane_of a.g a.ink.now a.i) a.o (a.g.outer - a.o) c.loop-n.n (omega arith) (test_on _ _ c.is_ink.ensures (ap not c.if-not-is_ink.false)) c.loop-n.invariant.1)
 
 pub returns : goal.returns
 returns c =

@@ -1,3 +1,4 @@
+use mathlib.Core.Bool.{not}
 use mathlib.Core.Path.{◌≡◌, ap}
 use Prim.Native.Nat.{◌+◌, ◌-◌, ◌≤◌}
 use native.Mathlib.Omega.{arith}
@@ -27,13 +28,13 @@ pub returns-then-not-is_ink : goal.returns-then-not-is_ink
 returns-then-not-is_ink c =
     let a = c.args in
     let e = c.min_usize-end.ensures in
-    behind-blank (plane_of a.g a.ink.now a.i) a.o c.loop-n.n a.most (omega arith) (omega arith) (test-off _ _ c.is_ink.ensures c.if-not-is_ink.true) c.loop-n.invariant.1
+    behind-blank (plane_of a.g a.ink.now a.i) a.o c.loop-n.n a.most (omega arith) (omega arith) (test-off _ _ c.is_ink.ensures (ap not c.if-not-is_ink.true)) c.loop-n.invariant.1
 
 pub loop-n-preserved : goal.loop-n-preserved
 loop-n-preserved c =
     let a = c.args in
     let e = c.min_usize-end.ensures in
-    (omega arith, behind-step (plane_of a.g a.ink.now a.i) a.o c.loop-n.n (omega arith) (test_on _ _ c.is_ink.ensures c.if-not-is_ink.false) c.loop-n.invariant.1)
+    (omega arith, behind-step (plane_of a.g a.ink.now a.i) a.o c.loop-n.n (omega arith) (test_on _ _ c.is_ink.ensures (ap not c.if-not-is_ink.false)) c.loop-n.invariant.1)
 
 pub returns : goal.returns
 returns c =

@@ -1,3 +1,5 @@
+use mathlib.Core.Bool.{not}
+use mathlib.Core.Path.{ap}
 use native.Mathlib.Omega.{arith}
 use mathlib.Core.Path.{◌≡◌}
 use mathlib.Core.Bool.{true}
@@ -15,10 +17,10 @@ pub is_widened-requires : goal.is_widened-requires
 is_widened-requires c = let p = c.requires in (p.0, omega arith, p.1)
 
 pub returns-then-not-is_widened : goal.returns-then-not-is_widened
-returns-then-not-is_widened c = record { low = c.loop-s.invariant.0; high = c.loop-s.invariant.1; all = c.loop-s.invariant.2; stop = λ k a b. back-stop (widened_scanline c.args.g c.args.ink.now c.args.o) c.loop-s.s k (test-off _ _ c.is_widened.ensures c.if-not-is_widened.true) b }
+returns-then-not-is_widened c = record { low = c.loop-s.invariant.0; high = c.loop-s.invariant.1; all = c.loop-s.invariant.2; stop = λ k a b. back-stop (widened_scanline c.args.g c.args.ink.now c.args.o) c.loop-s.s k (test-off _ _ c.is_widened.ensures (ap not c.if-not-is_widened.true)) b }
 
 pub loop-s-preserved : goal.loop-s-preserved
-loop-s-preserved c = (omega arith, omega arith, back_more (widened_scanline c.args.g c.args.ink.now c.args.o) c.loop-s.s c.args.to c.loop-s.invariant.2 (test_on _ _ c.is_widened.ensures c.if-not-is_widened.false))
+loop-s-preserved c = (omega arith, omega arith, back_more (widened_scanline c.args.g c.args.ink.now c.args.o) c.loop-s.s c.args.to c.loop-s.invariant.2 (test_on _ _ c.is_widened.ensures (ap not c.if-not-is_widened.false)))
 
 pub returns : goal.returns
 returns c = record { low = c.loop-s.invariant.0; high = c.loop-s.invariant.1; all = c.loop-s.invariant.2; stop = λ k a b. absurd (omega arith) }

@@ -23,7 +23,7 @@ pub overflow_add-n : goal.overflow_add-n
 overflow_add-n c = let a = boxes-below c.args.words.now c.args.kinds c.args.kind c.args.sizes c.loop-k.k c.args.count (omega arith) c.if-words-kinds.true in let n = c.loop-k.invariant.1.count in let p = c.requires.2 in omega arith
 
 pub loop-k-preserved : goal.loop-k-preserved
-loop-k-preserved c = (omega arith, elim c.if-words-kinds.branch [ then-words-kinds w ↦ rw (w.6, w.7) (subst (λ z. BoxesWritten z c.args.out.now w.3.last.0 (c.loop-k.n + 1)) (sym (boxes-more c.args.words.now c.args.kinds c.args.kind c.args.sizes c.loop-k.k w.0.taken)) (box-more c.loop-k.invariant.1 (size_box c.args.words.now c.args.sizes c.loop-k.k) w.2.result w.3.last.0 (let a = boxes-below c.args.words.now c.args.kinds c.args.kind c.args.sizes c.loop-k.k c.args.count (omega arith) w.0.taken in let n = c.loop-k.invariant.1.count in let p = c.requires.2 in omega arith) w.2.ensures w.3.ensures)) | else-words-kinds w ↦ rw (w.1, w.2) (subst (λ z. BoxesWritten z c.args.out.now c.loop-k.out c.loop-k.n) (sym (boxes-same c.args.words.now c.args.kinds c.args.kind c.args.sizes c.loop-k.k w.0.left)) c.loop-k.invariant.1) ])
+loop-k-preserved c = (omega arith, elim c.if-words-kinds.branch [ then-words-kinds w ↦ rw (w.out-is, w.n-is) (subst (λ z. BoxesWritten z c.args.out.now w.put_box.new.words (c.loop-k.n + 1)) (sym (boxes-more c.args.words.now c.args.kinds c.args.kind c.args.sizes c.loop-k.k w.if-words-kinds.true)) (box-more c.loop-k.invariant.1 (size_box c.args.words.now c.args.sizes c.loop-k.k) w.size_box.result w.put_box.new.words (let a = boxes-below c.args.words.now c.args.kinds c.args.kind c.args.sizes c.loop-k.k c.args.count (omega arith) w.if-words-kinds.true in let n = c.loop-k.invariant.1.count in let p = c.requires.2 in omega arith) w.size_box.ensures w.put_box.ensures)) | else-words-kinds w ↦ rw (w.out-is, w.n-is) (subst (λ z. BoxesWritten z c.args.out.now c.loop-k.out c.loop-k.n) (sym (boxes-same c.args.words.now c.args.kinds c.args.kind c.args.sizes c.loop-k.k w.if-words-kinds.false)) c.loop-k.invariant.1) ])
 
 pub returns : goal.returns
 returns c = (c.loop-k.invariant.1.count ∙ ap (λ z. length (held_boxes c.args.words.now c.args.sizes c.args.kinds c.args.kind z)) (let e : c.loop-k.k ≡ c.args.count = omega arith in e), c.loop-k.invariant.1.list ∙ ap (λ z. over (encoded box_words (held_boxes c.args.words.now c.args.sizes c.args.kinds c.args.kind z)) c.args.out.now) (let e : c.loop-k.k ≡ c.args.count = omega arith in e))

@@ -14,7 +14,7 @@ pub sort_ink-requires : goal.sort_ink-requires
 sort_ink-requires c = let R = c.requires in rw c.plan_of-plan.ensures (R.plane, planned _ _ _)
 
 pub segment_sorted-requires : goal.segment_sorted-requires
-segment_sorted-requires c = let a = c.args in let R = c.requires in let e = c.plan_of-plan.ensures in let L = rw e at c.sort_ink.ensures in let T = subst (λ (r : SortAnswer). sort_left r a.sheet a.width a.height a.ink.now a.capacity c.sort_ink.new.words) c.in-Sorted.is L.1 in rw e (sorted-ask R c.sort_ink.new.words c.found-1.given.0.0 L.0 T, planned _ _ _)
+segment_sorted-requires c = let a = c.args in let R = c.requires in let e = c.plan_of-plan.ensures in let L = rw e at c.sort_ink.ensures in let T = subst (λ (r : SortAnswer). sort_left r a.sheet a.width a.height a.ink.now a.capacity c.sort_ink.new.words) c.in-Sorted.is L.1 in rw e (sorted-ask R c.sort_ink.new.words c.in-Sorted.found L.0 T, planned _ _ _)
 
 pub returns-in-TooMany : goal.returns-in-TooMany
 returns-in-TooMany c = let a = c.args in let R = c.requires in let e = c.plan_of-plan.ensures in let L = rw e at c.sort_ink.ensures in let T = subst (λ (r : SortAnswer). sort_left r a.sheet a.width a.height a.ink.now a.capacity c.sort_ink.new.words) c.in-TooMany.is L.1 in (L.0, sorted-many a.sheet a.width a.height a.ink.now a.capacity a.results.now a.plane.now T)

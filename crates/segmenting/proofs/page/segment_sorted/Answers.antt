@@ -15,7 +15,7 @@ paint_kinds-requires c =
     let a = c.args in let R = c.requires.0 in let K = c.requires.1 in let S = smears-ask R c.value-unit.ensures in
     let L = c.find_smears.ensures a.ink.now S R.held.figures.components_is in
     let T = subst (λ (r : SmearsAnswer). smears_left r a.sheet a.plan.width a.plan.height a.ink.now a.plan.capacity c.find_smears.new.words a.found.runs) c.in-Found.is L.1 in
-    let U = results-ask R c.find_smears.new.words c.smears-1.given.0.0 L.0 T in
+    let U = results-ask R c.find_smears.new.words c.in-Found.smears L.0 T in
     (a.plan.width, a.plan.height, (ink_after_cut a.sheet a.plan.width a.plan.height a.ink.now), rw K.kinds_is (paint-ask U a.plane.now R.room.kinds_room))
 
 pub write_results-figures-requires : goal.write_results-figures-requires
@@ -23,7 +23,7 @@ write_results-figures-requires c =
     let a = c.args in let R = c.requires.0 in let K = c.requires.1 in let S = smears-ask R c.value-unit.ensures in
     let L = c.find_smears.ensures a.ink.now S R.held.figures.components_is in
     let T = subst (λ (r : SmearsAnswer). smears_left r a.sheet a.plan.width a.plan.height a.ink.now a.plan.capacity c.find_smears.new.words a.found.runs) c.in-Found.is L.1 in
-    let U = results-ask R c.find_smears.new.words c.smears-1.given.0.0 L.0 T in
+    let U = results-ask R c.find_smears.new.words c.in-Found.smears L.0 T in
     (a.ink.now, U, K)
 
 pub returns-in-TooMany : goal.returns-in-TooMany
@@ -37,7 +37,7 @@ returns-in-Found c =
     let a = c.args in let R = c.requires.0 in let K = c.requires.1 in let S = smears-ask R c.value-unit.ensures in
     let L = c.find_smears.ensures a.ink.now S R.held.figures.components_is in
     let T = subst (λ (r : SmearsAnswer). smears_left r a.sheet a.plan.width a.plan.height a.ink.now a.plan.capacity c.find_smears.new.words a.found.runs) c.in-Found.is L.1 in
-    let U = results-ask R c.find_smears.new.words c.smears-1.given.0.0 L.0 T in
+    let U = results-ask R c.find_smears.new.words c.in-Found.smears L.0 T in
     let E = c.write_results-figures.ensures a.ink.now U in (
       c.write_results-figures.auto.words ∙ L.0,
       page-segmented a.sheet a.plan.width a.plan.height a.ink.now a.plan.capacity a.results.now a.plane.now R.held.few T.few T.few_lines c.write_results-figures.result _ _ E.0 E.1

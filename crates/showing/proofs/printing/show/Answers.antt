@@ -24,7 +24,7 @@ slice_bounds-show_page-end c =
     let s = c.args.input.now in
     let d = dots-small s _ _ _ _ (says s _ _ _ _ (sym c.parse_page.ensures.0 ∙ c.in-Page.is)) in
     let l = c.parse_page.auto.mask in
-    sym (length-take-le (c.width-1.given.0.0 * c.width-1.given.0.1.0) c.parse_page.new.mask (omega arith))
+    sym (length-take-le (c.in-Page.width * c.in-Page.height) c.parse_page.new.mask (omega arith))
 
 pub show_page-requires : goal.show_page-requires
 show_page-requires c =

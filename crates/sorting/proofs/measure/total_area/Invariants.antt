@@ -7,7 +7,7 @@ use Rattle.sorting.proofs.AreaLaws.{areas-none, areas-more, areas-fit}
 use Rattle.sorting.proofs.measure.total_area.Given as goal
 
 abbrev pub invariant-loop-k : goal.invariant-loop-k
-invariant-loop-k l = (k ≤ l.count) × (l.sum ≡ total (table (λ k. (sized_at l.words l.sizes k).area) k))
+invariant-loop-k l = (l.k ≤ l.count) × (l.sum ≡ total (table (λ k. (sized_at l.words l.sizes k).area) l.k))
 
 abbrev pub decreases-loop-k : goal.decreases-loop-k
 decreases-loop-k l = l.count - l.k

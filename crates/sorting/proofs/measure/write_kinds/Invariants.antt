@@ -14,7 +14,7 @@ use Rattle.sorting.proofs.HeightLaws.{box-fits}
 use Rattle.sorting.proofs.measure.write_kinds.Given as goal
 
 abbrev pub invariant-loop-k : goal.invariant-loop-k
-invariant-loop-k l = (k ≤ l.count) × (Stored (λ k. kind_of l.sheet (unit_value l.unit) l.plan.width l.plan.height (sized_at l.initial.words l.plan.sizes k)) l.plan.kinds k l.initial.words l.words)
+invariant-loop-k l = (l.k ≤ l.count) × (Stored (λ k. kind_of l.sheet (unit_value l.unit) l.plan.width l.plan.height (sized_at l.initial.words l.plan.sizes k)) l.plan.kinds l.k l.initial.words l.words)
 
 abbrev pub decreases-loop-k : goal.decreases-loop-k
 decreases-loop-k l = l.count - l.k

@@ -89,4 +89,4 @@ returns-in-Cut c =
     let X = c.sort_rest.ensures in
     let s = c.label_cuts.new.words in
     let T = subst (λ (r : CutAnswer). cuts_left r (run_min a.sheet c.value.result) (thick_max a.sheet c.value.result) a.plan.width a.plan.height a.ink.now a.plan.capacity s) c.in-Cut.is (K.1 _ _ C.marked) in
-    (X.0 ∙ (K.0 ∙ C.within.len), first_done a.sheet c.requires.0 c.requires.1 c.value.result c.value.ensures C c.cuts-1.given.0.0 T _ X.0 c.sort_rest.result X.1)
+    (X.0 ∙ (K.0 ∙ C.within.len), first_done a.sheet c.requires.0 c.requires.1 c.value.result c.value.ensures C c.in-Cut.cuts T _ X.0 c.sort_rest.result X.1)

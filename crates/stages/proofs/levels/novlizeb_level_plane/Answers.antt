@@ -1,3 +1,5 @@
+use mathlib.Core.Bool.{not}
+use mathlib.Core.Path.{ap}
 use native.Mathlib.Omega.{arith}
 use Rattle.stages.proofs.LevelLaws.{limits-held, lent-held, outside, too_short, moved}
 use borrow.Author.Rules.{rules}
@@ -6,33 +8,33 @@ use Rattle.stages.proofs.levels.novlizeb_level_plane.Goals as goal
 -- `stages::levels::novlizeb_level_plane` meets its contract: outside the limits, too short, or moved. Assumes nothing.
 
 pub returns-then-not-in_limits : goal.returns-then-not-in_limits
-returns-then-not-in_limits c = outside _ _ _ _ _ _ _ c.in_limits.result c.in_limits.ensures c.if-not-in_limits.true
+returns-then-not-in_limits c = outside _ _ _ _ _ _ _ c.in_limits.result c.in_limits.ensures (ap not c.if-not-in_limits.true)
 
 pub frame_size-size-requires : goal.frame_size-size-requires
 frame_size-size-requires c =
-    let l = limits-held _ _ _ c.in_limits.result c.in_limits.ensures c.if-not-in_limits.false in
+    let l = limits-held _ _ _ c.in_limits.result c.in_limits.ensures (ap not c.if-not-in_limits.false) in
     record { sides = l.sides; slope = l.one }
 
 pub lent_fits-requires : goal.lent_fits-requires
 lent_fits-requires c =
-    let l = limits-held _ _ _ c.in_limits.result c.in_limits.ensures c.if-not-in_limits.false in
+    let l = limits-held _ _ _ c.in_limits.result c.in_limits.ensures (ap not c.if-not-in_limits.false) in
     let z = c.frame_size-size.ensures.limits in
     (l.sides.w_fits, l.sides.h_fits, z.0, z.1)
 
 pub returns-then-not-lent_fits : goal.returns-then-not-lent_fits
 returns-then-not-lent_fits c =
     let z = c.frame_size-size.ensures.sides in
-    too_short _ _ _ _ _ _ _ _ _ c.in_limits.result c.lent_fits.result c.in_limits.ensures c.if-not-in_limits.false z.0 z.1 c.lent_fits.ensures c.if-not-lent_fits.true
+    too_short _ _ _ _ _ _ _ _ _ c.in_limits.result c.lent_fits.result c.in_limits.ensures (ap not c.if-not-in_limits.false) z.0 z.1 c.lent_fits.ensures (ap not c.if-not-lent_fits.true)
 
 pub level-requires : goal.level-requires
 level-requires c =
-    let l = limits-held _ _ _ c.in_limits.result c.in_limits.ensures c.if-not-in_limits.false in
+    let l = limits-held _ _ _ c.in_limits.result c.in_limits.ensures (ap not c.if-not-in_limits.false) in
     let z = c.frame_size-size.ensures.sides in
-    let n = lent-held _ _ _ _ _ _ _ c.lent_fits.result c.lent_fits.ensures c.if-not-lent_fits.false in
-    (l.sides, (l.one, (z, (n.whole, n.words, n.bytes))))
+    let n = lent-held _ _ _ _ _ _ _ c.lent_fits.result c.lent_fits.ensures (ap not c.if-not-lent_fits.false) in
+    record { sides = l.sides; slope = l.one; frame_sides = z; room = (n.whole, n.words, n.bytes) }
 
 pub returns : goal.returns
 returns c =
     let z = c.frame_size-size.ensures.sides in
     let m = c.level.ensures in
-    moved _ _ _ _ _ _ _ _ _ c.in_limits.result c.lent_fits.result _ _ c.in_limits.ensures c.if-not-in_limits.false z.0 z.1 c.lent_fits.ensures c.if-not-lent_fits.false m.0 m.1
+    moved _ _ _ _ _ _ _ _ _ c.in_limits.result c.lent_fits.result _ _ c.in_limits.ensures (ap not c.if-not-in_limits.false) z.0 z.1 c.lent_fits.ensures (ap not c.if-not-lent_fits.false) m.0 m.1

@@ -51,4 +51,4 @@ returns-in-TooMany c =
 pub returns-in-Sorted : goal.returns-in-Sorted
 returns-in-Sorted c =
     rw c.scratch_words-need.ensures
-    (let a = c.args in sort-done a.sheet a.w a.h a.ink.now a.capacity a.words.now a.figures.now c.judge_plane-plane.result c.judge_plane-plane.ensures c.if-plane-ne0.false c.judge_sort-lent.result c.judge_sort-lent.ensures c.if-lent-ne0.false c.sort_by_plan.new.words (rw c.scratch_words-need.ensures at c.sort_by_plan.auto.words) c.found-1.given.0.0 c.write_sorting.new.figures (subst (λ (r : SortAnswer). sort_left r a.sheet a.w a.h a.ink.now a.capacity c.sort_by_plan.new.words) c.in-Sorted.is c.sort_by_plan.ensures.1) c.write_sorting.ensures)
+    (let a = c.args in sort-done a.sheet a.w a.h a.ink.now a.capacity a.words.now a.figures.now c.judge_plane-plane.result c.judge_plane-plane.ensures c.if-plane-ne0.false c.judge_sort-lent.result c.judge_sort-lent.ensures c.if-lent-ne0.false c.sort_by_plan.new.words (rw c.scratch_words-need.ensures at c.sort_by_plan.auto.words) c.in-Sorted.found c.write_sorting.new.figures (subst (λ (r : SortAnswer). sort_left r a.sheet a.w a.h a.ink.now a.capacity c.sort_by_plan.new.words) c.in-Sorted.is c.sort_by_plan.ensures.1) c.write_sorting.ensures)

@@ -54,6 +54,6 @@ returns-in-TooMany c =
 pub returns-in-Cut : goal.returns-in-Cut
 returns-in-Cut c =
     rw c.scratch_words-need.ensures
-    (let a = c.args in let f = c.cuts-1.given.0.0 in
+    (let a = c.args in let f = c.in-Cut.cuts in
     cut-done a.run_min a.thick_max a.width a.height a.ink.now a.capacity a.words.now a.counts.now c.judge_frame-frame.result c.judge_frame-frame.ensures c.if-frame-ne0.false c.refuse_if-by_counts.result c.judge_room-room.result c.refuse_if-by_counts.ensures c.judge_room-room.ensures c.if-room-ne0.false c.label_rulings.new.words (rw c.scratch_words-need.ensures at c.label_rulings.auto.words) f c.write_counts.new.counts
     (subst (λ (k : ℕ). CutsHeld k a.thick_max a.width a.height a.ink.now a.capacity c.label_rulings.new.words f) c.at_least_two-run.ensures (subst (λ (r : CutAnswer). cuts_left r c.at_least_two-run.result a.thick_max a.width a.height a.ink.now a.capacity c.label_rulings.new.words) c.in-Cut.is c.label_rulings.ensures.1)) c.write_counts.ensures)

@@ -1,3 +1,4 @@
+use mathlib.Core.Bool.{not}
 use native.Mathlib.Omega.{arith}
 use mathlib.Core.Path.{ap, ◌∙◌}
 use Prim.Native.Nat.{◌-◌}
@@ -12,14 +13,14 @@ use Rattle.stages.proofs.sorting_parts.novlizeb_thin_rulings.Goals as goal
 pub returns-then-not-rulings_fit : goal.returns-then-not-rulings_fit
 returns-then-not-rulings_fit c =
     let a = c.args in
-    rulings-refused (rulings_fit (length a.ink.now) a.width a.height a.run_min (length a.words.now - a.marks) a.marks) _ _ _ _ _ _ _ c.rulings_fit.result (c.rulings_fit.ensures ∙ ap (λ k. rulings_fit (length a.ink.now) a.width a.height a.run_min k a.marks) c.words_behind-behind.ensures) c.if-not-rulings_fit.true
+    rulings-refused (rulings_fit (length a.ink.now) a.width a.height a.run_min (length a.words.now - a.marks) a.marks) _ _ _ _ _ _ _ c.rulings_fit.result (c.rulings_fit.ensures ∙ ap (λ k. rulings_fit (length a.ink.now) a.width a.height a.run_min k a.marks) c.words_behind-behind.ensures) (ap not c.if-not-rulings_fit.true)
 
 pub mark_rulings-requires : goal.mark_rulings-requires
 mark_rulings-requires c =
     let a = c.args in
-    rulings-held (length a.ink.now) a.width a.height a.run_min a.marks (length a.words.now) c.rulings_fit.result (omega (arith, c.ranges.marks.fits)) (c.rulings_fit.ensures ∙ ap (λ k. rulings_fit (length a.ink.now) a.width a.height a.run_min k a.marks) c.words_behind-behind.ensures) c.if-not-rulings_fit.false
+    rulings-held (length a.ink.now) a.width a.height a.run_min a.marks (length a.words.now) c.rulings_fit.result (omega (arith, c.ranges.marks.fits)) (c.rulings_fit.ensures ∙ ap (λ k. rulings_fit (length a.ink.now) a.width a.height a.run_min k a.marks) c.words_behind-behind.ensures) (ap not c.if-not-rulings_fit.false)
 
 pub returns : goal.returns
 returns c =
     let a = c.args in
-    rulings-marked (rulings_fit (length a.ink.now) a.width a.height a.run_min (length a.words.now - a.marks) a.marks) _ _ _ _ _ _ _ c.rulings_fit.result (c.rulings_fit.ensures ∙ ap (λ k. rulings_fit (length a.ink.now) a.width a.height a.run_min k a.marks) c.words_behind-behind.ensures) _ c.if-not-rulings_fit.false c.mark_rulings.ensures.marked
+    rulings-marked (rulings_fit (length a.ink.now) a.width a.height a.run_min (length a.words.now - a.marks) a.marks) _ _ _ _ _ _ _ c.rulings_fit.result (c.rulings_fit.ensures ∙ ap (λ k. rulings_fit (length a.ink.now) a.width a.height a.run_min k a.marks) c.words_behind-behind.ensures) _ (ap not c.if-not-rulings_fit.false) c.mark_rulings.ensures.marked

@@ -11,8 +11,8 @@ pub move_page-requires : goal.move_page-requires
 move_page-requires c =
     let p = c.requires in
     let st = c.args.store.now in
-    let n = p.1.1.1 in
-    (p.0, (p.1.0, (p.1.1.0, (n.0, (let e = part_length 64 st in let l = n.1 in omega arith), n.2))))
+    let n = p.room in
+    record { sides = p.sides; slope = p.slope; frame_sides = p.frame_sides; room = (n.0, (let e = part_length 64 st in let l = n.1 in omega arith), n.2) }
 
 pub returns : goal.returns
 returns c =

@@ -12,21 +12,21 @@ use Rattle.store.proofs.leaves.move_page.Goals as goal
 pub fill_shears-requires : goal.fill_shears-requires
 fill_shears-requires c =
     let p = c.requires in
-    let e = p.1.1.0.1 in
-    let n = p.1.1.1.1 in
-    (p.0, (p.1.0, omega arith))
+    let e = p.frame_sides.1 in
+    let n = p.room.1 in
+    record { sides = p.sides; slope = p.slope; room = omega arith }
 
 pub level_plane-requires : goal.level_plane-requires
 level_plane-requires c =
-    let e = c.requires.slope.1.0 in
-    let n = c.requires.slope.1.1 in
-    (parts-fit _ _ _ _ _ _ _ _ _ c.requires.sides c.requires.slope.0 c.fill_shears.ensures e.0 e.1 n.0 n.2, c.requires.sides.w_fits)
+    let e = c.requires.frame_sides in
+    let n = c.requires.room in
+    (parts-fit _ _ _ _ _ _ _ _ _ c.requires.sides c.requires.slope c.fill_shears.ensures e.0 e.1 n.0 n.2, c.requires.sides.w_fits)
 
 pub returns : goal.returns
 returns c =
-    let e = c.requires.slope.1.0 in
+    let e = c.requires.frame_sides in
     let s = c.fill_shears.ensures in (
       s,
       c.level_plane.ensures
-          ∙ ap (λ (f : Frame). over (levelled f 0 c.args.mask.now) c.args.ink.now) (parts_are _ _ _ _ _ _ _ c.requires.sides c.requires.slope.0 s e.0 e.1),
+          ∙ ap (λ (f : Frame). over (levelled f 0 c.args.mask.now) c.args.ink.now) (parts_are _ _ _ _ _ _ _ c.requires.sides c.requires.slope s e.0 e.1),
     )

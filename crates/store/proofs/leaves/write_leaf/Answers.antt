@@ -14,8 +14,8 @@ use Rattle.store.proofs.leaves.write_leaf.Goals as goal
 pub move_mask-requires : goal.move_mask-requires
 move_mask-requires c =
     let p = c.requires in
-    let n = p.1.1.1 in
-    (p.0, (p.1.0, (p.1.1.0, (n.0, (let e = ap length c.write_head.ensures ∙ length_over (1 ∷ head_words c.args.a.page_w c.args.a.page_h c.args.a.w c.args.a.h c.args.a.capacity c.args.a.skew c.args.a.slope) c.args.store.now (let l = n.1 in omega arith) in let l = n.1 in omega arith), n.2))))
+    let n = p.room in
+    record { sides = p.sides; slope = p.slope; frame_sides = p.frame_sides; room = (n.0, (let e = ap length c.write_head.ensures ∙ length_over (1 ∷ head_words c.args.a.page_w c.args.a.page_h c.args.a.w c.args.a.h c.args.a.capacity c.args.a.skew c.args.a.slope) c.args.store.now (let l = n.1 in omega arith) in let l = n.1 in omega arith), n.2) }
 
 pub returns : goal.returns
 returns c =

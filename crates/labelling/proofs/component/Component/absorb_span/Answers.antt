@@ -6,7 +6,7 @@ use borrow.Author.Rules.{rules}
 use Rattle.labelling.proofs.component.Component.absorb_span.Goals as goal
 
 pub absorb-ends-requires : goal.absorb-ends-requires
-absorb-ends-requires c = let e = c.absorb.ensures in let e₁ = ap (λ z. z.area) e in let e₂ = ap (λ z. z.sum_x) e in let e₃ = ap (λ z. z.sum_y) e in let p = c.requires in (omega arith, (omega arith, omega arith))
+absorb-ends-requires c = let e = c.absorb.ensures in let e₁ = ap (λ z. z.area) e in let e₂ = ap (λ z. z.sum_x) e in let e₃ = ap (λ z. z.sum_y) e in let p = c.requires in record { area = omega arith; sum_x = omega arith; sum_y = omega arith }
 
 pub overflow_mul-result : goal.overflow_mul-result
 overflow_mul-result c = let p = c.requires in let h = between-small c.args.dots c.args.y (2 ^ 30) (omega arith) (omega arith) in omega arith
