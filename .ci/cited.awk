@@ -17,7 +17,7 @@ FILENAME ~ /crates\.txt$/ { if ($0 !~ /^#/ && index($0, ":")) { sub(/:.*/, ""); 
                 continue
             }
             if (crate == "") continue
-            if (w ~ /^[A-Z][A-Za-z]*\.[A-Za-z][A-Za-z0-9-]*$/) { split(w, part, "."); print FNR, crate, "law", part[1], part[2] }
+            if (w ~ /^[A-Z][A-Za-z]*\.[A-Za-z][A-Za-z0-9_-]*$/) { split(w, part, "."); print FNR, crate, "law", part[1], part[2] }
             else if (w ~ /^[a-z_]+\/$/) print FNR, crate, "folder", "-", substr(w, 1, length(w) - 1)
             else if (w ~ /^[A-Z][A-Za-z]*Laws$/) print FNR, crate, "file", "-", w
         }

@@ -8,10 +8,10 @@ FNR == 1 { split("", stage); entry = "" }
     for (i = 1; i <= n; i++) stage[each[i]] = 1
 }
 /^ *pub (extern "C" )?fn / { entry = $0; promise = ""; demands = 0; next }
-entry != "" && /requires \{/ { demands = 1 }
-entry != "" && /(ensures|requires) [a-z]* ?\{|⌜/ { promise = promise " " $0 }
+entry != "" && /requires ([a-z0-9_]* )?\{/ { demands = 1 }
+entry != "" && /(ensures|requires) ([a-z0-9_]* )?\{/ { promise = promise " " $0 }
 entry != "" && /^ *\{$/ {
-    gsub(/[][(){}.,;⌜⌝]/, " ", promise)
+    gsub(/[][(){}.,;]/, " ", promise)
     n = split(promise, word, / +/)
     for (i = 1; i <= n && !demands; i++)
         if (word[i] in stage) { print FILENAME ": " entry " names " word[i]; found = 1; break }

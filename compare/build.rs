@@ -1,4 +1,4 @@
-//! Links this project's static libraries, `libstages.a` and `libnovlizeb.a`, which `rt staticlib` makes of the crates stages and
+//! Links this project's static libraries, `libstages.a` and `libnovlizeb.a`, which `tools/staticlib` makes of the crates stages_c and
 //! novlizeb. Only their exports are seen from outside, and no two have one name. Their folder is the variable NOVLIZEB_LIB, or else
 //! `target/staticlib` of the project.
 
@@ -13,7 +13,7 @@ fn main() {
         let archive = folder.join(format!("lib{name}.a"));
         if !archive.is_file() {
             panic!(
-                "{} is not there: run `rt staticlib {name}` first, or compare/run",
+                "{} is not there: run compare/build first, or compare/run",
                 archive.display()
             );
         }

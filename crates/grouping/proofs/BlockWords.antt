@@ -1,13 +1,13 @@
 -- The records of the blocks in lent words, with one line more.
 use mathlib.Core.Path.{◌≡◌, refl, sym, ap, ◌∙◌, subst}
-use mathlib.Core.Bool.{Bool, true, false, cond}
+use mathlib.Core.Bool.{true, false}
 use mathlib.Core.List.{List, [], ◌∷◌, ◌++◌, map, append_assoc}
 use Prim.Native.Nat.{ℕ, zero, suc, ◌+◌, ◌-◌, ◌*◌, ◌≤◌, ◌<◌, min, max}
-use native.Mathlib.Nat.{le_refl, not-suc-le-zero, mul-le-mul_right, suc-mul}
+use native.Mathlib.Nat.{le_refl}
 use native.Mathlib.Decide.{ℕ_discrete}
 use native.Mathlib.Omega.{arith}
 use native.Mathlib.Numerals.{add-one}
-use borrow.Author.Tests.{eq-eqb, ne_eqb, eqb-true}
+use borrow.Author.Tests.{eq-eqb, ne_eqb}
 use lib.ListN.{get_or, length, set, take, drop, take-append-drop, length-append, length-set, length-map, length-drop}
 use lib.Seq.{sets, sets-eq, take_at, drop_at, drop-append-add, set_split, split_at, ext_get_or, get_or-set_same, get_or-set_other, get_or-take, length-take-le}
 use borrow.Rule.Slice.PartMut.{put_mid}
@@ -15,7 +15,6 @@ use lib.Dec.{eqb}
 use Rattle.memory.specs.rules.Lists.{table, upto, keep, count_if}
 use Rattle.memory.specs.rules.Words.{over, put_at}
 use Rattle.memory.specs.rules.Records.{encoded}
-use Rattle.memory.proofs.TableLaws.{length-table, get_or-table}
 use Rattle.memory.proofs.RecordLaws.{length-encoded, record-more, record-at}
 use Rattle.memory.proofs.PartLaws.{tail-part, tail-put}
 use Rattle.memory.specs.rules.Rects.{union}
@@ -25,11 +24,8 @@ use Rattle.grouping.specs.rules.Blocks.{Block, no_rect, opens_block, block_numbe
 use Rattle.grouping.specs.stages.Numbering.{block_box, block_fields, Grown}
 use Rattle.grouping.specs.rules.BlockRecords.{block_record}
 use Rattle.grouping.specs.rules.HeldLines.{line_box}
-use Rattle.grouping.specs.stages.LineBoxes.{line_boxes}
 use Rattle.memory.proofs.ListLaws.{keep-snoc-yes, keep-snoc-no, upto-suc, map-append, keep-few, get_or-mapped}
-use Rattle.memory.proofs.PlaceLaws.{Placed, count-below, count-length, count-place, place-count}
-use Rattle.grouping.proofs.GapLaws.{keep-none}
-use Rattle.grouping.proofs.TableWords.{over-length}
+use Rattle.memory.proofs.PlaceLaws.{count-below, count-length, count-place, place-count}
 
 -- A record set in place
 

@@ -3,17 +3,17 @@ use mathlib.Core.Path.{◌≡◌, refl, sym, ap, ◌∙◌}
 use mathlib.Core.Bool.{Bool, true, false, cond}
 use mathlib.Core.List.{List, [], ◌∷◌, ◌++◌}
 use Prim.Native.Nat.{ℕ, zero, suc, ◌+◌, ◌-◌, ◌≤◌, ◌<◌, zero-le}
-use native.Mathlib.Nat.{not-suc-le-zero, le_of_suc-le-suc, le_refl, le_trans}
+use native.Mathlib.Nat.{not-suc-le-zero, le_of_suc-le-suc, le_refl}
 use native.Mathlib.Decide.{dec_lt}
 use native.Mathlib.Omega.{arith}
 use borrow.Author.Tests.{ltb-true, ltb-false}
 use lib.ListN.{get_or, length}
 use lib.Dec.{ltb}
 use Rattle.memory.specs.rules.Lists.{table, upto, keep}
-use Rattle.grouping.specs.rules.Columns.{column, columns_from, column_runs, columns_of}
+use Rattle.grouping.specs.rules.Columns.{column, columns_from, column_runs}
 use Rattle.grouping.specs.stages.Covers.{extended}
 use Rattle.grouping.specs.declared.column.Column.{Column}
-use Rattle.memory.proofs.ListLaws.{keep-snoc-yes, keep-snoc-no, upto-suc, Each}
+use Rattle.memory.proofs.ListLaws.{keep-snoc-yes, keep-snoc-no, Each}
 
 some-run : (gap a b : ℕ) (xs : List ℕ) → (c : Column) × (l : List Column) × (columns_from gap a b xs ≡ c ∷ l)
 unfolding columns_from

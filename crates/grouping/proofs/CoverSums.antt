@@ -1,11 +1,11 @@
 -- The walk that turns starts and ends into the lines over each frame column.
 use mathlib.Core.Path.{◌≡◌, refl, sym, ap, ◌∙◌, subst}
-use mathlib.Core.List.{List, [], ◌∷◌, ◌++◌}
-use Prim.Native.Nat.{ℕ, zero, suc, ◌+◌, ◌-◌, ◌*◌, ◌≤◌, ◌<◌, zero-le, max}
+use mathlib.Core.List.{List, ◌++◌}
+use Prim.Native.Nat.{ℕ, ◌+◌, ◌-◌, ◌≤◌, ◌<◌, zero-le, max}
 use native.Mathlib.Nat.{le_refl}
 use native.Mathlib.Omega.{arith}
 use native.Mathlib.Numerals.{add-one}
-use lib.ListN.{get_or, length, set, drop, length-append, length-drop, length-set}
+use lib.ListN.{get_or, length, set, drop, length-set}
 use lib.Seq.{get_or-append-add, get_or-drop}
 use Rattle.memory.specs.rules.Lists.{table, greatest}
 use Rattle.memory.specs.rules.Words.{over}

@@ -1,25 +1,22 @@
 -- The counts of lines that start and end at each frame column, in lent words, and what their sums are.
-use mathlib.Core.Path.{◌≡◌, refl, sym, ap, ◌∙◌, subst}
-use mathlib.Core.List.{List, [], ◌∷◌, ◌++◌, map, append-nil}
-use mathlib.Core.Bool.{Bool}
-use Prim.Native.Nat.{ℕ, zero, suc, ◌+◌, ◌-◌, ◌*◌, ◌≤◌, ◌<◌, zero-le}
-use native.Mathlib.Nat.{not-suc-le-zero, le_refl}
+use mathlib.Core.Path.{◌≡◌, sym, ap, ◌∙◌, subst}
+use mathlib.Core.List.{List, ◌++◌, map}
+use Prim.Native.Nat.{ℕ, suc, ◌+◌, ◌-◌, ◌*◌, ◌≤◌, ◌<◌}
 use native.Mathlib.Omega.{arith}
 use lib.Ieee.{Float}
-use lib.ListN.{get_or, length, take, drop, length-append, length-drop, length-take, drop_of_length-le, get_or-append}
-use lib.Seq.{take_all, take_at, get_or-append-add}
+use lib.ListN.{get_or, length, take, drop, length-append, length-drop, length-take, get_or-append}
+use lib.Seq.{take_at, get_or-append-add}
 use borrow.Rule.Slice.PartMut.{put_mid}
 use Rattle.memory.specs.rules.Lists.{table, occurs, keep, upto, greatest}
 use Rattle.memory.specs.rules.Words.{over}
 use Rattle.memory.specs.rules.Records.{encoded, fields}
-use Rattle.memory.proofs.TableLaws.{length-table, get_or-table, table-ext}
+use Rattle.memory.proofs.TableLaws.{length-table, table-ext}
 use Rattle.memory.specs.declared.rect.Rect.{Rect}
 use Rattle.memory.proofs.PartLaws.{tail-part, tail-put}
 use Rattle.params.specs.declared.LayoutParams.{LayoutParams}
 use Rattle.rounding.specs.rules.Lengths.{◌·◌, dots}
 use Rattle.grouping.specs.rules.Columns.{cover, covered, enough_cover, column_runs, columns_of}
 use Rattle.grouping.specs.stages.Covers.{CoverSteps}
-use Rattle.memory.specs.stages.Boxes.{Inside}
 use Rattle.grouping.specs.stages.LineBoxes.{Lines, line_boxes}
 use Rattle.grouping.specs.rules.HeldLines.{line_box}
 use Rattle.grouping.specs.rules.BlockRecords.{column_record}

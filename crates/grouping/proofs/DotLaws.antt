@@ -1,9 +1,9 @@
 -- The frame place of a page dot, and the dots listed of a row.
-use mathlib.Core.Path.{◌≡◌, refl, sym, ap, ◌∙◌, subst}
+use mathlib.Core.Path.{◌≡◌, refl, sym, ap, ◌∙◌}
 use mathlib.Core.Bool.{Bool, true, false, cond, ◌&&◌}
 use mathlib.Core.List.{List, [], ◌∷◌, ◌++◌}
-use Prim.Native.Nat.{ℕ, zero, suc, ◌+◌, ◌-◌, ◌*◌, ◌/◌, ◌%◌, ◌≤◌, ◌<◌}
-use native.Mathlib.Nat.{le_refl, suc-mul, mul_comm, mul-le-mul_right, mul-le-mul, mod-lt, div-add-mod', div-lt_iff_lt-mul, le-div_iff_mul-le}
+use Prim.Native.Nat.{ℕ, suc, ◌+◌, ◌-◌, ◌*◌, ◌/◌, ◌%◌, ◌≤◌, ◌<◌}
+use native.Mathlib.Nat.{suc-mul, mul_comm, mul-le-mul_right, mul-le-mul, mod-lt, div-add-mod', div-lt_iff_lt-mul, le-div_iff_mul-le}
 use native.Mathlib.Omega.{arith}
 use native.Mathlib.Numerals.{add-one}
 use lib.ListN.{get_or, length, drop, length-append, length-drop}
@@ -19,7 +19,7 @@ use Rattle.levelling.specs.rules.Frames.{Frame, row_of, column_of}
 use Rattle.grouping.specs.rules.Readings.{in_box, listed, columns_and_rows, dot_list}
 use Rattle.grouping.specs.stages.Dots.{listed_at, FrameWords, RowSpan, ColumnSpan}
 use Rattle.memory.proofs.ListLaws.{keep-snoc-yes, keep-snoc-no, upto-suc, keep-few}
-use Rattle.memory.proofs.PlaceLaws.{count-length, count-below, count_yes, count_no, count-mono, Gap, keep-gap}
+use Rattle.memory.proofs.PlaceLaws.{count-length, count-below, Gap, keep-gap}
 use Rattle.memory.proofs.PlaneLaws.{dot-column, dot-row, dot-inside}
 
 -- where the two shears send a dot, with what was proved of the place

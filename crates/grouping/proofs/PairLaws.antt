@@ -1,7 +1,7 @@
 -- A union-find over any relation, its pairs walked by the smaller number: what it knows half way, and how that goes on.
 use mathlib.Core.Path.{◌≡◌, refl, sym, ap, ◌∙◌, subst}
 use mathlib.Core.Bool.{Bool, true, false, true≢false}
-use mathlib.Core.List.{List, [], ◌∷◌, map}
+use mathlib.Core.List.{List}
 use Prim.Native.Nat.{ℕ, zero, suc, ◌+◌, ◌≤◌, ◌<◌, min, max}
 use native.Mathlib.Nat.{le_refl, not-suc-le-zero}
 use native.Mathlib.Decide.{ℕ_discrete, dec_lt}
@@ -12,7 +12,7 @@ use Rattle.memory.specs.rules.Lists.{table, upto}
 use Rattle.memory.specs.rules.Words.{over}
 use Rattle.memory.proofs.TableLaws.{length-table}
 use Rattle.union_find.specs.rules.Classes.{renamed, first_of, firsts, join_if, join_one, join_all}
-use Rattle.union_find.specs.rules.Chains.{Chain, here, rise, fall}
+use Rattle.union_find.specs.rules.Chains.{Chain, here, rise}
 use Rattle.union_find.specs.stages.Forests.{join_f, Named, Forest, Found, United}
 use Rattle.union_find.proofs.FirstLaws.{chain-trans, chain-sym, renamed-case, join_f-a, join_f-b, min-case, max-case}
 use Rattle.labelling.proofs.TransferLaws.{named-firsts}

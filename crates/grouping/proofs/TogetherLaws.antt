@@ -1,19 +1,16 @@
 -- Lines that belong together, as the walk over the pairs asks it, and the first line of each block.
-use mathlib.Core.Path.{◌≡◌, refl, sym, ap, ◌∙◌, subst}
+use mathlib.Core.Path.{◌≡◌, sym, ap, ◌∙◌, subst}
 use mathlib.Core.Bool.{Bool, true, false, ◌&&◌}
 use mathlib.Core.List.{List}
-use Prim.Native.Nat.{ℕ, suc, ◌+◌, ◌≤◌, ◌<◌, min}
+use Prim.Native.Nat.{ℕ, ◌≤◌, ◌<◌, min}
 use native.Mathlib.Decide.{dec_le}
 use native.Mathlib.Omega.{arith}
 use borrow.Author.Tests.{le-leb, lt-leb}
 use lib.Ieee.{Float}
 use lib.ListN.{get_or, length}
 use lib.Dec.{leb}
-use Rattle.memory.specs.rules.Lists.{table}
-use Rattle.memory.specs.rules.Words.{over}
 use Rattle.memory.proofs.TableLaws.{length-table, get_or-table}
 use Rattle.union_find.specs.rules.Classes.{first_of, firsts}
-use Rattle.union_find.specs.rules.Chains.{Firsts}
 use Rattle.union_find.specs.stages.Forests.{Forest}
 use Rattle.memory.specs.declared.rect.Rect.{Rect}
 use Rattle.union_find.proofs.FirstLaws.{firsts-right, along}

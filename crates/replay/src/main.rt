@@ -7,6 +7,8 @@
 // kinds.rt has them for each kind. A line that is not so made counts as a difference.
 #![tactic(auto)]
 
+ghost use Rattle.std.specs.Prelude.{◌≤◌, length, IfOk};
+
 mod histories;
 mod kinds;
 mod levels;
@@ -15,10 +17,14 @@ mod segments;
 mod shows;
 mod text;
 
-use libc::{STDIN_FILENO, STDOUT_FILENO};
+use std::io;
+use std::io::Read;
 
-// More cases than a list ever has: a proved loop has to end, and nothing says that the input does.
+// More cases than a list ever has.
 const MOST_CASES: u64 = 1_000_000;
+
+// Room for the longest case, of at most 65,535 digits and a line feed.
+const CASE: usize = 65536;
 
 // The digits before the numbers: those of the kind and of the count.
 const HEAD: usize = 6;
@@ -42,48 +48,69 @@ struct Tally {
 
 // Whether the case of these digits has the Rust's answer.
 fn agrees(kind: u64, digits: &[u8]) -> bool {
-    let mut room = io::large_buffer();
+    let mut room = [0u8; CASE];
     let n = text::spread(digits, &mut room);
     kinds::agrees(kind, &room[0..n])
 }
 
+// Fills the room from its front as far as the input goes; how many bytes that is.
+fn read_full<R: Read>(input: &mut R, room: &mut [u8]) -> io::Result<usize>
+    ensures { IfOk result (λ n. n ≤ length room.new) }
+{
+    let mut n = 0;
+    while n < room.len() {
+        let got = input.read(&mut room[n..])?;
+        if got == 0 {
+            break;
+        }
+        n += got;
+    }
+    Ok(n)
+}
+
 // Reads the digits of a case and its line feed into room, and judges them.
-fn judge_body(kind: u64, count: u64, room: &mut [u8]) -> Outcome {
+fn judge_body<R: Read>(
+    input: &mut R,
+    kind: u64,
+    count: u64,
+    room: &mut [u8],
+) -> io::Result<Outcome> {
     let digits = count as usize;
     if digits >= room.len() {
-        return Outcome::Differs;
+        return Ok(Outcome::Differs);
     }
     let end = digits + 1;
-    let got = io::read_full(STDIN_FILENO, &mut room[0..end]);
+    let got = read_full(input, &mut room[0..end])?;
     if got != end {
-        return Outcome::Differs;
+        return Ok(Outcome::Differs);
     }
     if room[digits] != LINE_FEED {
-        return Outcome::Differs;
+        return Ok(Outcome::Differs);
     }
     let body = &room[0..digits];
     if text::are_digits(body) & agrees(kind, body) {
-        Outcome::Same
+        Ok(Outcome::Same)
     } else {
-        Outcome::Differs
+        Ok(Outcome::Differs)
     }
 }
 
 // Reads a case and judges it.
-fn next_case() -> Outcome {
+fn next_case<R: Read>(input: &mut R) -> io::Result<Outcome> {
     let mut head = [0u8; HEAD];
-    let got = io::read_full(STDIN_FILENO, &mut head);
+    let got = read_full(input, &mut head)?;
     if got == 0 {
-        return Outcome::End;
+        return Ok(Outcome::End);
     }
     if got != HEAD {
-        return Outcome::Differs;
+        return Ok(Outcome::Differs);
     }
     if !text::are_digits(&head) {
-        return Outcome::Differs;
+        return Ok(Outcome::Differs);
     }
-    let mut room = io::large_buffer();
+    let mut room = [0u8; CASE];
     judge_body(
+        input,
         text::number(&head[0..2]),
         text::number(&head[2..]),
         &mut room,
@@ -91,12 +118,12 @@ fn next_case() -> Outcome {
 }
 
 // Every case of the input, counted.
-fn replay() -> Tally {
+fn replay<R: Read>(input: &mut R) -> io::Result<Tally> {
     let mut cases: u64 = 0;
     let mut differences: u64 = 0;
     let mut first: u64 = 0;
     while cases < MOST_CASES {
-        let outcome = next_case();
+        let outcome = next_case(input)?;
         if let Outcome::End = outcome {
             break;
         }
@@ -108,23 +135,22 @@ fn replay() -> Tally {
             differences += 1;
         }
     }
-    Tally {
+    Ok(Tally {
         cases,
         differences,
         first,
-    }
+    })
 }
 
-fn main() {
-    let tally = replay();
-    io::write_all(STDOUT_FILENO, b"replayed ");
-    io::print_decimal(STDOUT_FILENO, tally.cases);
-    io::write_all(STDOUT_FILENO, b" cases, ");
-    io::print_decimal(STDOUT_FILENO, tally.differences);
-    io::write_all(STDOUT_FILENO, b" differences\n");
-    if tally.differences > 0 {
-        io::write_all(STDOUT_FILENO, b"the first is case ");
-        io::print_decimal(STDOUT_FILENO, tally.first);
-        io::write_all(STDOUT_FILENO, b"\n");
+fn main(rt: HostRuntime) -> io::Result<()> {
+    let mut stdin = rt.stdin();
+    let tally = replay(&mut stdin)?;
+    let cases = tally.cases;
+    let differences = tally.differences;
+    println!(rt; "replayed {cases} cases, {differences} differences")?;
+    if differences > 0 {
+        let first = tally.first;
+        println!(rt; "the first is case {first}")?;
     }
+    Ok(())
 }

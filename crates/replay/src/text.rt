@@ -10,10 +10,10 @@ pub fn digit(b: u8) -> u8 {
         16
     } else if b <= b'9' {
         b - b'0'
-    } else if b < b'_a' {
+    } else if b < b'A' {
         16
-    } else if b <= b'_f' {
-        b - b'_a' + 10
+    } else if b <= b'F' {
+        b - b'A' + 10
     } else {
         16
     }

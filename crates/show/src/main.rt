@@ -1,12 +1,13 @@
 // The show program (01, "Leaves to try"): reads standard input to its end and writes what `showing::show` prints for it.
 #![tactic(auto)]
 
-ghost use Rattle.std.specs.Prelude.{◌≡◌, ◌≤◌, length, take};
+ghost use Rattle.std.specs.Prelude.{◌≡◌, ◌≤◌, length, take, IfOk};
 ghost use Rattle.store.specs.rules.Answers.{answer_value};
 ghost use Rattle.showing.specs.rules.Shows.{shown};
 ghost use Rattle.showing.specs.stages.Rooms.{longest_shown};
 
-use libc::{STDIN_FILENO, STDOUT_FILENO};
+use std::io;
+use std::io::{Read, Write};
 use store::Answer;
 
 // Longer than any well made input, which has at most 121 bytes.
@@ -15,19 +16,30 @@ const INPUT: usize = 4096;
 // No sheet of a page of 16 by 16 is longer.
 const OUTPUT: usize = 16384;
 
-// A proved loop has to end, and nothing says that the input does: so many times what is read at once is read at most.
-const MOST_READS: u64 = 1_000_000_000_000;
-
-// Reads what is left of the input.
-fn drain() {
-    let mut room = [0u8; INPUT];
-    let mut n: u64 = 0;
-    while n < MOST_READS {
-        if io::read_full(STDIN_FILENO, &mut room) == 0 {
+// Fills the room from its front as far as the input goes; how many bytes that is.
+fn read_full<R: Read>(input: &mut R, room: &mut [u8]) -> io::Result<usize>
+    ensures { IfOk result (λ n. n ≤ length room.new) }
+{
+    let mut n = 0;
+    while n < room.len() {
+        let got = input.read(&mut room[n..])?;
+        if got == 0 {
             break;
         }
-        n += 1;
+        n += got;
     }
+    Ok(n)
+}
+
+// Reads what is left of the input.
+fn drain<R: Read>(input: &mut R) -> io::Result<()> {
+    let mut room = [0u8; INPUT];
+    for _ in 0..u64::MAX {
+        if read_full(input, &mut room)? == 0 {
+            break;
+        }
+    }
+    Ok(())
 }
 
 // The value of an answer.
@@ -49,11 +61,12 @@ fn printed(input: &[u8], out: &mut [u8]) -> usize
     value_of(answer) as usize
 }
 
-fn main() {
+fn main(rt: HostRuntime) -> io::Result<()> {
     let mut input = [0u8; INPUT];
     let mut out = [0u8; OUTPUT];
-    let n = io::read_full(STDIN_FILENO, &mut input);
-    drain();
+    let mut stdin = rt.stdin();
+    let n = read_full(&mut stdin, &mut input)?;
+    drain(&mut stdin)?;
     let end = printed(&input[..n], &mut out);
-    io::write_all(STDOUT_FILENO, &out[..end]);
+    rt.stdout().write_all(&out[..end])
 }

@@ -14,8 +14,7 @@ use memory::{MAX_PAGE_SIDE, Rect};
 use params::LayoutParams;
 
 // The value where the skew is applied, else 0.
-#[unsafe(no_mangle)]
-pub extern "C" fn novlizeb_applied(least: f64, skew: f64, value: f64) -> f64
+pub fn novlizeb_applied(least: f64, skew: f64, value: f64) -> f64
     ensures { result ≡ Shears.applied (skew_sheet least) skew value }
 {
     levelling::applied(skew_sheet(least), skew, value)
@@ -58,8 +57,7 @@ fn in_limits(page_w: u32, page_h: u32, slope: f64) -> bool
 }
 
 // The frame's height times 2^32, and its width.
-#[unsafe(no_mangle)]
-pub extern "C" fn novlizeb_plane_size(page_w: u32, page_h: u32, slope: f64) -> u64
+pub fn novlizeb_plane_size(page_w: u32, page_h: u32, slope: f64) -> u64
     ensures { result ≡ frame_word page_w page_h slope }
 {
     if !in_limits(page_w, page_h, slope) {
@@ -118,8 +116,7 @@ fn level(
 
 // A page plane moved into its frame, `fill` in the dots that are added; both shears, one after the
 // other, are written too.
-#[unsafe(no_mangle)]
-pub extern "C" fn novlizeb_level_plane(
+pub fn novlizeb_level_plane(
     page: &[u8],
     fill: u8,
     page_w: u32,
@@ -170,8 +167,7 @@ fn point(shears: &[u32], page_w: u32, x: u32, y: u32) -> Point
 }
 
 // The page column of frame point (x, y), by the shears that levelling wrote.
-#[unsafe(no_mangle)]
-pub extern "C" fn novlizeb_to_page_x(shears: &[u32], page_w: u32, x: u32, y: u32) -> i64
+pub fn novlizeb_to_page_x(shears: &[u32], page_w: u32, x: u32, y: u32) -> i64
     ensures { result ≡ (point_in shears.now page_w x y).x }
 {
     let p = point(shears, page_w, x, y);
@@ -179,8 +175,7 @@ pub extern "C" fn novlizeb_to_page_x(shears: &[u32], page_w: u32, x: u32, y: u32
 }
 
 // Its page row.
-#[unsafe(no_mangle)]
-pub extern "C" fn novlizeb_to_page_y(shears: &[u32], page_w: u32, x: u32, y: u32) -> i64
+pub fn novlizeb_to_page_y(shears: &[u32], page_w: u32, x: u32, y: u32) -> i64
     ensures { result ≡ (point_in shears.now page_w x y).y }
 {
     let p = point(shears, page_w, x, y);
@@ -214,8 +209,7 @@ fn corner(x: u32, y: u32) -> u64
 
 // The first corner of the page box of a frame box, by the shears that levelling wrote: its row times 2^32,
 // and its column.
-#[unsafe(no_mangle)]
-pub extern "C" fn novlizeb_rect_to_page_start(
+pub fn novlizeb_rect_to_page_start(
     shears: &[u32],
     page_w: u32,
     page_h: u32,
@@ -231,8 +225,7 @@ pub extern "C" fn novlizeb_rect_to_page_start(
 }
 
 // Its last corner.
-#[unsafe(no_mangle)]
-pub extern "C" fn novlizeb_rect_to_page_end(
+pub fn novlizeb_rect_to_page_end(
     shears: &[u32],
     page_w: u32,
     page_h: u32,

@@ -21,8 +21,7 @@ fn label_word(answer: LabelAnswer) -> u64
 
 // The 8-connected components of a mask, numbered by first dot: a label a dot, nine words a component.
 // The value is their count.
-#[unsafe(no_mangle)]
-pub extern "C" fn novlizeb_label(
+pub fn novlizeb_label(
     mask: &[u8],
     width: u32,
     height: u32,
@@ -52,8 +51,7 @@ fn extents_word(answer: ExtentsAnswer) -> u64
 }
 
 // The run extents of a mask, along its columns or else along its rows, a word a dot. The value is 0.
-#[unsafe(no_mangle)]
-pub extern "C" fn novlizeb_run_extents(
+pub fn novlizeb_run_extents(
     mask: &[u8],
     width: u32,
     height: u32,

@@ -58,8 +58,7 @@ fn tell(answer: SegmentAnswer, figures: &mut [u32]) -> u32
 
 // Segments an ink plane of bytes 0 and 1: the lists in the words of results, the kind of each dot in kinds, and in the first fifteen words
 // of figures what is told besides (specs/rules/Pages). The words are worked in. What can refuse the call is judged before anything is written.
-#[unsafe(no_mangle)]
-pub extern "C" fn novlizeb_segment_plane(
+pub fn novlizeb_segment_plane(
     ink: &[u8],
     w: u32,
     h: u32,

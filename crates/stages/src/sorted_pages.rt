@@ -66,8 +66,7 @@ fn sort_by_plan(
 
 // Sorts an ink plane of bytes 0 and 1: the first seven words of figures tell the unit, the dots of ink, the cuts and the components
 // (specs/rules/SortedPages). The words are worked in. What can refuse the call is judged before anything is written, but for too many components.
-#[unsafe(no_mangle)]
-pub extern "C" fn novlizeb_sort(
+pub fn novlizeb_sort(
     ink: &[u8],
     w: u32,
     h: u32,

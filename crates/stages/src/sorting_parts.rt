@@ -52,8 +52,7 @@ fn words_behind(words: usize, marks: usize) -> usize
 
 // The dots of thin rulings, a word a dot from word `marks` on: 1 in a horizontal one, 2 in a vertical one, 3 in
 // both; the words before are worked in. False, and nothing written, where something is outside its limits or too short.
-#[unsafe(no_mangle)]
-pub extern "C" fn novlizeb_thin_rulings(
+pub fn novlizeb_thin_rulings(
     ink: &[u8],
     width: u32,
     height: u32,
@@ -91,8 +90,7 @@ fn write_counts(cuts: Cuts, counts: &mut [u32])
 // The thin rulings of an ink plane, cut and labelled: counts then holds how many components the horizontal cut mask has, and the
 // vertical one. Any byte but 0 is ink, and a least run below 2 counts as 2. The words are worked in. The answer is 0, or document
 // 01's number of a refusal, which writes nothing but scratch, and that only with 20.
-#[unsafe(no_mangle)]
-pub extern "C" fn novlizeb_cut_rulings(
+pub fn novlizeb_cut_rulings(
     ink: &[u8],
     width: u32,
     height: u32,
@@ -169,16 +167,14 @@ fn size_sheet(
 }
 
 // The least run of a thin ruling, in dots.
-#[unsafe(no_mangle)]
-pub extern "C" fn novlizeb_run_min(rule_run_xh: f64, unit: f64) -> u32
+pub fn novlizeb_run_min(rule_run_xh: f64, unit: f64) -> u32
     ensures { result ≡ run_min (size_sheet 0 float_zero float_zero float_zero rule_run_xh float_zero) unit }
 {
     rulings::run_min(size_sheet(0, 0.0, 0.0, 0.0, rule_run_xh, 0.0), unit)
 }
 
 // Its greatest thickness.
-#[unsafe(no_mangle)]
-pub extern "C" fn novlizeb_thick_max(rule_max_thick_xh: f64, unit: f64) -> u32
+pub fn novlizeb_thick_max(rule_max_thick_xh: f64, unit: f64) -> u32
     ensures { result ≡ thick_max (size_sheet 0 float_zero float_zero rule_max_thick_xh float_zero float_zero) unit }
 {
     rulings::thick_max(size_sheet(0, 0.0, 0.0, rule_max_thick_xh, 0.0, 0.0), unit)
@@ -186,8 +182,7 @@ pub extern "C" fn novlizeb_thick_max(rule_max_thick_xh: f64, unit: f64) -> u32
 
 // The kind of a component of this area, width and height, in a frame w wide and h high: 2 rule, 3
 // graphic, 4 glyph, 5 speck. `value` is the unit, which does not show whether it was measured.
-#[unsafe(no_mangle)]
-pub extern "C" fn novlizeb_kind_by_size(
+pub fn novlizeb_kind_by_size(
     glyph_min_area: u32,
     glyph_max_extent_frac: f64,
     rule_min_len_xh: f64,

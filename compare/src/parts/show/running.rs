@@ -24,7 +24,7 @@ impl Program {
         let there = path.is_file();
         assert!(
             there,
-            "{} is not there: run `rt check show` first, or compare/run",
+            "{} is not there: run tools/program show first, or compare/run",
             path.display()
         );
         Program(path)

@@ -1,5 +1,5 @@
 -- A word of a list, a list over the front of another or put further back, and whether two lists are the same.
-use Rattle.std.specs.Prelude.{ℕ, ◌+◌, Bool, true, false, ◌&&◌, List, [], ◌∷◌, ◌++◌, eqb, length, get_or, drop, take}
+use Rattle.std.specs.Prelude.{ℕ, Bool, true, false, ◌&&◌, List, [], ◌∷◌, ◌++◌, eqb, length, get_or, drop, take}
 
 -- the word at k, 0 past the end
 abbrev pub word_at : List ℕ → ℕ → ℕ

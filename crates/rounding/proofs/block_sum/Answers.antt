@@ -1,6 +1,5 @@
-use Rattle.std.proofs.Common.{◌≡◌, ◌-◌, ◌≤◌, length, drop, sym, refl, ◌∙◌, zero-le, rules}
+use Rattle.std.proofs.Common.{length, sym, refl, ◌∙◌, zero-le, rules}
 use borrow.Author.Rules.{scaled_Fits}
-use Rattle.rounding.specs.rules.Sums.{sum_from, block_sum}
 use Rattle.rounding.proofs.SumLaws.{sum_from-next, sum_from-end}
 use Rattle.rounding.proofs.block_sum.Goals as goal
 

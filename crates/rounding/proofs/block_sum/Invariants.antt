@@ -1,7 +1,5 @@
-use Rattle.std.proofs.Common.{◌≡◌, ◌-◌, ◌≤◌, length, drop, sym, refl, ◌∙◌, zero-le, rules}
-use borrow.Author.Rules.{scaled_Fits}
+use Rattle.std.proofs.Common.{◌≡◌, ◌-◌, ◌≤◌, length, drop}
 use Rattle.rounding.specs.rules.Sums.{sum_from, block_sum}
-use Rattle.rounding.proofs.SumLaws.{sum_from-next, sum_from-end}
 use Rattle.rounding.proofs.block_sum.Given as goal
 
 abbrev pub invariant-loop-i : goal.invariant-loop-i

@@ -1,4 +1,4 @@
-use Rattle.std.proofs.Common.{ℕ, ◌+◌, ◌*◌, ◌/◌, ◌%◌, ◌^◌, ◌<◌, ◌≤◌, false, T, pos, negsuc, sym, ap, ◌∙◌, subst, arith, rules}
+use Rattle.std.proofs.Common.{ℕ, ◌+◌, ◌*◌, ◌/◌, ◌%◌, ◌^◌, ◌<◌, ◌≤◌, false, T, pos, negsuc, sym, ap, ◌∙◌, subst, arith}
 use lib.Ieee.{Float, fin, le, lt, binary64, fits, add}
 use lib.Ieee.Positive.{num, den, den_pos, positive_of_value}
 use lib.Ieee.Exact.{HasValue}

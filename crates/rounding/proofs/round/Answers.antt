@@ -1,5 +1,5 @@
 use Rattle.std.proofs.Common.{ℕ, T, pos, sym, ap, ◌∙◌, subst}
-use lib.Ieee.{Float, le, lt, binary64, fits, neg, of_bits, of_int, in_float}
+use lib.Ieee.{Float, le, lt, binary64, neg, of_bits, of_int, in_float}
 use lib.Ieee.Fits.{neg-fits}
 use Rattle.rounding.proofs.Tests.{yes, no}
 use Rattle.rounding.proofs.Fractions.{Within, within, half, two_to}

@@ -1,4 +1,4 @@
-use Rattle.std.proofs.Common.{◌≡◌, Bool, cond, sym, ap, ◌∙◌, rules}
+use Rattle.std.proofs.Common.{◌≡◌, Bool, cond, sym, ap, ◌∙◌}
 use lib.Ieee.{Float, binary64, mul, div}
 use Rattle.rounding.specs.rules.Rounding.{round_half_away, round_output, output_scale, unless_zero, positive_zero}
 use Rattle.rounding.proofs.round_output.Goals as goal

@@ -1,4 +1,4 @@
-use Rattle.std.proofs.Common.{ap, ◌∙◌, rules}
+use Rattle.std.proofs.Common.{ap, ◌∙◌}
 use lib.Ieee.{to_unsigned}
 use Rattle.rounding.proofs.round_to_usize.Goals as goal
 

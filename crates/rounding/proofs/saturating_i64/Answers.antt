@@ -1,4 +1,3 @@
-use Rattle.std.proofs.Common.{rules}
 use lib.Ieee.{of_bits, neg}
 use Rattle.rounding.proofs.Tests.{yes, no}
 use Rattle.rounding.proofs.Casts.{signed_top, signed-bottom, signed-nan}

@@ -1,4 +1,4 @@
-use Rattle.std.proofs.Common.{◌≡◌, ℕ, sym, ◌∙◌, subst, lit≤, w32, Fits, rules}
+use Rattle.std.proofs.Common.{◌≡◌, ℕ, sym, ◌∙◌, subst, lit≤, w32, Fits}
 use lib.Ieee.{of_bits, neg, to_unsigned}
 use Rattle.rounding.proofs.Tests.{yes, no}
 use Rattle.rounding.proofs.Casts.{unsigned-fits, unsigned-narrowed, unsigned-top, unsigned-bottom}

@@ -1,6 +1,5 @@
 -- From the components after the cut and the smoothed components in scratch to lines and glyphs: what the words hold (01, part 7).
-use Rattle.std.specs.Prelude.{◌≡◌, Bool, true, false, cond, ◌&&◌, List, [], ◌∷◌, map, ℕ, suc, ◌+◌, ◌*◌, ◌-◌, ◌/◌, ◌≤◌, ◌<◌, Float, get_or, length, eqb, ltb, leb}
-use Rattle.std.specs.Float.Ieee.{le}
+use Rattle.std.specs.Prelude.{◌≡◌, Bool, true, false, cond, List, [], ◌∷◌, map, ℕ, suc, ◌+◌, ◌*◌, ◌-◌, ◌/◌, ◌≤◌, ◌<◌, Float, get_or, length, eqb, ltb}
 use Rattle.std.proofs.lemmas.List.Edits.{sets}
 use Rattle.memory.specs.rules.Lists.{table, upto, keep, total, sort_by}
 use Rattle.memory.specs.rules.Words.{over}
@@ -13,7 +12,6 @@ use Rattle.labelling.specs.stages.Sizes.{HoldsSizes}
 use Rattle.memory.specs.declared.rect.Rect.{Rect}
 use Rattle.labelling.specs.declared.component.Component.{Component}
 use Rattle.params.specs.declared.LayoutParams.{LayoutParams}
-use Rattle.rounding.specs.rules.Lengths.{float, ◌·◌}
 use Rattle.sorting.specs.rules.Kinds.{glyph_kind}
 use Rattle.sorting.specs.rules.Units.{median}
 use Rattle.sorting.specs.stages.Measures.{size_box}

@@ -1,7 +1,4 @@
-use borrow.Author.Rules.{rules, scaled_Fits}
-use native.Mathlib.Omega.{arith}
-use lib.ListN.{length-set}
-use Rattle.union_find.proofs.HalvingLaws.{Walk, walk_start, walk-low, walk-in, walk-in', walk-in₀, walk-in-q₀, walk_end, walk-next, walk_step}
+use Rattle.union_find.proofs.HalvingLaws.{Walk}
 use Rattle.union_find.proofs.find.Given as goal
 
 abbrev pub invariant-loop-parent : goal.invariant-loop-parent

@@ -1,4 +1,3 @@
-use borrow.Author.Rules.{rules}
 use Rattle.union_find.proofs.ParentLaws.{united-lower, united-upper}
 use Rattle.union_find.proofs.unite.Goals as goal
 

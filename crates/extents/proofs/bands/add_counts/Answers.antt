@@ -1,8 +1,8 @@
 use native.Mathlib.Omega.{arith}
 use mathlib.Core.Path.{◌≡◌, refl, ap, ◌∙◌}
-use Prim.Native.Nat.{◌≤◌, ◌+◌, ◌-◌}
+use Prim.Native.Nat.{◌+◌, ◌-◌}
 use lib.ListN.{get_or}
-use Rattle.extents.specs.stages.Bands.{Put, band_count}
+use Rattle.extents.specs.stages.Bands.{band_count}
 use Rattle.extents.proofs.PutLaws.{put-none, put_up, put-ends}
 use Rattle.extents.proofs.bands.add_counts.Goals as goal
 

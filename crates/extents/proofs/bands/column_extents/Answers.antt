@@ -1,9 +1,7 @@
 use native.Mathlib.Omega.{arith}
-use mathlib.Core.Path.{◌∙◌}
-use Prim.Native.Nat.{◌≤◌, ◌-◌, ◌*◌, ◌/◌}
+use Prim.Native.Nat.{◌-◌, ◌*◌, ◌/◌}
 use native.Mathlib.Nat.{le_refl}
-use borrow.Author.Rules.{rules}
-use Rattle.extents.proofs.BandLaws.{BandsDone, bands-begun, plane-kept, band-counts, band-takes, band-done, bands-done}
+use Rattle.extents.proofs.BandLaws.{bands-begun, plane-kept, band-counts, band-takes, band-done, bands-done}
 use Rattle.extents.proofs.bands.column_extents.Goals as goal
 
 pub loop-end-init : goal.loop-end-init

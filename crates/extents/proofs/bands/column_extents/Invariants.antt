@@ -1,9 +1,5 @@
-use native.Mathlib.Omega.{arith}
-use mathlib.Core.Path.{◌∙◌}
-use Prim.Native.Nat.{◌≤◌, ◌-◌, ◌*◌, ◌/◌}
-use native.Mathlib.Nat.{le_refl}
-use borrow.Author.Rules.{rules}
-use Rattle.extents.proofs.BandLaws.{BandsDone, bands-begun, plane-kept, band-counts, band-takes, band-done, bands-done}
+use Prim.Native.Nat.{◌≤◌}
+use Rattle.extents.proofs.BandLaws.{BandsDone}
 use Rattle.extents.proofs.bands.column_extents.Given as goal
 
 abbrev pub invariant-loop-end : goal.invariant-loop-end

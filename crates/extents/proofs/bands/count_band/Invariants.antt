@@ -1,12 +1,6 @@
-use native.Mathlib.Omega.{arith}
-use mathlib.Core.Path.{◌≡◌, refl, ap}
 use Prim.Native.Nat.{◌≤◌, ◌-◌, ◌*◌}
-use native.Mathlib.Nat.{le_refl, mul-le-mul_right}
 use Rattle.extents.specs.stages.Scans.{capped_count}
 use Rattle.extents.specs.stages.Bands.{Put}
-use Rattle.extents.proofs.ExtentLaws.{row_next}
-use Rattle.extents.proofs.PutLaws.{put-none, put-ends, put-more}
-use Rattle.extents.proofs.BandLaws.{counts-row}
 use Rattle.extents.proofs.bands.count_band.Given as goal
 
 abbrev pub invariant-loop-y : goal.invariant-loop-y

@@ -1,7 +1,5 @@
 use native.Mathlib.Omega.{arith}
-use mathlib.Core.Path.{◌≡◌, refl}
-use Prim.Native.Nat.{◌≤◌, ◌-◌, ◌%◌}
-use Rattle.extents.specs.stages.Bands.{BandsCounted}
+use mathlib.Core.Path.{refl}
 use Rattle.extents.proofs.BandLaws.{bands-none, bands-counts, bands-more, bands-last}
 use Rattle.extents.proofs.bands.count_bands.Goals as goal
 

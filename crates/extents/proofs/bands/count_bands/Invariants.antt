@@ -1,8 +1,6 @@
-use native.Mathlib.Omega.{arith}
-use mathlib.Core.Path.{◌≡◌, refl}
+use mathlib.Core.Path.{◌≡◌}
 use Prim.Native.Nat.{◌≤◌, ◌-◌, ◌%◌}
 use Rattle.extents.specs.stages.Bands.{BandsCounted}
-use Rattle.extents.proofs.BandLaws.{bands-none, bands-counts, bands-more, bands-last}
 use Rattle.extents.proofs.bands.count_bands.Given as goal
 
 abbrev pub invariant-loop-y : goal.invariant-loop-y

@@ -2,7 +2,6 @@ use native.Mathlib.Omega.{arith}
 use Rattle.extents.proofs.PutLaws.{put-filled}
 use Rattle.extents.proofs.BandLaws.{count-blank, chunk-blank}
 use Prim.Native.Nat.{◌+◌}
-use borrow.Author.Rules.{rules}
 use Rattle.extents.proofs.bands.count_chunk.Goals as goal
 
 pub returns-then-is_blank : goal.returns-then-is_blank

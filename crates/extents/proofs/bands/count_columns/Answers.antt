@@ -1,7 +1,7 @@
 use native.Mathlib.Omega.{arith}
 use mathlib.Core.Path.{◌≡◌, refl, ap, ◌∙◌}
-use Prim.Native.Nat.{ℕ, ◌≤◌, ◌<◌, ◌+◌, ◌-◌, ◌*◌}
-use lib.ListN.{length, get_or}
+use Prim.Native.Nat.{ℕ, ◌≤◌, ◌<◌, ◌+◌, ◌*◌}
+use lib.ListN.{length}
 use Rattle.extents.specs.rules.Extents.{ink_at, behind}
 use Rattle.extents.specs.stages.Bands.{count_from}
 use Rattle.memory.proofs.PartLaws.{length_part}

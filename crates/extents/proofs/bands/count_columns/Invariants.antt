@@ -1,13 +1,7 @@
-use native.Mathlib.Omega.{arith}
-use mathlib.Core.Path.{◌≡◌, refl, ap, ◌∙◌}
-use Prim.Native.Nat.{ℕ, ◌≤◌, ◌<◌, ◌+◌, ◌-◌, ◌*◌}
+use mathlib.Core.Path.{◌≡◌}
+use Prim.Native.Nat.{ℕ, ◌≤◌, ◌<◌, ◌+◌, ◌-◌}
 use lib.ListN.{length, get_or}
-use Rattle.extents.specs.rules.Extents.{ink_at, behind}
 use Rattle.extents.specs.stages.Bands.{count_from}
-use Rattle.memory.proofs.PartLaws.{length_part}
-use Rattle.extents.proofs.RunLaws.{behind-le}
-use Rattle.extents.proofs.ExtentLaws.{row_upto}
-use Rattle.extents.proofs.BandLaws.{rows_fit, columns-more}
 use Rattle.extents.proofs.bands.count_columns.Given as goal
 
 abbrev pub invariant-loop-r : goal.invariant-loop-r

@@ -1,11 +1,6 @@
-use native.Mathlib.Omega.{arith}
-use mathlib.Core.Path.{refl}
 use Prim.Native.Nat.{◌≤◌, ◌-◌}
-use native.Mathlib.Nat.{le_refl}
 use Rattle.extents.specs.stages.Scans.{capped_count}
 use Rattle.extents.specs.stages.Bands.{Put}
-use Rattle.extents.proofs.PutLaws.{put-none, put_up, put-ends}
-use Rattle.extents.proofs.BandLaws.{counts-next, above-le, count-below}
 use Rattle.extents.proofs.bands.count_dots.Given as goal
 
 abbrev pub invariant-loop-i : goal.invariant-loop-i

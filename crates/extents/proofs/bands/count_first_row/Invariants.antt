@@ -1,10 +1,6 @@
-use native.Mathlib.Omega.{arith}
-use mathlib.Core.Path.{refl}
 use Prim.Native.Nat.{◌≤◌, ◌-◌}
 use Rattle.extents.specs.stages.Scans.{capped_count}
 use Rattle.extents.specs.stages.Bands.{Put}
-use Rattle.extents.proofs.PutLaws.{put-none, put_up, put-ends}
-use Rattle.extents.proofs.BandLaws.{count-first}
 use Rattle.extents.proofs.bands.count_first_row.Given as goal
 
 abbrev pub invariant-loop-i : goal.invariant-loop-i

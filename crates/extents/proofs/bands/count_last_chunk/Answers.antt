@@ -4,7 +4,6 @@ use lib.ListN.{get_or-replicate}
 use Rattle.extents.proofs.ExtentLaws.{row_before}
 use Rattle.extents.proofs.PutLaws.{put_as}
 use Rattle.extents.proofs.BandLaws.{rows_fit, count-first-band, count-through-band, above-band-le}
-use borrow.Author.Rules.{rules}
 use Rattle.extents.proofs.bands.count_last_chunk.Goals as goal
 
 pub count_columns-requires : goal.count_columns-requires

@@ -1,9 +1,7 @@
 use native.Mathlib.Omega.{arith}
-use mathlib.Core.Path.{refl, ◌∙◌}
-use Prim.Native.Nat.{◌≤◌, ◌+◌, ◌-◌, ◌*◌}
+use mathlib.Core.Path.{refl}
+use Prim.Native.Nat.{◌+◌, ◌*◌}
 use native.Mathlib.Nat.{le_refl}
-use Rattle.extents.specs.stages.Scans.{capped_count}
-use Rattle.extents.specs.stages.Bands.{Put}
 use Rattle.extents.proofs.PutLaws.{put-none, put-ends, put-more}
 use Rattle.extents.proofs.BandLaws.{counts-kept}
 use Rattle.extents.proofs.bands.count_last_row.Goals as goal

@@ -1,11 +1,6 @@
-use native.Mathlib.Omega.{arith}
-use mathlib.Core.Path.{refl, ◌∙◌}
 use Prim.Native.Nat.{◌≤◌, ◌+◌, ◌-◌, ◌*◌}
-use native.Mathlib.Nat.{le_refl}
 use Rattle.extents.specs.stages.Scans.{capped_count}
 use Rattle.extents.specs.stages.Bands.{Put}
-use Rattle.extents.proofs.PutLaws.{put-none, put-ends, put-more}
-use Rattle.extents.proofs.BandLaws.{counts-kept}
 use Rattle.extents.proofs.bands.count_last_row.Given as goal
 
 abbrev pub invariant-loop-x : goal.invariant-loop-x

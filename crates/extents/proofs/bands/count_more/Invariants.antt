@@ -1,14 +1,8 @@
-use native.Mathlib.Omega.{arith}
-use mathlib.Core.Path.{refl, ap, ◌∙◌}
 use mathlib.Core.Bool.{cond}
 use Prim.Native.Nat.{◌≤◌, ◌+◌, ◌-◌}
 use lib.ListN.{length, get_or}
-use lib.Dec.{ltb}
-use borrow.Author.Rules.{rules}
 use Rattle.memory.specs.rules.Masks.{is_ink}
 use Rattle.extents.specs.stages.Bands.{Put}
-use Rattle.extents.proofs.ExtentLaws.{bit-times, bit-times-le}
-use Rattle.extents.proofs.PutLaws.{put-none, put_up, put-ends}
 use Rattle.extents.proofs.bands.count_more.Given as goal
 
 abbrev pub invariant-loop-i : goal.invariant-loop-i

@@ -7,7 +7,6 @@ use lib.Dec.{ltb}
 use Rattle.memory.specs.rules.Limits.{max_extent}
 use Rattle.extents.proofs.ExtentLaws.{bit-times, bit-times-le, bit_le}
 use Rattle.extents.proofs.BandLaws.{capped-more}
-use borrow.Author.Rules.{rules}
 use Rattle.extents.proofs.bands.count_on.Goals as goal
 
 pub overflow_add-result : goal.overflow_add-result

@@ -1,12 +1,6 @@
-use native.Mathlib.Omega.{arith}
-use mathlib.Core.Path.{◌≡◌, sym, ap, ◌∙◌}
 use Prim.Native.Nat.{◌≤◌, ◌+◌, ◌-◌, ◌*◌}
-use native.Mathlib.Nat.{le_refl, zero-mul}
 use Rattle.extents.specs.stages.Scans.{capped_count}
 use Rattle.extents.specs.stages.Bands.{Put}
-use Rattle.extents.proofs.ExtentLaws.{row_from}
-use Rattle.extents.proofs.PutLaws.{put-none, put-ends, put-more}
-use Rattle.extents.proofs.BandLaws.{counts-next}
 use Rattle.extents.proofs.bands.count_row.Given as goal
 
 abbrev pub invariant-loop-i : goal.invariant-loop-i

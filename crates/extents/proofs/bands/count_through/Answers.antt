@@ -1,7 +1,6 @@
 use native.Mathlib.Omega.{arith}
 use lib.Dec.{eqb}
 use Rattle.extents.proofs.ExtentLaws.{bit-times, bit-times-le}
-use borrow.Author.Rules.{rules}
 use Rattle.extents.proofs.bands.count_through.Goals as goal
 
 pub overflow_mul-sum : goal.overflow_mul-sum

@@ -1,10 +1,8 @@
-use native.Mathlib.Omega.{arith}
 use mathlib.Core.Path.{◌≡◌}
 use mathlib.Core.Bool.{true, false}
 use Prim.Native.Nat.{ℕ, ◌≤◌, ◌<◌, ◌-◌}
 use lib.ListN.{length}
 use Rattle.memory.specs.rules.Masks.{is_ink}
-use Rattle.extents.proofs.BandLaws.{blank-more}
 use Rattle.extents.proofs.bands.is_blank.Given as goal
 
 abbrev pub invariant-loop-i : goal.invariant-loop-i

@@ -1,9 +1,6 @@
-use native.Mathlib.Omega.{arith}
-use mathlib.Core.Path.{◌≡◌, refl, ap}
 use Prim.Native.Nat.{◌≤◌, ◌+◌, ◌-◌}
 use lib.ListN.{get_or}
 use Rattle.extents.specs.stages.Bands.{Put}
-use Rattle.extents.proofs.PutLaws.{put-none, put_up, put-ends}
 use Rattle.extents.proofs.bands.put_counts.Given as goal
 
 abbrev pub invariant-loop-i : goal.invariant-loop-i

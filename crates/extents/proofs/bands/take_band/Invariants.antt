@@ -1,12 +1,6 @@
-use native.Mathlib.Omega.{arith}
-use mathlib.Core.Path.{◌≡◌, refl, ap}
 use Prim.Native.Nat.{◌≤◌, ◌-◌, ◌*◌}
-use native.Mathlib.Nat.{le_refl, mul-le-mul_right}
 use Rattle.extents.specs.stages.Scans.{column_extent}
 use Rattle.extents.specs.stages.Bands.{Put}
-use Rattle.extents.proofs.ExtentLaws.{row_before}
-use Rattle.extents.proofs.PutLaws.{put-none, put-ends, put-more-down}
-use Rattle.extents.proofs.BandLaws.{takes-row}
 use Rattle.extents.proofs.bands.take_band.Given as goal
 
 abbrev pub invariant-loop-y : goal.invariant-loop-y

@@ -1,7 +1,5 @@
 use native.Mathlib.Omega.{arith}
-use borrow.Author.Tests.{not-true}
 use Rattle.extents.proofs.BandLaws.{take_none, chunk-apart}
-use borrow.Author.Rules.{rules}
 use Rattle.extents.proofs.bands.take_chunk.Goals as goal
 
 pub returns-then-not-joins : goal.returns-then-not-joins

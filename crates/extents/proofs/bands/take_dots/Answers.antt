@@ -1,9 +1,6 @@
 use native.Mathlib.Omega.{arith}
 use mathlib.Core.Path.{refl}
-use Prim.Native.Nat.{◌≤◌, ◌-◌}
 use native.Mathlib.Nat.{le_refl}
-use Rattle.extents.specs.stages.Scans.{column_extent}
-use Rattle.extents.specs.stages.Bands.{Put}
 use Rattle.extents.proofs.PutLaws.{put-none, put-down, put-ends}
 use Rattle.extents.proofs.BandLaws.{takes-next, take-bounds, take-above}
 use Rattle.extents.proofs.bands.take_dots.Goals as goal

@@ -2,7 +2,6 @@ use native.Mathlib.Omega.{arith}
 use mathlib.Core.Bool.{◌&&◌}
 use lib.Dec.{ltb}
 use Rattle.extents.proofs.ExtentLaws.{bit-times-le, rest-times-le, bit_le, bit-choice}
-use borrow.Author.Rules.{rules}
 use Rattle.extents.proofs.bands.take_on.Goals as goal
 
 pub overflow_mul-result : goal.overflow_mul-result

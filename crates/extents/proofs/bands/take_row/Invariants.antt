@@ -1,11 +1,6 @@
-use native.Mathlib.Omega.{arith}
-use mathlib.Core.Path.{◌≡◌, refl, ◌∙◌}
 use Prim.Native.Nat.{◌≤◌, ◌+◌, ◌-◌, ◌*◌}
-use native.Mathlib.Nat.{le_refl}
 use Rattle.extents.specs.stages.Scans.{column_extent}
 use Rattle.extents.specs.stages.Bands.{Put}
-use Rattle.extents.proofs.PutLaws.{put-none, put-ends, put-more-down}
-use Rattle.extents.proofs.BandLaws.{rows_fit, last-row-ends, row_below, takes-next, take_last}
 use Rattle.extents.proofs.bands.take_row.Given as goal
 
 abbrev pub invariant-loop-to : goal.invariant-loop-to

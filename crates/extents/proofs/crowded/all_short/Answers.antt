@@ -1,8 +1,4 @@
 use Rattle.extents.proofs.CrowdedLaws.{short-more}
-use mathlib.Core.Path.{◌≡◌}
-use mathlib.Core.Bool.{true}
-use Prim.Native.Nat.{ℕ, ◌-◌, ◌≤◌, ◌<◌}
-use Rattle.extents.specs.stages.Scans.{no_four}
 use native.Mathlib.Omega.{arith}
 use Rattle.extents.proofs.crowded.all_short.Goals as goal
 

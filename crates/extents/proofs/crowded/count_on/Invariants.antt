@@ -1,15 +1,9 @@
-use Rattle.extents.proofs.ExtentLaws.{row-size}
-use mathlib.Core.Path.{subst, sym, ap, ◌∙◌, ◌≡◌}
-use Rattle.extents.proofs.RunLaws.{starts-run}
-use Rattle.extents.proofs.CrowdedLaws.{parts_none, parts_more, parts-other, count_at, count_small}
+use mathlib.Core.Path.{◌≡◌}
 use mathlib.Core.Bool.{true}
-use Prim.Native.Nat.{suc, ◌+◌, ◌-◌, ◌≤◌}
-use lib.ListN.{length}
+use Prim.Native.Nat.{suc, ◌-◌, ◌≤◌}
 use Rattle.memory.specs.rules.Masks.{is_ink}
-use Rattle.extents.specs.rules.Extents.{behind, extent}
+use Rattle.extents.specs.rules.Extents.{behind}
 use Rattle.extents.specs.stages.Scans.{RowParts, single_dot}
-use native.Mathlib.Omega.{arith}
-use borrow.Author.Rules.{rules}
 use Rattle.extents.proofs.crowded.count_on.Given as goal
 
 abbrev pub invariant-loop-i : goal.invariant-loop-i

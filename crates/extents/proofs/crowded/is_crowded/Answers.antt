@@ -1,6 +1,4 @@
-use Prim.Native.Nat.{◌-◌, ◌≤◌}
 use native.Mathlib.Omega.{arith}
-use borrow.Author.Rules.{rules}
 use Rattle.extents.proofs.crowded.is_crowded.Goals as goal
 
 pub loop-i-init : goal.loop-i-init

@@ -2,7 +2,6 @@ use mathlib.Core.Path.{sym, ap}
 use mathlib.Core.Bool.{cond}
 use Prim.Native.Nat.{◌+◌}
 use borrow.Author.Tests.{lt-ltb, le-ltb}
-use borrow.Author.Rules.{rules}
 use Rattle.extents.proofs.crowded.one_more.Goals as goal
 
 pub returns-then-b-gt0 : goal.returns-then-b-gt0

@@ -1,7 +1,6 @@
 use mathlib.Core.Path.{◌≡◌, ap, ◌∙◌}
 use Prim.Native.Nat.{◌+◌, ◌-◌}
 use native.Mathlib.Omega.{arith}
-use borrow.Author.Rules.{rules}
 use Rattle.extents.specs.stages.Scans.{short_extent_at}
 use Rattle.extents.proofs.PutLaws.{put_as}
 use Rattle.extents.proofs.crowded.short_chunk.Goals as goal

@@ -1,7 +1,6 @@
 use lib.Dec.{ltb}
 use Rattle.extents.proofs.CrowdedLaws.{side-bits, side-bits-turned, side-small, short-code, short-small}
 use native.Mathlib.Omega.{arith}
-use borrow.Author.Rules.{rules}
 use Rattle.extents.proofs.crowded.short_extent.Goals as goal
 
 pub overflow_add-before : goal.overflow_add-before

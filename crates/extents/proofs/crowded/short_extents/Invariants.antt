@@ -1,12 +1,6 @@
-use mathlib.Core.Path.{◌≡◌, refl, ◌∙◌}
-use Prim.Native.Nat.{◌+◌, ◌-◌, ◌≤◌}
-use native.Mathlib.Nat.{le_refl}
-use native.Mathlib.Omega.{arith}
+use Prim.Native.Nat.{◌-◌, ◌≤◌}
 use Rattle.extents.specs.stages.Scans.{short_extent_at}
 use Rattle.extents.specs.stages.Bands.{Put}
-use Rattle.extents.proofs.CrowdedLaws.{row_put, short-is}
-use Rattle.extents.proofs.ExtentLaws.{row-size}
-use Rattle.extents.proofs.PutLaws.{put-none, put_as, put-ends, put-more, put-over}
 use Rattle.extents.proofs.crowded.short_extents.Given as goal
 
 abbrev pub invariant-loop-i : goal.invariant-loop-i

@@ -1,9 +1,4 @@
-use mathlib.Core.Path.{subst, ◌≡◌}
-use Rattle.extents.specs.stages.Scans.{Starts}
-use Rattle.extents.proofs.CrowdedLaws.{starts-here, starts-after}
 use Prim.Native.Nat.{◌-◌, ◌≤◌}
-use Rattle.memory.specs.rules.Masks.{is_ink}
-use native.Mathlib.Omega.{arith}
 use Rattle.extents.proofs.crowded.start_before.Given as goal
 
 abbrev pub invariant-loop-r : goal.invariant-loop-r

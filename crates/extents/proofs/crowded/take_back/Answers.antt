@@ -1,12 +1,10 @@
-use mathlib.Core.Path.{sym, ◌∙◌, subst, ◌≡◌}
+use mathlib.Core.Path.{subst, ◌≡◌}
 use Rattle.extents.proofs.CrowdedLaws.{parts-less, parts-second, back_at}
-use Prim.Native.Nat.{suc, ◌+◌, ◌-◌, ◌≤◌, ◌<◌}
-use lib.ListN.{length}
+use Prim.Native.Nat.{suc, ◌+◌, ◌-◌}
 use Rattle.memory.specs.rules.Masks.{is_ink}
-use Rattle.extents.specs.rules.Extents.{behind, extent}
+use Rattle.extents.specs.rules.Extents.{behind}
 use Rattle.extents.specs.stages.Scans.{RowCounted}
 use native.Mathlib.Omega.{arith}
-use borrow.Author.Rules.{rules}
 use Rattle.extents.proofs.crowded.take_back.Goals as goal
 
 pub loop-i-init : goal.loop-i-init

@@ -1,12 +1,9 @@
-use mathlib.Core.Path.{sym, ◌∙◌, subst, ◌≡◌}
-use Rattle.extents.proofs.CrowdedLaws.{parts-less, parts-second, back_at}
-use Prim.Native.Nat.{suc, ◌+◌, ◌-◌, ◌≤◌, ◌<◌}
+use mathlib.Core.Path.{◌≡◌}
+use Prim.Native.Nat.{◌-◌, ◌≤◌, ◌<◌}
 use lib.ListN.{length}
 use Rattle.memory.specs.rules.Masks.{is_ink}
-use Rattle.extents.specs.rules.Extents.{behind, extent}
+use Rattle.extents.specs.rules.Extents.{extent}
 use Rattle.extents.specs.stages.Scans.{RowCounted}
-use native.Mathlib.Omega.{arith}
-use borrow.Author.Rules.{rules}
 use Rattle.extents.proofs.crowded.take_back.Given as goal
 
 abbrev pub invariant-loop-i : goal.invariant-loop-i

@@ -1,11 +1,6 @@
-use mathlib.Core.Path.{◌∙◌}
 use Prim.Native.Nat.{◌+◌, ◌-◌, ◌≤◌}
-use native.Mathlib.Omega.{arith}
-use borrow.Author.Rules.{rules}
 use Rattle.extents.specs.stages.Scans.{short_extent_at}
 use Rattle.extents.specs.stages.Bands.{Put}
-use Rattle.extents.proofs.CrowdedLaws.{short-around}
-use Rattle.extents.proofs.PutLaws.{put-none, put_up}
 use Rattle.extents.proofs.crowded.tell_short.Given as goal
 
 abbrev pub invariant-loop-k : goal.invariant-loop-k

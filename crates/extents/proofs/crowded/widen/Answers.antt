@@ -1,9 +1,7 @@
 use mathlib.Core.Path.{refl, ◌∙◌, ◌≡◌, ap}
-use Prim.Native.Nat.{◌+◌, ◌-◌, ◌≤◌}
+use Prim.Native.Nat.{◌+◌, ◌-◌}
 use native.Mathlib.Omega.{arith}
-use borrow.Author.Rules.{rules}
-use lib.ListN.{get_or, length}
-use Rattle.extents.specs.stages.Bands.{Put}
+use lib.ListN.{get_or}
 use Rattle.extents.proofs.PutLaws.{put-none, put_up, put-ends}
 use Rattle.extents.proofs.crowded.widen.Goals as goal
 

@@ -1,10 +1,6 @@
-use mathlib.Core.Path.{refl, ◌∙◌, ◌≡◌, ap}
 use Prim.Native.Nat.{◌+◌, ◌-◌, ◌≤◌}
-use native.Mathlib.Omega.{arith}
-use borrow.Author.Rules.{rules}
-use lib.ListN.{get_or, length}
+use lib.ListN.{get_or}
 use Rattle.extents.specs.stages.Bands.{Put}
-use Rattle.extents.proofs.PutLaws.{put-none, put_up, put-ends}
 use Rattle.extents.proofs.crowded.widen.Given as goal
 
 abbrev pub invariant-loop-k : goal.invariant-loop-k

@@ -1,5 +1,4 @@
 use Rattle.extents.specs.rules.Answers.{extents_refusal}
-use borrow.Author.Rules.{rules}
 use Rattle.extents.proofs.entry.judge_extents.Goals as goal
 
 pub returns : goal.returns

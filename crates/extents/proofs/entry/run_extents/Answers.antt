@@ -3,7 +3,6 @@ use Rattle.memory.specs.rules.Words.{over}
 use Rattle.extents.specs.rules.Answers.{extents_along}
 use Rattle.extents.proofs.AnswerLaws.{extents-refused, extents-fit, extents-done}
 use lib.ListN.{length}
-use borrow.Author.Rules.{rules}
 use Rattle.extents.proofs.entry.run_extents.Goals as goal
 
 pub returns-then-number-ne0 : goal.returns-then-number-ne0

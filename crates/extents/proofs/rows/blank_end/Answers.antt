@@ -1,9 +1,6 @@
 use native.Mathlib.Omega.{arith}
-use Prim.Native.Nat.{ℕ, ◌≤◌, ◌<◌, ◌-◌}
-use mathlib.Core.Path.{◌≡◌}
 use mathlib.Core.Bool.{false}
 use native.Mathlib.Nat.{le_refl}
-use lib.ListN.{length}
 use Rattle.memory.specs.rules.Masks.{is_ink}
 use Rattle.extents.proofs.ExtentLaws.{ink-zero, ink-nonzero, scan-none, scan-more}
 use Rattle.extents.proofs.rows.blank_end.Goals as goal

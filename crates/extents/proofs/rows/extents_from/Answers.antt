@@ -1,7 +1,5 @@
-use borrow.Author.Tests.{not-true}
 use Rattle.extents.proofs.ExtentLaws.{row-skip}
 use native.Mathlib.Omega.{arith}
-use borrow.Author.Rules.{rules}
 use Rattle.extents.proofs.rows.extents_from.Goals as goal
 
 pub returns-then-not-goes_on : goal.returns-then-not-goes_on

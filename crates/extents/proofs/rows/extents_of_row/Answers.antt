@@ -1,11 +1,6 @@
 use native.Mathlib.Omega.{arith}
-use mathlib.Core.Path.{◌≡◌, refl, ap, ◌∙◌}
-use Prim.Native.Nat.{◌-◌}
-use lib.ListN.{length}
-use Rattle.memory.proofs.TableLaws.{length-table}
-use Rattle.extents.specs.stages.Scans.{RowTo, single_dot}
+use mathlib.Core.Path.{refl}
 use Rattle.extents.proofs.ExtentLaws.{row-begun, row_done}
-use borrow.Author.Rules.{rules}
 use Rattle.extents.proofs.rows.extents_of_row.Goals as goal
 
 pub loop-x-init : goal.loop-x-init

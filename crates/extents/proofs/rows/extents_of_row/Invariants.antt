@@ -1,11 +1,7 @@
-use native.Mathlib.Omega.{arith}
-use mathlib.Core.Path.{◌≡◌, refl, ap, ◌∙◌}
+use mathlib.Core.Path.{◌≡◌}
 use Prim.Native.Nat.{◌-◌}
 use lib.ListN.{length}
-use Rattle.memory.proofs.TableLaws.{length-table}
-use Rattle.extents.specs.stages.Scans.{RowTo, single_dot}
-use Rattle.extents.proofs.ExtentLaws.{row-begun, row_done}
-use borrow.Author.Rules.{rules}
+use Rattle.extents.specs.stages.Scans.{RowTo}
 use Rattle.extents.proofs.rows.extents_of_row.Given as goal
 
 abbrev pub invariant-loop-x : goal.invariant-loop-x

@@ -1,6 +1,5 @@
 use native.Mathlib.Omega.{arith}
 use Rattle.extents.proofs.ExtentLaws.{row-further, row-run, row-size}
-use borrow.Author.Rules.{rules}
 use Rattle.extents.proofs.rows.extents_of_run.Goals as goal
 
 pub ink_end-ink-requires : goal.ink_end-ink-requires

@@ -1,9 +1,6 @@
 use native.Mathlib.Omega.{arith}
 use native.Mathlib.Nat.{le_refl}
-use mathlib.Core.Path.{◌≡◌, refl}
-use Prim.Native.Nat.{◌≤◌, ◌-◌}
-use lib.ListN.{length}
-use Rattle.extents.specs.stages.Scans.{RowTo}
+use mathlib.Core.Path.{refl}
 use Rattle.extents.proofs.rows.extents_of_runs.Goals as goal
 
 pub loop-s-init : goal.loop-s-init

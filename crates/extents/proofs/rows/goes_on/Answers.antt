@@ -2,7 +2,7 @@ use native.Mathlib.Omega.{arith}
 use native.Mathlib.Nat.{le_refl}
 use mathlib.Core.Path.{◌≡◌}
 use mathlib.Core.Bool.{false, ◌&&◌}
-use Prim.Native.Nat.{ℕ, ◌≤◌, ◌<◌, ◌+◌, ◌-◌}
+use Prim.Native.Nat.{◌+◌}
 use Rattle.memory.specs.rules.Masks.{is_ink}
 use Rattle.extents.proofs.ExtentLaws.{scan-none, goes-on-more}
 use Rattle.extents.proofs.rows.goes_on.Goals as goal

@@ -1,15 +1,9 @@
-use Prim.Native.Nat.{◌+◌, ◌≤◌, ◌-◌, ◌*◌}
-use native.Mathlib.Omega.{arith}
-use mathlib.Core.Path.{◌≡◌, refl, sym, ap, ◌∙◌}
-use native.Mathlib.Nat.{zero-mul, mul_comm}
+use Prim.Native.Nat.{◌≤◌, ◌-◌, ◌*◌}
+use mathlib.Core.Path.{◌≡◌}
 use lib.ListN.{length, get_or}
 use Rattle.memory.specs.rules.Lists.{table}
 use Rattle.memory.specs.rules.Words.{over}
 use Rattle.extents.specs.stages.Scans.{row_extent, until}
-use Rattle.extents.specs.rules.Extents.{row_extents}
-use Rattle.extents.proofs.OverLaws.{over_none, over-all, length_over}
-use Rattle.memory.proofs.PartLaws.{length_part}
-use Rattle.extents.proofs.ExtentLaws.{row_inside, rows-loop}
 use Rattle.extents.proofs.rows.row_extents.Given as goal
 
 abbrev pub invariant-loop-y : goal.invariant-loop-y

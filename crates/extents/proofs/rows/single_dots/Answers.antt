@@ -1,13 +1,10 @@
 use native.Mathlib.Omega.{arith}
-use mathlib.Core.Path.{◌≡◌, refl, sym, ap, ◌∙◌}
-use mathlib.Core.List.{◌++◌}
-use Prim.Native.Nat.{◌≤◌, ◌-◌}
-use lib.ListN.{length, drop, length-set}
+use mathlib.Core.Path.{refl, sym, ap, ◌∙◌}
+use lib.ListN.{length-set}
 use Rattle.memory.specs.rules.Lists.{table}
 use Rattle.memory.proofs.TableLaws.{table_more, table-whole}
 use Rattle.extents.specs.stages.Scans.{single_dot}
 use Rattle.extents.proofs.ExtentLaws.{single-bit, table-begun}
-use borrow.Author.Rules.{rules}
 use Rattle.extents.proofs.rows.single_dots.Goals as goal
 
 pub loop-i-init : goal.loop-i-init

@@ -1,13 +1,9 @@
-use native.Mathlib.Omega.{arith}
-use mathlib.Core.Path.{◌≡◌, refl, sym, ap, ◌∙◌}
+use mathlib.Core.Path.{◌≡◌}
 use mathlib.Core.List.{◌++◌}
 use Prim.Native.Nat.{◌≤◌, ◌-◌}
-use lib.ListN.{length, drop, length-set}
+use lib.ListN.{length, drop}
 use Rattle.memory.specs.rules.Lists.{table}
-use Rattle.memory.proofs.TableLaws.{table_more, table-whole}
 use Rattle.extents.specs.stages.Scans.{single_dot}
-use Rattle.extents.proofs.ExtentLaws.{single-bit, table-begun}
-use borrow.Author.Rules.{rules}
 use Rattle.extents.proofs.rows.single_dots.Given as goal
 
 abbrev pub invariant-loop-i : goal.invariant-loop-i

@@ -1,16 +1,10 @@
 use mathlib.Core.Path.{◌∙◌, ap}
-use mathlib.Core.List.{List}
-use Prim.Native.Nat.{ℕ}
-use Rattle.memory.specs.rules.Records.{encoded}
-use Rattle.grouping.specs.rules.Blocks.{block_number, block_firsts, blocks_of}
+use Rattle.grouping.specs.rules.Blocks.{block_number, block_firsts}
 use Rattle.grouping.specs.stages.Numbering.{with_blocks}
 use Rattle.grouping.specs.stages.LineBoxes.{line_boxes}
-use Rattle.grouping.specs.rules.BlockRecords.{block_record}
-use Rattle.memory.specs.rules.Words.{put_at}
 use Rattle.grouping.proofs.NumberLaws.{blocks-same}
 use Rattle.grouping.proofs.TogetherLaws.{block-low, block-idem}
 use native.Mathlib.Omega.{arith}
-use borrow.Author.Rules.{rules}
 use Rattle.grouping.proofs.block.blocks.Goals as goal
 
 pub write_blocks-count-requires : goal.write_blocks-count-requires

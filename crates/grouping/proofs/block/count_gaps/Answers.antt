@@ -1,14 +1,13 @@
 use borrow.Rule.Slice.PartMut.{put_mid}
-use Prim.Native.Nat.{ℕ, ◌+◌, ◌-◌, ◌≤◌, ◌<◌, zero-le}
-use mathlib.Core.Path.{◌≡◌, refl, sym, ap, ◌∙◌}
+use Prim.Native.Nat.{ℕ, ◌+◌, ◌-◌, zero-le}
+use mathlib.Core.Path.{refl, sym, ap, ◌∙◌}
 use mathlib.Core.List.{List}
 use lib.ListN.{length}
 use Rattle.memory.specs.rules.Words.{over}
 use Rattle.grouping.specs.stages.Counts.{counts}
 use Rattle.grouping.proofs.TableWords.{front-filled, counts_start, counts-done, counted-few}
-use Rattle.grouping.proofs.GapLaws.{gaps_before, before-none, before-few, before-all, gaps-counted}
+use Rattle.grouping.proofs.GapLaws.{before-none, before-few, before-all, gaps-counted}
 use native.Mathlib.Omega.{arith}
-use borrow.Author.Rules.{rules}
 use Rattle.grouping.proofs.block.count_gaps.Goals as goal
 
 pub loop-i-init : goal.loop-i-init

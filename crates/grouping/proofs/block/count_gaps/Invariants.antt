@@ -1,14 +1,9 @@
-use borrow.Rule.Slice.PartMut.{put_mid}
-use Prim.Native.Nat.{ℕ, ◌+◌, ◌-◌, ◌≤◌, ◌<◌, zero-le}
-use mathlib.Core.Path.{◌≡◌, refl, sym, ap, ◌∙◌}
-use mathlib.Core.List.{List}
+use Prim.Native.Nat.{◌-◌, ◌≤◌}
+use mathlib.Core.Path.{◌≡◌}
 use lib.ListN.{length}
 use Rattle.memory.specs.rules.Words.{over}
 use Rattle.grouping.specs.stages.Counts.{counts}
-use Rattle.grouping.proofs.TableWords.{front-filled, counts_start, counts-done, counted-few}
-use Rattle.grouping.proofs.GapLaws.{gaps_before, before-none, before-few, before-all, gaps-counted}
-use native.Mathlib.Omega.{arith}
-use borrow.Author.Rules.{rules}
+use Rattle.grouping.proofs.GapLaws.{gaps_before}
 use Rattle.grouping.proofs.block.count_gaps.Given as goal
 
 abbrev pub invariant-loop-i : goal.invariant-loop-i

@@ -1,15 +1,14 @@
 use borrow.Rule.Slice.PartMut.{put_mid}
-use Prim.Native.Nat.{ℕ, ◌+◌, ◌-◌, ◌≤◌, ◌<◌, zero-le}
-use mathlib.Core.Path.{◌≡◌, refl, sym, ap, ◌∙◌}
+use Prim.Native.Nat.{ℕ, ◌+◌, ◌-◌, zero-le}
+use mathlib.Core.Path.{◌≡◌, refl, ap, ◌∙◌}
 use mathlib.Core.List.{List}
-use lib.ListN.{length, length-set}
+use lib.ListN.{length-set}
 use Rattle.memory.specs.rules.Words.{over}
 use Rattle.memory.specs.rules.Rects.{height}
 use Rattle.grouping.specs.stages.Counts.{counts}
 use Rattle.grouping.proofs.TableWords.{front-filled, counts_start, counts-done}
 use Rattle.grouping.proofs.MedianWords.{heights, heights-none, height-few, height-counted}
 use native.Mathlib.Omega.{arith}
-use borrow.Author.Rules.{rules}
 use Rattle.grouping.proofs.block.count_heights.Goals as goal
 
 pub loop-i-init : goal.loop-i-init

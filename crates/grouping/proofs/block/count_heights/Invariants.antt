@@ -1,15 +1,9 @@
-use borrow.Rule.Slice.PartMut.{put_mid}
-use Prim.Native.Nat.{ℕ, ◌+◌, ◌-◌, ◌≤◌, ◌<◌, zero-le}
-use mathlib.Core.Path.{◌≡◌, refl, sym, ap, ◌∙◌}
-use mathlib.Core.List.{List}
-use lib.ListN.{length, length-set}
+use Prim.Native.Nat.{◌+◌, ◌-◌, ◌≤◌}
+use mathlib.Core.Path.{◌≡◌}
+use lib.ListN.{length}
 use Rattle.memory.specs.rules.Words.{over}
-use Rattle.memory.specs.rules.Rects.{height}
 use Rattle.grouping.specs.stages.Counts.{counts}
-use Rattle.grouping.proofs.TableWords.{front-filled, counts_start, counts-done}
-use Rattle.grouping.proofs.MedianWords.{heights, heights-none, height-few, height-counted}
-use native.Mathlib.Omega.{arith}
-use borrow.Author.Rules.{rules}
+use Rattle.grouping.proofs.MedianWords.{heights}
 use Rattle.grouping.proofs.block.count_heights.Given as goal
 
 abbrev pub invariant-loop-i : goal.invariant-loop-i

@@ -1,7 +1,5 @@
 use Rattle.grouping.specs.stages.LineBoxes.{line_boxes}
 use Rattle.grouping.proofs.MedianWords.{limits-right}
-use native.Mathlib.Omega.{arith}
-use borrow.Author.Rules.{rules}
 use Rattle.grouping.proofs.block.gap_limits.Goals as goal
 
 pub returns : goal.returns

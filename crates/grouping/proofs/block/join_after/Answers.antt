@@ -1,15 +1,12 @@
-use Prim.Native.Nat.{ℕ, ◌+◌, ◌-◌, ◌≤◌, ◌<◌}
-use mathlib.Core.Path.{◌≡◌, refl, sym, ap, ◌∙◌, subst}
-use mathlib.Core.Logic.{⊎_elim}
-use lib.ListN.{length}
+use Prim.Native.Nat.{◌+◌}
+use mathlib.Core.Path.{refl, sym, ap, ◌∙◌, subst}
 use Rattle.memory.specs.declared.rect.Rect.{Rect}
 use Rattle.grouping.specs.stages.Joining.{joins}
 use Rattle.memory.specs.stages.Boxes.{Inside}
 use Rattle.grouping.specs.rules.HeldLines.{line_box}
 use Rattle.grouping.proofs.GapLaws.{too_far, near, pair_fits}
-use Rattle.grouping.proofs.PairLaws.{Rooted, rooted-found, rooted-skip, rooted-join, rooted-stop}
+use Rattle.grouping.proofs.PairLaws.{rooted-found, rooted-skip, rooted-join, rooted-stop}
 use native.Mathlib.Omega.{arith}
-use borrow.Author.Rules.{rules}
 use Rattle.grouping.proofs.block.join_after.Goals as goal
 use Rattle.grouping.proofs.block.join_after.Goals.{else-overlaps, then-overlaps}
 
@@ -43,8 +40,8 @@ pub loop-j-preserved : goal.loop-j-preserved
 loop-j-preserved c = let Near-by = near c.args.overlap c.args.limit (line_box c.args.lines.now c.args.i) (line_box c.args.lines.now c.loop-j.j) (rw (c.line_gap.ensures, c.line_box-b.ensures, c.line_box-a.ensures) at c.if-limit-line_gap.false) in
     let o = rw (c.line_box-b.ensures, c.line_box-a.ensures) at c.overlaps.ensures in
     elim c.if-overlaps.branch [
-    then-overlaps w ↦ rw (w.parents-is, w.root-is) (omega arith, w.unite-root.auto.parents ∙ c.loop-j.invariant.1, rooted-join (joins c.args.overlap c.args.limit c.args.lines.now) c.args.n c.loop-j.parents w.unite-root.new.parents c.args.i c.loop-j.j c.loop-j.root w.unite-root.result c.loop-j.invariant.2 (omega arith) (omega arith) (Near-by ∙ (sym o ∙ w.if-overlaps.true)) w.unite-root.ensures)
-    | else-overlaps w ↦ rw (w.parents-is, w.root-is) (omega arith, c.loop-j.invariant.1, rooted-skip (joins c.args.overlap c.args.limit c.args.lines.now) c.args.n c.loop-j.parents c.loop-j.parents c.args.i c.loop-j.j c.loop-j.root c.loop-j.invariant.2 (Near-by ∙ (sym o ∙ w.if-overlaps.false)))
+      | then-overlaps w ↦ rw (w.parents-is, w.root-is) (omega arith, w.unite-root.auto.parents ∙ c.loop-j.invariant.1, rooted-join (joins c.args.overlap c.args.limit c.args.lines.now) c.args.n c.loop-j.parents w.unite-root.new.parents c.args.i c.loop-j.j c.loop-j.root w.unite-root.result c.loop-j.invariant.2 (omega arith) (omega arith) (Near-by ∙ (sym o ∙ w.if-overlaps.true)) w.unite-root.ensures)
+      | else-overlaps w ↦ rw (w.parents-is, w.root-is) (omega arith, c.loop-j.invariant.1, rooted-skip (joins c.args.overlap c.args.limit c.args.lines.now) c.args.n c.loop-j.parents c.loop-j.parents c.args.i c.loop-j.j c.loop-j.root c.loop-j.invariant.2 (Near-by ∙ (sym o ∙ w.if-overlaps.false)))
     ]
 
 pub returns : goal.returns

@@ -1,15 +1,8 @@
-use Prim.Native.Nat.{ℕ, ◌+◌, ◌-◌, ◌≤◌, ◌<◌}
-use mathlib.Core.Path.{◌≡◌, refl, sym, ap, ◌∙◌, subst}
-use mathlib.Core.Logic.{⊎_elim}
+use Prim.Native.Nat.{◌+◌, ◌-◌, ◌≤◌}
+use mathlib.Core.Path.{◌≡◌}
 use lib.ListN.{length}
-use Rattle.memory.specs.declared.rect.Rect.{Rect}
 use Rattle.grouping.specs.stages.Joining.{joins}
-use Rattle.memory.specs.stages.Boxes.{Inside}
-use Rattle.grouping.specs.rules.HeldLines.{line_box}
-use Rattle.grouping.proofs.GapLaws.{too_far, near, pair_fits}
-use Rattle.grouping.proofs.PairLaws.{Rooted, rooted-found, rooted-skip, rooted-join, rooted-stop}
-use native.Mathlib.Omega.{arith}
-use borrow.Author.Rules.{rules}
+use Rattle.grouping.proofs.PairLaws.{Rooted}
 use Rattle.grouping.proofs.block.join_after.Given as goal
 
 abbrev pub invariant-loop-j : goal.invariant-loop-j

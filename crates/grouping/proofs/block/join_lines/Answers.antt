@@ -1,10 +1,8 @@
-use Prim.Native.Nat.{ℕ, ◌+◌, ◌-◌, ◌≤◌, ◌<◌, zero-le}
-use mathlib.Core.Path.{◌≡◌, refl, sym, ap, ◌∙◌, subst}
-use lib.ListN.{length}
-use Rattle.grouping.specs.stages.Joining.{joins, Joined}
+use Prim.Native.Nat.{◌+◌, zero-le}
+use mathlib.Core.Path.{refl, ◌∙◌}
+use Rattle.grouping.specs.stages.Joining.{joins}
 use Rattle.grouping.proofs.PairLaws.{joined-none, joined-all}
 use native.Mathlib.Omega.{arith}
-use borrow.Author.Rules.{rules}
 use Rattle.grouping.proofs.block.join_lines.Goals as goal
 
 pub loop-i-init : goal.loop-i-init

@@ -5,7 +5,6 @@ use lib.Seq.{length-take-le}
 use Rattle.sorting.specs.stages.Counts.{CountsOf}
 use Rattle.grouping.proofs.MedianWords.{counts_of, heights, heights-length, heights-below}
 use native.Mathlib.Omega.{arith}
-use borrow.Author.Rules.{rules}
 use Rattle.grouping.proofs.block.line_height.Goals as goal
 
 pub slice_bounds-median_of_counts-end-2 : goal.slice_bounds-median_of_counts-end-2

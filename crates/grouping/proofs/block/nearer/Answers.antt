@@ -1,8 +1,6 @@
 use Rattle.grouping.specs.rules.Blocks.{overlapping}
 use mathlib.Core.Path.{sym, ◌∙◌}
 use Rattle.grouping.proofs.GapLaws.{nearest-kept, nearest-found, nearest-not}
-use native.Mathlib.Omega.{arith}
-use borrow.Author.Rules.{rules}
 use Rattle.grouping.proofs.block.nearer.Goals as goal
 
 pub returns-then-nearest-gap : goal.returns-then-nearest-gap

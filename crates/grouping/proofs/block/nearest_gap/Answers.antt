@@ -1,11 +1,10 @@
-use Prim.Native.Nat.{ℕ, ◌+◌, ◌-◌, ◌≤◌, ◌<◌}
-use mathlib.Core.Path.{◌≡◌, refl, sym, ap, ◌∙◌, subst}
+use Prim.Native.Nat.{◌+◌}
+use mathlib.Core.Path.{refl, sym, ap, ◌∙◌, subst}
 use Rattle.memory.specs.declared.rect.Rect.{Rect}
 use Rattle.grouping.specs.stages.Joining.{least_with}
 use Rattle.memory.specs.stages.Boxes.{Inside}
 use Rattle.grouping.proofs.GapLaws.{gaps_from, pair_fits, walk-on, walk_end, walk-stop}
 use native.Mathlib.Omega.{arith}
-use borrow.Author.Rules.{rules}
 use Rattle.grouping.proofs.block.nearest_gap.Goals as goal
 
 pub line_box-a-requires : goal.line_box-a-requires
@@ -30,10 +29,10 @@ nearer-nearest-requires c = let i = c.requires.0.1.boxes in pair_fits c.requires
 
 pub loop-j-preserved : goal.loop-j-preserved
 loop-j-preserved c = (
-      omega arith,
-      rw (c.nearer-nearest.ensures, c.line_gap-gap.ensures, c.line_box-b.ensures)
-          (c.loop-j.invariant.1 ∙ walk-on c.args.overlap c.args.cap c.line_box-a.result c.args.lines.now c.args.n c.loop-j.j c.loop-j.nearest (omega arith) (rw (c.line_gap-gap.ensures, c.line_box-b.ensures) at c.if-cap-gap.false)),
-    )
+  omega arith,
+  rw (c.nearer-nearest.ensures, c.line_gap-gap.ensures, c.line_box-b.ensures)
+      (c.loop-j.invariant.1 ∙ walk-on c.args.overlap c.args.cap c.line_box-a.result c.args.lines.now c.args.n c.loop-j.j c.loop-j.nearest (omega arith) (rw (c.line_gap-gap.ensures, c.line_box-b.ensures) at c.if-cap-gap.false)),
+)
 
 pub returns : goal.returns
 returns c = sym (walk_end c.args.overlap c.args.cap c.line_box-a.result c.args.lines.now c.args.n c.loop-j.j c.loop-j.nearest c.loop-j-test.false)

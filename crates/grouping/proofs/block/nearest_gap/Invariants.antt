@@ -1,11 +1,7 @@
-use Prim.Native.Nat.{ℕ, ◌+◌, ◌-◌, ◌≤◌, ◌<◌}
-use mathlib.Core.Path.{◌≡◌, refl, sym, ap, ◌∙◌, subst}
-use Rattle.memory.specs.declared.rect.Rect.{Rect}
+use Prim.Native.Nat.{◌+◌, ◌-◌, ◌≤◌}
+use mathlib.Core.Path.{◌≡◌}
 use Rattle.grouping.specs.stages.Joining.{least_with}
-use Rattle.memory.specs.stages.Boxes.{Inside}
-use Rattle.grouping.proofs.GapLaws.{gaps_from, pair_fits, walk-on, walk_end, walk-stop}
-use native.Mathlib.Omega.{arith}
-use borrow.Author.Rules.{rules}
+use Rattle.grouping.proofs.GapLaws.{gaps_from}
 use Rattle.grouping.proofs.block.nearest_gap.Given as goal
 
 abbrev pub invariant-loop-j : goal.invariant-loop-j

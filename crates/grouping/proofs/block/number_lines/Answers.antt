@@ -3,7 +3,6 @@ use Rattle.grouping.specs.stages.LineBoxes.{line_boxes}
 use Rattle.grouping.proofs.CoverWords.{filled_at}
 use Rattle.grouping.proofs.TogetherLaws.{joins-firsts, numbers-right}
 use native.Mathlib.Omega.{arith}
-use borrow.Author.Rules.{rules}
 use Rattle.grouping.proofs.block.number_lines.Goals as goal
 
 pub join_lines-requires : goal.join_lines-requires

@@ -1,11 +1,10 @@
-use mathlib.Core.Path.{◌≡◌, refl, sym, ap, ◌∙◌}
-use mathlib.Core.List.{List, ◌++◌}
-use Prim.Native.Nat.{ℕ, ◌+◌, ◌-◌, ◌≤◌, ◌<◌, zero-le}
-use lib.ListN.{length, drop, set, length-set}
+use mathlib.Core.Path.{◌≡◌, refl, ap, ◌∙◌}
+use mathlib.Core.List.{◌++◌}
+use Prim.Native.Nat.{ℕ, zero-le}
+use lib.ListN.{drop, length-set}
 use Rattle.memory.specs.rules.Lists.{table}
 use Rattle.grouping.proofs.TableWords.{table_none, table_more, over-table}
 use native.Mathlib.Omega.{arith}
-use borrow.Author.Rules.{rules}
 use Rattle.grouping.proofs.block.own_parents.Goals as goal
 
 pub loop-i-init : goal.loop-i-init

@@ -5,7 +5,6 @@ use Rattle.grouping.specs.rules.Blocks.{nearest_gaps}
 use Rattle.grouping.specs.stages.LineBoxes.{line_boxes}
 use Rattle.grouping.proofs.MedianWords.{counts_of, gaps-below}
 use native.Mathlib.Omega.{arith}
-use borrow.Author.Rules.{rules}
 use Rattle.grouping.proofs.block.typical_gap.Goals as goal
 
 pub slice_bounds-median_of_counts-end-2 : goal.slice_bounds-median_of_counts-end-2

@@ -5,8 +5,6 @@ use Rattle.memory.proofs.PartLaws.{tail-part}
 use Rattle.grouping.specs.rules.Columns.{columns_of}
 use Rattle.grouping.specs.stages.LineBoxes.{Lines, line_boxes}
 use Rattle.grouping.proofs.CoverWords.{columns-right, columns-written}
-use native.Mathlib.Omega.{arith}
-use borrow.Author.Rules.{rules}
 use Rattle.grouping.proofs.column.columns.Goals as goal
 
 pub fill_cover-busiest-requires : goal.fill_cover-busiest-requires

@@ -1,10 +1,9 @@
-use mathlib.Core.Path.{◌≡◌, sym}
+use mathlib.Core.Path.{sym}
 use lib.Seq.{length-take-le}
 use Rattle.grouping.specs.rules.Columns.{cover}
 use Rattle.grouping.specs.stages.LineBoxes.{line_boxes}
 use Rattle.grouping.proofs.CoverWords.{tail-room, start-below, end_below, filled-steps, filled_at}
 use native.Mathlib.Omega.{arith}
-use borrow.Author.Rules.{rules}
 use Rattle.grouping.proofs.column.fill_cover.Goals as goal
 
 pub slice_bounds-count_field-end-2 : goal.slice_bounds-count_field-end-2

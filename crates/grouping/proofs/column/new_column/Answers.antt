@@ -1,8 +1,7 @@
 use native.Mathlib.Numerals.{towards_suc}
-use mathlib.Core.Path.{◌≡◌, refl}
+use mathlib.Core.Path.{refl}
 use lib.ListN.{length-set}
 use native.Mathlib.Omega.{arith}
-use borrow.Author.Rules.{rules}
 use Rattle.grouping.proofs.column.new_column.Goals as goal
 
 pub bounds-out-at-2 : goal.bounds-out-at-2

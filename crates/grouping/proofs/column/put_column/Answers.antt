@@ -1,6 +1,5 @@
 use Rattle.grouping.proofs.ColumnWords.{put_first, put_on, put-new}
 use native.Mathlib.Omega.{arith}
-use borrow.Author.Rules.{rules}
 use Rattle.grouping.proofs.column.put_column.Goals as goal
 
 pub returns-then-n-eq0 : goal.returns-then-n-eq0

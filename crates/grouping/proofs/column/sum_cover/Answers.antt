@@ -1,10 +1,8 @@
-use Prim.Native.Nat.{ℕ, ◌+◌, ◌-◌, ◌≤◌, ◌<◌, zero-le}
-use mathlib.Core.Path.{◌≡◌, refl}
-use lib.ListN.{length, length-set}
-use Rattle.grouping.specs.stages.Covers.{CoverSteps}
-use Rattle.grouping.proofs.CoverSums.{Summed, summed-none, summed-here, summed-ended, summed-more, summed-all}
+use Prim.Native.Nat.{zero-le}
+use mathlib.Core.Path.{refl}
+use lib.ListN.{length-set}
+use Rattle.grouping.proofs.CoverSums.{summed-none, summed-here, summed-ended, summed-more, summed-all}
 use native.Mathlib.Omega.{arith}
-use borrow.Author.Rules.{rules}
 use Rattle.grouping.proofs.column.sum_cover.Goals as goal
 
 pub loop-x-init : goal.loop-x-init

@@ -1,10 +1,8 @@
-use Prim.Native.Nat.{ℕ, ◌+◌, ◌-◌, ◌≤◌, ◌<◌, zero-le}
-use mathlib.Core.Path.{◌≡◌, refl}
-use lib.ListN.{length, length-set}
+use Prim.Native.Nat.{ℕ, ◌-◌, ◌≤◌}
+use mathlib.Core.Path.{◌≡◌}
+use lib.ListN.{length}
 use Rattle.grouping.specs.stages.Covers.{CoverSteps}
-use Rattle.grouping.proofs.CoverSums.{Summed, summed-none, summed-here, summed-ended, summed-more, summed-all}
-use native.Mathlib.Omega.{arith}
-use borrow.Author.Rules.{rules}
+use Rattle.grouping.proofs.CoverSums.{Summed}
 use Rattle.grouping.proofs.column.sum_cover.Given as goal
 
 abbrev pub invariant-loop-x : goal.invariant-loop-x

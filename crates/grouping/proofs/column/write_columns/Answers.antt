@@ -1,11 +1,7 @@
 use mathlib.Core.Path.{sym, ◌∙◌, ◌≡◌, refl}
-use Prim.Native.Nat.{ℕ, ◌+◌, ◌-◌, ◌≤◌, ◌<◌, zero-le}
-use mathlib.Core.Logic.{⊎_elim}
-use lib.ListN.{length, get_or}
-use Rattle.grouping.specs.rules.Columns.{enough_cover}
-use Rattle.grouping.proofs.ColumnWords.{Written, written_none, written-few, written_last, written-no, written-yes, written_all}
+use Prim.Native.Nat.{zero-le}
+use Rattle.grouping.proofs.ColumnWords.{written_none, written-few, written_last, written-no, written-yes, written_all}
 use native.Mathlib.Omega.{arith}
-use borrow.Author.Rules.{rules}
 use Rattle.grouping.proofs.column.write_columns.Goals as goal
 use Rattle.grouping.proofs.column.write_columns.Goals.{else-enough_cover, then-enough_cover}
 
@@ -19,8 +15,8 @@ pub loop-x-preserved : goal.loop-x-preserved
 loop-x-preserved c = let q = c.args in
     let e = c.enough_cover.ensures in
     elim c.if-enough_cover.branch [
-    then-enough_cover w ↦ rw (w.out-is, w.n-is) (omega arith, omega (arith, w.put_column-n.auto.out), written-yes q.gap _ q.out.now c.loop-x.out c.loop-x.n c.loop-x.x c.loop-x.invariant.2 w.put_column-n.new.out w.put_column-n.result (sym e ∙ w.if-enough_cover.true) w.put_column-n.ensures)
-    | else-enough_cover w ↦ rw (w.out-is, w.n-is) (omega arith, c.loop-x.invariant.1, written-no q.gap _ q.out.now c.loop-x.out c.loop-x.n c.loop-x.x c.loop-x.invariant.2 (sym e ∙ w.if-enough_cover.false))
+      | then-enough_cover w ↦ rw (w.out-is, w.n-is) (omega arith, omega (arith, w.put_column-n.auto.out), written-yes q.gap _ q.out.now c.loop-x.out c.loop-x.n c.loop-x.x c.loop-x.invariant.2 w.put_column-n.new.out w.put_column-n.result (sym e ∙ w.if-enough_cover.true) w.put_column-n.ensures)
+      | else-enough_cover w ↦ rw (w.out-is, w.n-is) (omega arith, c.loop-x.invariant.1, written-no q.gap _ q.out.now c.loop-x.out c.loop-x.n c.loop-x.x c.loop-x.invariant.2 (sym e ∙ w.if-enough_cover.false))
     ]
 
 pub returns : goal.returns

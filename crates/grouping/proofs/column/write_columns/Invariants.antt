@@ -1,11 +1,8 @@
-use mathlib.Core.Path.{sym, ◌∙◌, ◌≡◌, refl}
-use Prim.Native.Nat.{ℕ, ◌+◌, ◌-◌, ◌≤◌, ◌<◌, zero-le}
-use mathlib.Core.Logic.{⊎_elim}
+use mathlib.Core.Path.{◌≡◌}
+use Prim.Native.Nat.{ℕ, ◌-◌, ◌≤◌}
 use lib.ListN.{length, get_or}
 use Rattle.grouping.specs.rules.Columns.{enough_cover}
-use Rattle.grouping.proofs.ColumnWords.{Written, written_none, written-few, written_last, written-no, written-yes, written_all}
-use native.Mathlib.Omega.{arith}
-use borrow.Author.Rules.{rules}
+use Rattle.grouping.proofs.ColumnWords.{Written}
 use Rattle.grouping.proofs.column.write_columns.Given as goal
 
 abbrev pub invariant-loop-x : goal.invariant-loop-x

@@ -2,7 +2,6 @@ use Prim.Native.Nat.{◌<◌}
 use lib.ListN.{get_or}
 use Rattle.grouping.proofs.TableWords.{below-counted, below_left}
 use native.Mathlib.Omega.{arith}
-use borrow.Author.Rules.{rules}
 use Rattle.grouping.proofs.counts.count_below.Goals as goal
 
 pub overflow_add-table : goal.overflow_add-table

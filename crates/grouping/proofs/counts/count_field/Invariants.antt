@@ -1,14 +1,10 @@
-use borrow.Rule.Slice.PartMut.{put_mid}
-use Rattle.grouping.proofs.TableWords.{front-filled, counts-done, field-none, field-more, field_fits}
-use Prim.Native.Nat.{ℕ, ◌+◌, ◌-◌, ◌*◌, ◌≤◌, ◌<◌, zero-le}
-use mathlib.Core.Path.{◌≡◌, refl, sym, ap, ◌∙◌}
-use lib.ListN.{length, get_or, length-set}
+use Prim.Native.Nat.{◌-◌, ◌≤◌}
+use mathlib.Core.Path.{◌≡◌}
+use lib.ListN.{length}
 use Rattle.memory.specs.rules.Words.{over}
 use Rattle.smoothing.specs.rules.LineRecords.{line_words}
 use Rattle.memory.specs.rules.Records.{fields}
 use Rattle.grouping.specs.stages.Counts.{counts}
-use native.Mathlib.Omega.{arith}
-use borrow.Author.Rules.{rules}
 use Rattle.grouping.proofs.counts.count_field.Given as goal
 
 abbrev pub invariant-loop-i : goal.invariant-loop-i

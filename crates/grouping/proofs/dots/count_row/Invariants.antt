@@ -1,15 +1,8 @@
-use Prim.Native.Nat.{ℕ, ◌+◌, ◌-◌, ◌*◌, ◌≤◌}
-use mathlib.Core.Path.{◌≡◌, ap, ◌∙◌}
-use mathlib.Core.Bool.{Bool, cond}
+use Prim.Native.Nat.{◌+◌, ◌-◌, ◌*◌, ◌≤◌}
+use mathlib.Core.Path.{◌≡◌}
 use Rattle.memory.specs.rules.Lists.{count_if}
-use Rattle.levelling.specs.rules.Frames.{Frame}
 use Rattle.grouping.specs.rules.Readings.{listed}
 use Rattle.grouping.specs.stages.Dots.{frame_by}
-use Rattle.grouping.proofs.DotLaws.{count-dot, count-few, dot-below, bit-at-most, row-start, row-end}
-use Rattle.memory.proofs.PlaceLaws.{count-gap}
-use Rattle.grouping.proofs.SpanLaws.{sheared}
-use native.Mathlib.Omega.{arith}
-use borrow.Author.Rules.{rules}
 use Rattle.grouping.proofs.dots.count_row.Given as goal
 
 abbrev pub invariant-loop-c : goal.invariant-loop-c

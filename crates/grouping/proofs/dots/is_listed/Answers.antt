@@ -6,7 +6,6 @@ use lib.Dec.{eqb}
 use Rattle.grouping.specs.stages.Dots.{frame_by}
 use Rattle.grouping.proofs.DotLaws.{place-row, place, place-listed}
 use native.Mathlib.Omega.{arith}
-use borrow.Author.Rules.{rules}
 use Rattle.grouping.proofs.dots.is_listed.Goals as goal
 
 pub overflow_add-row : goal.overflow_add-row

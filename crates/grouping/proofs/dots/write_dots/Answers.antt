@@ -1,17 +1,10 @@
-use Prim.Native.Nat.{ℕ, ◌-◌, ◌*◌, ◌≤◌}
-use mathlib.Core.Path.{◌≡◌, refl, ◌∙◌}
-use mathlib.Core.Bool.{Bool}
-use lib.ListN.{length}
-use Rattle.memory.specs.rules.Lists.{count_if, keep, upto}
-use Rattle.memory.specs.rules.Words.{over}
-use Rattle.levelling.specs.rules.Frames.{Frame}
-use Rattle.grouping.specs.rules.Readings.{listed, columns_and_rows}
+use mathlib.Core.Path.{refl, ◌∙◌}
+use Rattle.grouping.specs.rules.Readings.{listed}
 use Rattle.grouping.specs.stages.Dots.{frame_by}
 use Rattle.grouping.proofs.DotLaws.{count_none, dots-start, dots-gap, dots-all, rows_start, rows_end}
 use Rattle.memory.proofs.PlaceLaws.{count-gap}
 use Rattle.grouping.proofs.SpanLaws.{sheared}
 use native.Mathlib.Omega.{arith}
-use borrow.Author.Rules.{rules}
 use Rattle.grouping.proofs.dots.write_dots.Goals as goal
 
 pub row_span-rows-requires : goal.row_span-rows-requires

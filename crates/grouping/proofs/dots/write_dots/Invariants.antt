@@ -1,17 +1,10 @@
-use Prim.Native.Nat.{ℕ, ◌-◌, ◌*◌, ◌≤◌}
-use mathlib.Core.Path.{◌≡◌, refl, ◌∙◌}
-use mathlib.Core.Bool.{Bool}
+use Prim.Native.Nat.{◌-◌, ◌*◌, ◌≤◌}
+use mathlib.Core.Path.{◌≡◌}
 use lib.ListN.{length}
 use Rattle.memory.specs.rules.Lists.{count_if, keep, upto}
 use Rattle.memory.specs.rules.Words.{over}
-use Rattle.levelling.specs.rules.Frames.{Frame}
 use Rattle.grouping.specs.rules.Readings.{listed, columns_and_rows}
 use Rattle.grouping.specs.stages.Dots.{frame_by}
-use Rattle.grouping.proofs.DotLaws.{count_none, dots-start, dots-gap, dots-all, rows_start, rows_end}
-use Rattle.memory.proofs.PlaceLaws.{count-gap}
-use Rattle.grouping.proofs.SpanLaws.{sheared}
-use native.Mathlib.Omega.{arith}
-use borrow.Author.Rules.{rules}
 use Rattle.grouping.proofs.dots.write_dots.Given as goal
 
 abbrev pub invariant-loop-y : goal.invariant-loop-y

@@ -1,19 +1,11 @@
-use Prim.Native.Nat.{ℕ, ◌+◌, ◌-◌, ◌*◌, ◌≤◌}
-use mathlib.Core.Path.{◌≡◌, refl, sym, ◌∙◌}
-use mathlib.Core.Bool.{Bool}
-use mathlib.Core.List.{List}
-use mathlib.Core.Logic.{⊎_elim}
-use lib.ListN.{length}
-use Rattle.memory.specs.rules.Lists.{count_if, keep, upto}
-use Rattle.memory.specs.rules.Words.{over}
-use Rattle.levelling.specs.rules.Frames.{Frame}
-use Rattle.grouping.specs.rules.Readings.{listed, columns_and_rows}
+use Prim.Native.Nat.{◌+◌, ◌*◌}
+use mathlib.Core.Path.{refl, sym, ◌∙◌}
+use Rattle.grouping.specs.rules.Readings.{listed}
 use Rattle.grouping.specs.stages.Dots.{frame_by}
 use Rattle.grouping.proofs.DotLaws.{count-few, dot-below, dot-room, dots-yes, dots-no, count-dot-yes, count-dot-no, row-start, row-end, dots-gap}
 use Rattle.memory.proofs.PlaceLaws.{count-gap}
 use Rattle.grouping.proofs.SpanLaws.{sheared}
 use native.Mathlib.Omega.{arith}
-use borrow.Author.Rules.{rules}
 use Rattle.grouping.proofs.dots.write_row.Goals as goal
 use Rattle.grouping.proofs.dots.write_row.Goals.{else-is_listed, then-is_listed}
 
@@ -40,15 +32,15 @@ overflow_add-m c = let f = count-few (listed (frame_by c.args.q.sides c.args.she
 
 pub loop-c-preserved : goal.loop-c-preserved
 loop-c-preserved c = elim c.if-is_listed.branch [
-    then-is_listed w ↦ let e = dot-room (frame_by c.args.q.sides c.args.shear.now c.args.shear_x.now) c.args.kinds.now c.args.q.kind c.args.q.r c.loop-c.c c.args.y (omega (arith, c.column_span-columns.ensures.end_inside)) c.requires.2 (sym c.is_listed.ensures ∙ w.if-is_listed.true) in
-    rw (w.out-is, w.m-is) (
-      omega (arith, c.column_span-columns.ensures.end_inside),
-      w.put_dot.auto.out ∙ c.loop-c.invariant.1,
-      count-dot-yes (frame_by c.args.q.sides c.args.shear.now c.args.shear_x.now) c.args.kinds.now c.args.q.kind c.args.q.r c.loop-c.c c.args.y (omega (arith, c.column_span-columns.ensures.end_inside)) c.loop-c.m (sym c.is_listed.ensures ∙ w.if-is_listed.true) c.loop-c.invariant.2,
-      λ s o. w.put_dot.ensures ∙ dots-yes (frame_by c.args.q.sides c.args.shear.now c.args.shear_x.now) c.args.kinds.now c.args.q.kind c.args.q.r c.loop-c.c c.args.y (omega (arith, c.column_span-columns.ensures.end_inside)) c.loop-c.m s c.loop-c.out (sym c.is_listed.ensures ∙ w.if-is_listed.true) c.loop-c.invariant.2 (omega arith) (c.loop-c.invariant.3 s o),
-    )
-    | else-is_listed w ↦ rw (w.out-is, w.m-is) (omega (arith, c.column_span-columns.ensures.end_inside), c.loop-c.invariant.1, count-dot-no (frame_by c.args.q.sides c.args.shear.now c.args.shear_x.now) c.args.kinds.now c.args.q.kind c.args.q.r c.loop-c.c c.args.y (omega (arith, c.column_span-columns.ensures.end_inside)) c.loop-c.m (sym c.is_listed.ensures ∙ w.if-is_listed.false) c.loop-c.invariant.2, λ s o. dots-no (frame_by c.args.q.sides c.args.shear.now c.args.shear_x.now) c.args.kinds.now c.args.q.kind c.args.q.r c.loop-c.c c.args.y (omega (arith, c.column_span-columns.ensures.end_inside)) s c.loop-c.out (sym c.is_listed.ensures ∙ w.if-is_listed.false) (c.loop-c.invariant.3 s o))
-    ]
+  | then-is_listed w ↦ let e = dot-room (frame_by c.args.q.sides c.args.shear.now c.args.shear_x.now) c.args.kinds.now c.args.q.kind c.args.q.r c.loop-c.c c.args.y (omega (arith, c.column_span-columns.ensures.end_inside)) c.requires.2 (sym c.is_listed.ensures ∙ w.if-is_listed.true) in
+      rw (w.out-is, w.m-is) (
+        omega (arith, c.column_span-columns.ensures.end_inside),
+        w.put_dot.auto.out ∙ c.loop-c.invariant.1,
+        count-dot-yes (frame_by c.args.q.sides c.args.shear.now c.args.shear_x.now) c.args.kinds.now c.args.q.kind c.args.q.r c.loop-c.c c.args.y (omega (arith, c.column_span-columns.ensures.end_inside)) c.loop-c.m (sym c.is_listed.ensures ∙ w.if-is_listed.true) c.loop-c.invariant.2,
+        λ s o. w.put_dot.ensures ∙ dots-yes (frame_by c.args.q.sides c.args.shear.now c.args.shear_x.now) c.args.kinds.now c.args.q.kind c.args.q.r c.loop-c.c c.args.y (omega (arith, c.column_span-columns.ensures.end_inside)) c.loop-c.m s c.loop-c.out (sym c.is_listed.ensures ∙ w.if-is_listed.true) c.loop-c.invariant.2 (omega arith) (c.loop-c.invariant.3 s o),
+      )
+  | else-is_listed w ↦ rw (w.out-is, w.m-is) (omega (arith, c.column_span-columns.ensures.end_inside), c.loop-c.invariant.1, count-dot-no (frame_by c.args.q.sides c.args.shear.now c.args.shear_x.now) c.args.kinds.now c.args.q.kind c.args.q.r c.loop-c.c c.args.y (omega (arith, c.column_span-columns.ensures.end_inside)) c.loop-c.m (sym c.is_listed.ensures ∙ w.if-is_listed.false) c.loop-c.invariant.2, λ s o. dots-no (frame_by c.args.q.sides c.args.shear.now c.args.shear_x.now) c.args.kinds.now c.args.q.kind c.args.q.r c.loop-c.c c.args.y (omega (arith, c.column_span-columns.ensures.end_inside)) s c.loop-c.out (sym c.is_listed.ensures ∙ w.if-is_listed.false) (c.loop-c.invariant.3 s o))
+]
 
 pub returns : goal.returns
 returns c = (count-gap (row-end c.args.kinds.now c.args.q.kind c.column_span-columns.ensures c.loop-c.c (omega arith) c.loop-c.invariant.0) c.loop-c.invariant.2, λ s o. dots-gap c.args.q.sides.page_w s c.loop-c.out (row-end c.args.kinds.now c.args.q.kind c.column_span-columns.ensures c.loop-c.c (omega arith) c.loop-c.invariant.0) (c.loop-c.invariant.3 s o))

@@ -1,19 +1,11 @@
 use Prim.Native.Nat.{ℕ, ◌+◌, ◌-◌, ◌*◌, ◌≤◌}
-use mathlib.Core.Path.{◌≡◌, refl, sym, ◌∙◌}
-use mathlib.Core.Bool.{Bool}
+use mathlib.Core.Path.{◌≡◌}
 use mathlib.Core.List.{List}
-use mathlib.Core.Logic.{⊎_elim}
 use lib.ListN.{length}
 use Rattle.memory.specs.rules.Lists.{count_if, keep, upto}
 use Rattle.memory.specs.rules.Words.{over}
-use Rattle.levelling.specs.rules.Frames.{Frame}
 use Rattle.grouping.specs.rules.Readings.{listed, columns_and_rows}
 use Rattle.grouping.specs.stages.Dots.{frame_by}
-use Rattle.grouping.proofs.DotLaws.{count-few, dot-below, dot-room, dots-yes, dots-no, count-dot-yes, count-dot-no, row-start, row-end, dots-gap}
-use Rattle.memory.proofs.PlaceLaws.{count-gap}
-use Rattle.grouping.proofs.SpanLaws.{sheared}
-use native.Mathlib.Omega.{arith}
-use borrow.Author.Rules.{rules}
 use Rattle.grouping.proofs.dots.write_row.Given as goal
 
 abbrev pub invariant-loop-c : goal.invariant-loop-c

@@ -1,12 +1,10 @@
-use Prim.Native.Nat.{ℕ, ◌+◌, ◌-◌, ◌≤◌, ◌<◌, zero-le}
-use mathlib.Core.Path.{◌≡◌, refl, sym, ap, ◌∙◌}
+use Prim.Native.Nat.{ℕ, ◌-◌, ◌≤◌}
+use mathlib.Core.Path.{◌≡◌}
 use mathlib.Core.List.{List}
 use lib.ListN.{length, drop}
 use Rattle.union_find.specs.rules.Classes.{first_of}
 use Rattle.union_find.specs.stages.Forests.{Forest}
-use Rattle.grouping.proofs.NumberLaws.{rest_at, number-rest, Numbered, numbered-none, numbered_more, numbered-all}
-use native.Mathlib.Omega.{arith}
-use borrow.Author.Rules.{rules}
+use Rattle.grouping.proofs.NumberLaws.{Numbered}
 use Rattle.grouping.proofs.number.number_blocks.Given as goal
 
 abbrev pub invariant-loop-i : goal.invariant-loop-i

@@ -4,7 +4,6 @@ use lib.ListN.{get_or, set, length-set}
 use lib.Seq.{get_or-set_other}
 use Rattle.grouping.proofs.PitchLaws.{added-first, added-later}
 use native.Mathlib.Omega.{arith}
-use borrow.Author.Rules.{rules}
 use Rattle.grouping.proofs.pitch.add_pitch.Goals as goal
 
 pub returns-then-last-eq0 : goal.returns-then-last-eq0

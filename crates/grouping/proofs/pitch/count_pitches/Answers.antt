@@ -1,13 +1,12 @@
 use Rattle.memory.specs.rules.Lists.{occurs}
 use Rattle.grouping.specs.stages.Pitches.{walked_pitches, PitchAdded}
 use Rattle.memory.proofs.PlaceLaws.{occurs-length}
-use Prim.Native.Nat.{ℕ, ◌+◌, ◌-◌, ◌*◌, ◌≤◌, ◌<◌, zero-le}
-use mathlib.Core.Path.{◌≡◌, refl, sym, ap, ◌∙◌, subst}
+use Prim.Native.Nat.{ℕ, ◌+◌, ◌<◌, zero-le}
+use mathlib.Core.Path.{◌≡◌, refl, ◌∙◌, subst}
 use lib.ListN.{length, get_or}
 use Rattle.grouping.specs.rules.HeldLines.{centre_at, block_at}
-use Rattle.grouping.proofs.PitchLaws.{Walked, walked_none, walked_more, walked-few}
+use Rattle.grouping.proofs.PitchLaws.{walked_none, walked_more, walked-few}
 use native.Mathlib.Omega.{arith}
-use borrow.Author.Rules.{rules}
 use Rattle.grouping.proofs.pitch.count_pitches.Goals as goal
 
 pub loop-i-init : goal.loop-i-init

@@ -1,13 +1,8 @@
-use Rattle.memory.specs.rules.Lists.{occurs}
-use Rattle.grouping.specs.stages.Pitches.{walked_pitches, PitchAdded}
-use Rattle.memory.proofs.PlaceLaws.{occurs-length}
-use Prim.Native.Nat.{ℕ, ◌+◌, ◌-◌, ◌*◌, ◌≤◌, ◌<◌, zero-le}
-use mathlib.Core.Path.{◌≡◌, refl, sym, ap, ◌∙◌, subst}
-use lib.ListN.{length, get_or}
+use Prim.Native.Nat.{◌-◌, ◌≤◌}
+use mathlib.Core.Path.{◌≡◌}
+use lib.ListN.{length}
 use Rattle.grouping.specs.rules.HeldLines.{centre_at, block_at}
-use Rattle.grouping.proofs.PitchLaws.{Walked, walked_none, walked_more, walked-few}
-use native.Mathlib.Omega.{arith}
-use borrow.Author.Rules.{rules}
+use Rattle.grouping.proofs.PitchLaws.{Walked}
 use Rattle.grouping.proofs.pitch.count_pitches.Given as goal
 
 abbrev pub invariant-loop-i : goal.invariant-loop-i

@@ -1,6 +1,6 @@
 use borrow.Rule.Slice.PartMut.{put_mid}
 use Rattle.grouping.proofs.TableWords.{front-filled}
-use Prim.Native.Nat.{ℕ, ◌+◌, ◌-◌, ◌*◌}
+use Prim.Native.Nat.{◌+◌, ◌-◌, ◌*◌}
 use mathlib.Core.Path.{refl, sym}
 use lib.ListN.{length-take}
 use lib.Seq.{length-take-le}
@@ -8,7 +8,6 @@ use Rattle.grouping.specs.rules.HeldLines.{centre_at, block_at, pitches_below}
 use Rattle.grouping.proofs.CoverWords.{filled_at}
 use Rattle.grouping.proofs.PitchLaws.{pitch-counts, below-bound, median-at-most}
 use native.Mathlib.Omega.{arith}
-use borrow.Author.Rules.{rules}
 use Rattle.grouping.proofs.pitch.median_pitch.Goals as goal
 
 pub count_pitches-found-requires : goal.count_pitches-found-requires

@@ -4,9 +4,8 @@ use lib.Seq.{sets}
 use Rattle.memory.specs.rules.Rects.{union}
 use Rattle.memory.specs.declared.rect.Rect.{Rect}
 use Rattle.grouping.specs.stages.Numbering.{block_fields}
-use mathlib.Core.Path.{◌≡◌, refl, sym, ap, ◌∙◌}
+use mathlib.Core.Path.{refl, ap, ◌∙◌}
 use native.Mathlib.Omega.{arith}
-use borrow.Author.Rules.{rules}
 use Rattle.grouping.proofs.record.add_line.Goals as goal
 
 pub returns-then-b-count : goal.returns-then-b-count

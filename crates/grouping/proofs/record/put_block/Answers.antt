@@ -1,7 +1,6 @@
 use lib.ListN.{length-set}
 use native.Mathlib.Numerals.{towards_suc}
 use native.Mathlib.Omega.{arith}
-use borrow.Author.Rules.{rules}
 use Rattle.grouping.proofs.record.put_block.Goals as goal
 
 pub bounds-out-at-2 : goal.bounds-out-at-2

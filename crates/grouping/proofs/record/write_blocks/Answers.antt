@@ -1,16 +1,14 @@
-use Prim.Native.Nat.{ℕ, ◌+◌, ◌-◌, ◌*◌, ◌≤◌, ◌<◌, zero-le}
-use mathlib.Core.Path.{◌≡◌, refl, sym, ap, ◌∙◌}
+use Prim.Native.Nat.{ℕ, ◌+◌, ◌*◌, zero-le}
+use mathlib.Core.Path.{refl, sym, ap, ◌∙◌}
 use mathlib.Core.List.{List}
 use lib.ListN.{length, get_or, drop, length-drop}
 use Rattle.memory.proofs.TableLaws.{length-table, get_or-table}
 use Rattle.memory.proofs.PartLaws.{tail-part}
-use Rattle.union_find.specs.rules.Classes.{first_of}
-use Rattle.grouping.specs.rules.Blocks.{block_number, no_rect}
+use Rattle.grouping.specs.rules.Blocks.{no_rect}
 use Rattle.grouping.specs.rules.HeldLines.{line_box}
 use Rattle.grouping.specs.stages.LineBoxes.{line_boxes}
-use Rattle.grouping.proofs.BlockWords.{WrittenBehind, behind-none, behind_more, behind-all, behind-long, line-there, written-few, number-at-most, lines-there}
+use Rattle.grouping.proofs.BlockWords.{behind-none, behind_more, behind-all, behind-long, line-there, written-few, number-at-most, lines-there}
 use native.Mathlib.Omega.{arith}
-use borrow.Author.Rules.{rules}
 use Rattle.grouping.proofs.record.write_blocks.Goals as goal
 
 pub loop-i-init : goal.loop-i-init

@@ -1,4 +1,3 @@
-use borrow.Author.Rules.{rules}
 use lib.Dec.{ltb}
 use Rattle.grouping.proofs.SpanLaws.{column-span}
 use Rattle.grouping.proofs.spans.column_span.Goals as goal

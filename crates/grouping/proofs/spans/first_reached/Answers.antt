@@ -1,9 +1,6 @@
-use Prim.Native.Nat.{ℕ, ◌+◌, ◌-◌, ◌/◌, ◌≤◌, ◌<◌}
-use mathlib.Core.Path.{◌≡◌, sym, ◌∙◌}
-use mathlib.Core.Bool.{true, false}
+use Prim.Native.Nat.{◌+◌, ◌/◌}
+use mathlib.Core.Path.{sym, ◌∙◌}
 use native.Mathlib.Omega.{arith}
-use Rattle.levelling.specs.rules.Frames.{row_of, column_of}
-use Rattle.grouping.specs.stages.Dots.{frame_by, is_short}
 use Rattle.grouping.proofs.SpanLaws.{first-reached-low, first-reached-high}
 use Rattle.grouping.proofs.spans.first_reached.Goals as goal
 

@@ -1,10 +1,8 @@
-use Prim.Native.Nat.{ℕ, ◌+◌, ◌-◌, ◌/◌, ◌≤◌, ◌<◌}
-use mathlib.Core.Path.{◌≡◌, sym, ◌∙◌}
+use Prim.Native.Nat.{ℕ, ◌-◌, ◌≤◌, ◌<◌}
+use mathlib.Core.Path.{◌≡◌}
 use mathlib.Core.Bool.{true, false}
-use native.Mathlib.Omega.{arith}
 use Rattle.levelling.specs.rules.Frames.{row_of, column_of}
 use Rattle.grouping.specs.stages.Dots.{frame_by, is_short}
-use Rattle.grouping.proofs.SpanLaws.{first-reached-low, first-reached-high}
 use Rattle.grouping.proofs.spans.first_reached.Given as goal
 
 abbrev pub invariant-loop-low : goal.invariant-loop-low

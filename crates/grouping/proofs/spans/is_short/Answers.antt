@@ -1,4 +1,3 @@
-use borrow.Author.Rules.{rules}
 use native.Mathlib.Omega.{arith}
 use Rattle.grouping.proofs.SpanLaws.{row_read, point, short-point}
 use Rattle.grouping.proofs.spans.is_short.Goals as goal

@@ -1,5 +1,4 @@
 use Prim.Native.Nat.{◌-◌}
-use borrow.Author.Rules.{rules}
 use native.Mathlib.Omega.{arith}
 use Rattle.grouping.proofs.SpanLaws.{row-place, column-place, some-sides, row-span}
 use Rattle.grouping.proofs.spans.row_span.Goals as goal

@@ -9,7 +9,6 @@ use Rattle.memory.specs.rules.Records.{fields}
 use Rattle.memory.proofs.ListLaws.{each-table}
 use Rattle.grouping.proofs.MedianWords.{counts_of}
 use native.Mathlib.Omega.{arith}
-use borrow.Author.Rules.{rules}
 use Rattle.grouping.proofs.summary.median_glyph_height.Goals as goal
 
 pub count_field-requires : goal.count_field-requires

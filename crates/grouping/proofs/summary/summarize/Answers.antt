@@ -1,6 +1,4 @@
 use Rattle.grouping.proofs.SummaryLaws.{share-right}
-use native.Mathlib.Omega.{arith}
-use borrow.Author.Rules.{rules}
 use Rattle.grouping.proofs.summary.summarize.Goals as goal
 
 pub returns : goal.returns

@@ -1,6 +1,4 @@
 use borrow.Author.Tests.{eq-eqb, ne_eqb}
-use native.Mathlib.Omega.{arith}
-use borrow.Author.Rules.{rules}
 use Rattle.grouping.proofs.summary.text_share.Goals as goal
 
 pub returns-then-ink-eq0 : goal.returns-then-ink-eq0

@@ -1,5 +1,4 @@
 use Rattle.labelling.specs.rules.Answer.{lent_refusal}
-use borrow.Author.Rules.{rules}
 use Rattle.labelling.proofs.entry.judge_lent.Goals as goal
 
 pub returns : goal.returns

@@ -1,7 +1,6 @@
 use mathlib.Core.Path.{sym}
 use lib.Seq.{length-take-le}
 use Rattle.labelling.proofs.EntryLaws.{refused-sides, entry-dots, entry-refused, entry-words, entry-workable, entry_done}
-use borrow.Author.Rules.{rules}
 use Rattle.labelling.proofs.entry.label.Goals as goal
 
 pub returns-then-sides-ne0 : goal.returns-then-sides-ne0

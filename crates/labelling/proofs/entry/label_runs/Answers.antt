@@ -1,6 +1,5 @@
-use borrow.Author.Rules.{rules}
 use native.Mathlib.Omega.{arith}
-use Rattle.labelling.proofs.StageLaws.{stage-extract, stage-number, stage-many, stage-asks, stage-done, stage-room, stage-length}
+use Rattle.labelling.proofs.StageLaws.{stage-extract, stage-number, stage-many, stage-asks, stage-done, stage-room}
 use Rattle.labelling.proofs.entry.label_runs.Goals as goal
 
 pub overflow_mul-parents : goal.overflow_mul-parents

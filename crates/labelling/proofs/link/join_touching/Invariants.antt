@@ -1,12 +1,5 @@
-use borrow.Author.Rules.{rules}
-use native.Mathlib.Omega.{arith}
-use mathlib.Core.Path.{sym, subst}
-use mathlib.Core.List.{List}
-use lib.ListN.{length, get_or}
-use Prim.Native.Nat.{ℕ, ◌+◌, ◌-◌, ◌*◌, ◌≤◌, ◌<◌, max}
-use Rattle.memory.proofs.PartLaws.{tail-part, tail-put}
-use Rattle.union_find.specs.stages.Forests.{Joined}
-use Rattle.labelling.proofs.RunLinkLaws.{Sweep, kept_word, sweep-first, sweep-asks, sweep-more, sweep-stop, sweep-end}
+use Prim.Native.Nat.{◌-◌}
+use Rattle.labelling.proofs.RunLinkLaws.{Sweep}
 use Rattle.labelling.proofs.link.join_touching.Given as goal
 
 abbrev pub invariant-loop-k : goal.invariant-loop-k

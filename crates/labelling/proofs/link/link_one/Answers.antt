@@ -1,7 +1,5 @@
-use borrow.Author.Rules.{rules}
 use native.Mathlib.Omega.{arith}
 use Prim.Native.Nat.{◌-◌}
-use lib.ListN.{length-set}
 use Rattle.labelling.proofs.RunLinkLaws.{one_end, start-high, own-high, end-high, one-alone, one-joinable, one-linked}
 use Rattle.labelling.proofs.link.link_one.Goals as goal
 

@@ -1,7 +1,5 @@
-use borrow.Author.Rules.{rules}
-use native.Mathlib.Omega.{arith}
 use Prim.Native.Nat.{◌-◌}
-use Rattle.labelling.proofs.RunLinkLaws.{RowWalk, walk_none, walk-room, walk_start, walk-linkable, walk_more, walk-done}
+use Rattle.labelling.proofs.RunLinkLaws.{RowWalk}
 use Rattle.labelling.proofs.link.link_row.Given as goal
 
 abbrev pub invariant-loop-j : goal.invariant-loop-j

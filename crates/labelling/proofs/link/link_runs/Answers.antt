@@ -1,7 +1,5 @@
-use borrow.Author.Rules.{rules}
 use native.Mathlib.Omega.{arith}
-use Prim.Native.Nat.{◌-◌}
-use Rattle.labelling.proofs.RunLinkLaws.{PlaneSweep, known-all, plane-none, plane-ahead, plane-small, plane-more, plane-done}
+use Rattle.labelling.proofs.RunLinkLaws.{known-all, plane-none, plane-ahead, plane-small, plane-more, plane-done}
 use Rattle.labelling.proofs.link.link_runs.Goals as goal
 
 pub overflow_mul-parents : goal.overflow_mul-parents

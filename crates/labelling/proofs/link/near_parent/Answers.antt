@@ -1,4 +1,3 @@
-use borrow.Author.Rules.{rules}
 use Rattle.labelling.proofs.RunLinkLaws.{kin-parent, kin-self}
 use Rattle.labelling.proofs.link.near_parent.Goals as goal
 

@@ -1,6 +1,5 @@
-use borrow.Author.Rules.{rules}
 use native.Mathlib.Omega.{arith}
-use Prim.Native.Nat.{ℕ, ◌-◌, ◌≤◌, ◌<◌}
+use Prim.Native.Nat.{◌<◌}
 use native.Mathlib.Nat.{le_refl}
 use Rattle.labelling.specs.stages.InkRuns.{end_of}
 use Rattle.labelling.proofs.RangeLaws.{range_none, range-more}

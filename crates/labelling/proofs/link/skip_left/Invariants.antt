@@ -1,10 +1,5 @@
-use borrow.Author.Rules.{rules}
-use native.Mathlib.Omega.{arith}
 use Prim.Native.Nat.{ℕ, ◌-◌, ◌≤◌, ◌<◌}
-use native.Mathlib.Nat.{le_refl}
 use Rattle.labelling.specs.stages.InkRuns.{end_of}
-use Rattle.labelling.proofs.RangeLaws.{range_none, range-more}
-use Rattle.labelling.proofs.RunLinkLaws.{before-end}
 use Rattle.labelling.proofs.link.skip_left.Given as goal
 
 abbrev pub invariant-loop-k : goal.invariant-loop-k

@@ -1,4 +1,3 @@
-use borrow.Author.Rules.{rules}
 use borrow.Author.Tests.{eqb-true}
 use mathlib.Core.Path.{sym, ap, ◌∙◌}
 use Rattle.memory.specs.rules.Lists.{count_if}

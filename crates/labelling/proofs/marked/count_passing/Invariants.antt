@@ -1,14 +1,8 @@
-use borrow.Author.Rules.{rules}
-use native.Mathlib.Omega.{arith}
-use mathlib.Core.Path.{◌≡◌, ap, ◌∙◌}
+use mathlib.Core.Path.{◌≡◌}
 use Prim.Native.Nat.{◌-◌, ◌≤◌}
-use lib.ListN.{get_or}
 use Rattle.memory.specs.rules.Lists.{count_if}
 use Rattle.memory.specs.rules.Masks.{is_ink}
-use lib.Dec.{ltb}
-use Rattle.labelling.specs.stages.Marked.{passes, passing}
-use Rattle.labelling.proofs.ExtractLaws.{ink-none}
-use Rattle.labelling.proofs.MarkedLaws.{bit-least, passing-more}
+use Rattle.labelling.specs.stages.Marked.{passing}
 use Rattle.labelling.proofs.marked.count_passing.Given as goal
 
 abbrev pub invariant-loop-i : goal.invariant-loop-i

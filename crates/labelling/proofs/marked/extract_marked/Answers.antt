@@ -1,7 +1,5 @@
-use borrow.Author.Rules.{rules}
 use native.Mathlib.Omega.{arith}
-use Prim.Native.Nat.{◌-◌}
-use Rattle.labelling.proofs.MarkedLaws.{MarkedPlane, marked-plane-none, marked-row-inside, marked_row, marked-row-more, marked-plane-done}
+use Rattle.labelling.proofs.MarkedLaws.{marked-plane-none, marked-row-inside, marked_row, marked-row-more, marked-plane-done}
 use Rattle.labelling.proofs.marked.extract_marked.Goals as goal
 
 pub loop-y-init : goal.loop-y-init

@@ -1,10 +1,8 @@
-use borrow.Author.Rules.{rules}
 use native.Mathlib.Omega.{arith}
-use mathlib.Core.Path.{◌∙◌}
-use Prim.Native.Nat.{◌-◌, ◌+◌}
+use Prim.Native.Nat.{◌+◌}
 use native.Mathlib.Nat.{le_refl}
-use lib.ListN.{length, length-set}
-use Rattle.labelling.proofs.MarkedLaws.{MarkedRowScan, marked_start, marked-dots, marked-upto, marked-asks, marked-read, marked-blank, marked-fits-end, marked-ink}
+use lib.ListN.{length}
+use Rattle.labelling.proofs.MarkedLaws.{marked_start, marked-dots, marked-upto, marked-asks, marked-read, marked-blank, marked-fits-end, marked-ink}
 use Rattle.labelling.proofs.marked.extract_row.Goals as goal
 
 pub loop-x-init : goal.loop-x-init

@@ -1,10 +1,6 @@
-use borrow.Author.Rules.{rules}
-use native.Mathlib.Omega.{arith}
-use mathlib.Core.Path.{◌∙◌}
-use Prim.Native.Nat.{◌-◌, ◌+◌}
-use native.Mathlib.Nat.{le_refl}
-use lib.ListN.{length, length-set}
-use Rattle.labelling.proofs.MarkedLaws.{MarkedRowScan, marked_start, marked-dots, marked-upto, marked-asks, marked-read, marked-blank, marked-fits-end, marked-ink}
+use Prim.Native.Nat.{◌-◌}
+use lib.ListN.{length}
+use Rattle.labelling.proofs.MarkedLaws.{MarkedRowScan}
 use Rattle.labelling.proofs.marked.extract_row.Given as goal
 
 abbrev pub invariant-loop-x : goal.invariant-loop-x

@@ -1,4 +1,3 @@
-use borrow.Author.Rules.{rules}
 use lib.Dec.{ltb}
 use Rattle.labelling.specs.declared.marked.Test.TheVariants.{First, Second, Neither}
 use Rattle.labelling.proofs.MarkedLaws.{passes-told}

@@ -1,10 +1,8 @@
-use borrow.Author.Rules.{rules}
 use native.Mathlib.Omega.{arith}
-use Prim.Native.Nat.{◌-◌}
 use lib.Dec.{eqb}
 use Rattle.memory.specs.rules.Masks.{is_ink}
 use mathlib.Core.Bool.{not}
-use Rattle.labelling.proofs.MarkedLaws.{MarkedSweep, byte-turn, byte_small, marked-none, marked-inside, marked-mark, marked-fits, marked_more, marked-done}
+use Rattle.labelling.proofs.MarkedLaws.{byte-turn, byte_small, marked-none, marked-inside, marked-mark, marked-fits, marked_more, marked-done}
 use Rattle.labelling.proofs.marked.scan.Goals as goal
 
 pub loop-x-init : goal.loop-x-init

@@ -1,4 +1,3 @@
-use borrow.Author.Rules.{rules}
 use mathlib.Core.Path.{sym, subst}
 use Rattle.labelling.specs.stages.Extraction.{TurnsTold}
 use Rattle.labelling.specs.stages.Marked.{passing}

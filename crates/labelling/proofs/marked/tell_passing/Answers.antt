@@ -1,8 +1,6 @@
 use borrow.Author.Rules.{rules}
 use native.Mathlib.Omega.{arith}
 use mathlib.Core.Path.{◌≡◌, subst}
-use Prim.Native.Nat.{◌-◌, ◌≤◌}
-use lib.ListN.{length}
 use Rattle.memory.specs.rules.Masks.{is_ink}
 use Rattle.labelling.specs.stages.Extraction.{TurnsTold}
 use Rattle.labelling.specs.stages.Marked.{passing}

@@ -1,13 +1,8 @@
-use borrow.Author.Rules.{rules}
-use native.Mathlib.Omega.{arith}
-use mathlib.Core.Path.{◌≡◌, subst}
+use mathlib.Core.Path.{◌≡◌}
 use Prim.Native.Nat.{◌-◌, ◌≤◌}
 use lib.ListN.{length}
-use Rattle.memory.specs.rules.Masks.{is_ink}
 use Rattle.labelling.specs.stages.Extraction.{TurnsTold}
 use Rattle.labelling.specs.stages.Marked.{passing}
-use Rattle.labelling.proofs.ToldLaws.{told_none, told_more}
-use Rattle.labelling.proofs.MarkedLaws.{passing-turn}
 use Rattle.labelling.proofs.marked.tell_passing.Given as goal
 
 abbrev pub invariant-loop-i : goal.invariant-loop-i

@@ -1,4 +1,3 @@
-use borrow.Author.Rules.{rules}
 use mathlib.Core.Path.{refl, sym, ap, ◌∙◌}
 use lib.ListN.{get_or, set, length-set}
 use Rattle.labelling.proofs.number.number_one.Goals as goal

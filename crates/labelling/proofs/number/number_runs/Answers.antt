@@ -1,7 +1,4 @@
-use borrow.Author.Rules.{rules}
-use mathlib.Core.Path.{◌∙◌}
-use Prim.Native.Nat.{◌-◌}
-use Rattle.labelling.proofs.NumberLaws.{NumberSweep, number-none, number-asks, number_more, number-stop, number-done}
+use Rattle.labelling.proofs.NumberLaws.{number-none, number-asks, number_more, number-stop, number-done}
 use Rattle.labelling.proofs.number.number_runs.Goals as goal
 
 pub loop-k-init : goal.loop-k-init

@@ -1,7 +1,5 @@
-use borrow.Author.Rules.{rules}
-use mathlib.Core.Path.{◌∙◌}
 use Prim.Native.Nat.{◌-◌}
-use Rattle.labelling.proofs.NumberLaws.{NumberSweep, number-none, number-asks, number_more, number-stop, number-done}
+use Rattle.labelling.proofs.NumberLaws.{NumberSweep}
 use Rattle.labelling.proofs.number.number_runs.Given as goal
 
 abbrev pub invariant-loop-k : goal.invariant-loop-k

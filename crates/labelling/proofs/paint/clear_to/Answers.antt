@@ -1,6 +1,5 @@
 use native.Mathlib.Omega.{arith}
 use Rattle.memory.proofs.StoredLaws.{stored-filled}
-use borrow.Author.Rules.{rules}
 use Rattle.labelling.proofs.paint.clear_to.Goals as goal
 
 pub returns : goal.returns

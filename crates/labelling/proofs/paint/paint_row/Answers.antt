@@ -1,8 +1,5 @@
-use borrow.Author.Rules.{rules}
 use native.Mathlib.Omega.{arith}
-use Prim.Native.Nat.{◌-◌}
-use Rattle.labelling.specs.stages.Painting.{numbered}
-use Rattle.labelling.proofs.RowPaintLaws.{RowSweep, row-none, row_room, row-long, row_done, row-start, row-span, row-asks, row_more}
+use Rattle.labelling.proofs.RowPaintLaws.{row-none, row_room, row_done, row-start, row-span, row-asks, row_more}
 use Rattle.labelling.proofs.paint.paint_row.Goals as goal
 
 pub overflow_mul-base : goal.overflow_mul-base

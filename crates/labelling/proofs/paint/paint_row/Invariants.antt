@@ -1,8 +1,6 @@
-use borrow.Author.Rules.{rules}
-use native.Mathlib.Omega.{arith}
 use Prim.Native.Nat.{◌-◌}
 use Rattle.labelling.specs.stages.Painting.{numbered}
-use Rattle.labelling.proofs.RowPaintLaws.{RowSweep, row-none, row_room, row-long, row_done, row-start, row-span, row-asks, row_more}
+use Rattle.labelling.proofs.RowPaintLaws.{RowSweep}
 use Rattle.labelling.proofs.paint.paint_row.Given as goal
 
 abbrev pub invariant-loop-k : goal.invariant-loop-k

@@ -1,8 +1,6 @@
-use mathlib.Core.Path.{◌∙◌}
 use native.Mathlib.Omega.{arith}
 use lib.ListN.{length-set}
 use Rattle.labelling.proofs.PaintLaws.{stored-first}
-use borrow.Author.Rules.{rules}
 use Rattle.labelling.proofs.paint.paint_run.Goals as goal
 
 pub slice_bounds-fill_words-end : goal.slice_bounds-fill_words-end

@@ -1,14 +1,11 @@
-use borrow.Author.Rules.{rules}
 use native.Mathlib.Omega.{arith}
-use mathlib.Core.Path.{refl, ◌∙◌}
-use Prim.Native.Nat.{ℕ, ◌/◌, ◌-◌, ◌*◌, ◌≤◌}
+use mathlib.Core.Path.{refl}
+use Prim.Native.Nat.{◌/◌, ◌*◌}
 use native.Mathlib.Nat.{le_trans}
-use mathlib.Core.List.{List}
-use lib.ListN.{drop, length}
+use lib.ListN.{drop}
 use Rattle.memory.proofs.PartLaws.{tail-part}
 use Rattle.memory.proofs.StoredLaws.{stored-filled}
-use Rattle.labelling.specs.stages.Painting.{numbered}
-use Rattle.labelling.proofs.RowPaintLaws.{PlaneSweep, plane-none, plane-long, plane-fits, plane-read, plane-ahead, plane-more, plane-on, plane-done}
+use Rattle.labelling.proofs.RowPaintLaws.{plane-none, plane-fits, plane-read, plane-ahead, plane-more, plane-on, plane-done}
 use Rattle.labelling.proofs.paint.paint_runs.Goals as goal
 
 pub overflow_mul-dots : goal.overflow_mul-dots

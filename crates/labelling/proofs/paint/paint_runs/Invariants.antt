@@ -1,14 +1,7 @@
-use borrow.Author.Rules.{rules}
-use native.Mathlib.Omega.{arith}
-use mathlib.Core.Path.{refl, ◌∙◌}
-use Prim.Native.Nat.{ℕ, ◌/◌, ◌-◌, ◌*◌, ◌≤◌}
-use native.Mathlib.Nat.{le_trans}
-use mathlib.Core.List.{List}
-use lib.ListN.{drop, length}
-use Rattle.memory.proofs.PartLaws.{tail-part}
-use Rattle.memory.proofs.StoredLaws.{stored-filled}
+use Prim.Native.Nat.{◌-◌}
+use lib.ListN.{drop}
 use Rattle.labelling.specs.stages.Painting.{numbered}
-use Rattle.labelling.proofs.RowPaintLaws.{PlaneSweep, plane-none, plane-long, plane-fits, plane-read, plane-ahead, plane-more, plane-on, plane-done}
+use Rattle.labelling.proofs.RowPaintLaws.{PlaneSweep}
 use Rattle.labelling.proofs.paint.paint_runs.Given as goal
 
 abbrev pub invariant-loop-k : goal.invariant-loop-k

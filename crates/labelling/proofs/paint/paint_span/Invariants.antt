@@ -1,12 +1,7 @@
-use borrow.Author.Rules.{rules}
-use native.Mathlib.Omega.{arith}
-use mathlib.Core.Path.{refl}
 use Prim.Native.Nat.{◌+◌, ◌-◌, ◌*◌, ◌≤◌}
-use lib.ListN.{get_or, take}
+use lib.ListN.{take}
 use Rattle.labelling.specs.stages.Painting.{numbered, PaintsOn}
 use Rattle.labelling.specs.stages.Spans.{SpanOf}
-use Rattle.labelling.proofs.SpanLaws.{place-columns, place-ends, place-dots}
-use Rattle.labelling.proofs.RowPaintLaws.{paints-then, paints-room, paints-long, first-here, first-sum, first-asks, first-painted, next_here, next-sum, next-asks, next-painted}
 use Rattle.labelling.proofs.paint.paint_span.Given as goal
 
 abbrev pub invariant-loop-last : goal.invariant-loop-last

@@ -1,8 +1,6 @@
-use borrow.Author.Rules.{rules}
 use native.Mathlib.Omega.{arith}
-use Prim.Native.Nat.{◌-◌}
 use Rattle.labelling.proofs.ExtractLaws.{plane-inside, plane-row}
-use Rattle.labelling.proofs.RowLinkLaws.{LinkSweep, link-none, link-asks, link-more, link-done}
+use Rattle.labelling.proofs.RowLinkLaws.{link-none, link-asks, link-more, link-done}
 use Rattle.labelling.proofs.row_by_row.extract_linked.Goals as goal
 
 pub loop-y-init : goal.loop-y-init

@@ -1,8 +1,5 @@
-use borrow.Author.Rules.{rules}
-use native.Mathlib.Omega.{arith}
 use Prim.Native.Nat.{◌-◌}
-use Rattle.labelling.proofs.ExtractLaws.{plane-inside, plane-row}
-use Rattle.labelling.proofs.RowLinkLaws.{LinkSweep, link-none, link-asks, link-more, link-done}
+use Rattle.labelling.proofs.RowLinkLaws.{LinkSweep}
 use Rattle.labelling.proofs.row_by_row.extract_linked.Given as goal
 
 abbrev pub invariant-loop-y : goal.invariant-loop-y

@@ -1,10 +1,7 @@
-use borrow.Author.Rules.{rules}
 use native.Mathlib.Omega.{arith}
-use mathlib.Core.Path.{◌∙◌}
-use Prim.Native.Nat.{◌-◌, ◌+◌, ◌%◌}
+use Prim.Native.Nat.{◌+◌}
 use native.Mathlib.Nat.{le_refl}
-use lib.ListN.{length, length-set}
-use Rattle.labelling.specs.stages.Extraction.{RowScan}
+use lib.ListN.{length}
 use Rattle.labelling.proofs.ExtractLaws.{scan-start, scan-asks, scan-blank, scan-room-end, scan-ink}
 use Rattle.labelling.proofs.runs.extract_row.Goals as goal
 

@@ -1,7 +1,5 @@
-use borrow.Author.Rules.{rules}
 use native.Mathlib.Omega.{arith}
-use Prim.Native.Nat.{◌-◌}
-use Rattle.labelling.proofs.ExtractLaws.{PlaneScan, plane-none, plane-inside, plane-row, plane-more, plane-done}
+use Rattle.labelling.proofs.ExtractLaws.{plane-none, plane-inside, plane-row, plane-more, plane-done}
 use Rattle.labelling.proofs.runs.extract_runs.Goals as goal
 
 pub loop-y-init : goal.loop-y-init

@@ -1,9 +1,7 @@
-use borrow.Author.Rules.{rules}
 use native.Mathlib.Omega.{arith}
 use lib.ListN.{get_or, length}
 use lib.Dec.{eqb}
 use mathlib.Core.Path.{◌≡◌, ap, ◌∙◌}
-use Prim.Native.Nat.{◌-◌, ◌≤◌}
 use Rattle.memory.specs.rules.Lists.{count_if}
 use Rattle.memory.specs.rules.Masks.{is_ink}
 use Rattle.labelling.proofs.ExtractLaws.{ink-none, ink-more, turn_small}

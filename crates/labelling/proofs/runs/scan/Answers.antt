@@ -1,8 +1,6 @@
-use borrow.Author.Rules.{rules}
 use native.Mathlib.Omega.{arith}
-use Prim.Native.Nat.{◌-◌}
 use lib.Dec.{eqb}
-use Rattle.labelling.proofs.ExtractLaws.{ScanSweep, sweep-none, sweep-room, turn_small, sweep-more, sweep-done}
+use Rattle.labelling.proofs.ExtractLaws.{sweep-none, sweep-room, turn_small, sweep-more, sweep-done}
 use Rattle.labelling.proofs.runs.scan.Goals as goal
 
 pub loop-x-init : goal.loop-x-init

@@ -1,8 +1,5 @@
-use borrow.Author.Rules.{rules}
-use native.Mathlib.Omega.{arith}
 use Prim.Native.Nat.{◌-◌}
-use lib.Dec.{eqb}
-use Rattle.labelling.proofs.ExtractLaws.{ScanSweep, sweep-none, sweep-room, turn_small, sweep-more, sweep-done}
+use Rattle.labelling.proofs.ExtractLaws.{ScanSweep}
 use Rattle.labelling.proofs.runs.scan.Given as goal
 
 abbrev pub invariant-loop-x : goal.invariant-loop-x

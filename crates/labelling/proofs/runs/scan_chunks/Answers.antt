@@ -1,9 +1,7 @@
-use borrow.Author.Rules.{rules}
 use native.Mathlib.Omega.{arith}
 use native.Mathlib.Nat.{le_refl}
-use mathlib.Core.Path.{◌∙◌}
-use Prim.Native.Nat.{◌+◌, ◌-◌, ◌%◌}
-use Rattle.labelling.proofs.ExtractLaws.{ScanSweep, sweep-none, sweep-asks, sweep-read, sweep-done}
+use Prim.Native.Nat.{◌+◌}
+use Rattle.labelling.proofs.ExtractLaws.{sweep-none, sweep-asks, sweep-read, sweep-done}
 use Rattle.labelling.proofs.runs.scan_chunks.Goals as goal
 
 pub loop-x-init : goal.loop-x-init

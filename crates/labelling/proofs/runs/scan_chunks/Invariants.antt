@@ -1,9 +1,5 @@
-use borrow.Author.Rules.{rules}
-use native.Mathlib.Omega.{arith}
-use native.Mathlib.Nat.{le_refl}
-use mathlib.Core.Path.{◌∙◌}
-use Prim.Native.Nat.{◌+◌, ◌-◌, ◌%◌}
-use Rattle.labelling.proofs.ExtractLaws.{ScanSweep, sweep-none, sweep-asks, sweep-read, sweep-done}
+use Prim.Native.Nat.{◌-◌, ◌%◌}
+use Rattle.labelling.proofs.ExtractLaws.{ScanSweep}
 use Rattle.labelling.proofs.runs.scan_chunks.Given as goal
 
 abbrev pub invariant-loop-x : goal.invariant-loop-x

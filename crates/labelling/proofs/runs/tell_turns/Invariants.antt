@@ -1,10 +1,7 @@
-use borrow.Author.Rules.{rules}
-use native.Mathlib.Omega.{arith}
 use Prim.Native.Nat.{◌-◌, ◌≤◌}
-use mathlib.Core.Path.{◌≡◌, subst}
+use mathlib.Core.Path.{◌≡◌}
 use lib.ListN.{length}
 use Rattle.labelling.specs.stages.Extraction.{TurnsTold}
-use Rattle.labelling.proofs.ToldLaws.{told_none, told_more, turn_byte}
 use Rattle.labelling.proofs.runs.tell_turns.Given as goal
 
 abbrev pub invariant-loop-i : goal.invariant-loop-i

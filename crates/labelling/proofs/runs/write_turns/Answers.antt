@@ -1,6 +1,5 @@
-use borrow.Author.Rules.{rules}
 use native.Mathlib.Omega.{arith}
-use Prim.Native.Nat.{ℕ, ◌+◌, ◌-◌, ◌*◌, ◌≤◌}
+use Prim.Native.Nat.{◌+◌, ◌*◌}
 use mathlib.Core.Path.{◌≡◌, refl, subst}
 use Rattle.labelling.specs.stages.Extraction.{ToldWritten}
 use Rattle.labelling.proofs.ToldLaws.{written_none, written-asks, four-inside, written_one, written-two, written-three, written-four}

@@ -1,9 +1,6 @@
-use borrow.Author.Rules.{rules}
-use native.Mathlib.Omega.{arith}
-use Prim.Native.Nat.{ℕ, ◌+◌, ◌-◌, ◌*◌, ◌≤◌}
-use mathlib.Core.Path.{◌≡◌, refl, subst}
+use Prim.Native.Nat.{ℕ, ◌-◌, ◌*◌, ◌≤◌}
+use mathlib.Core.Path.{◌≡◌}
 use Rattle.labelling.specs.stages.Extraction.{ToldWritten}
-use Rattle.labelling.proofs.ToldLaws.{written_none, written-asks, four-inside, written_one, written-two, written-three, written-four}
 use Rattle.labelling.proofs.runs.write_turns.Given as goal
 
 abbrev pub invariant-loop-i : goal.invariant-loop-i

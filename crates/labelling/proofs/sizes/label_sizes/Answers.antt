@@ -1,4 +1,3 @@
-use borrow.Author.Rules.{rules}
 use Rattle.labelling.proofs.SizeLaws.{sizes-number, sizes-many, sizes-ask, sizes-done}
 use Rattle.labelling.proofs.sizes.label_sizes.Goals as goal
 

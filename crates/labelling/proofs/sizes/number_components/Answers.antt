@@ -1,5 +1,4 @@
 use Rattle.labelling.proofs.SizeLaws.{numbers-ask, numbers-done}
-use borrow.Author.Rules.{rules}
 use Rattle.labelling.proofs.sizes.number_components.Goals as goal
 
 pub number_runs-requires : goal.number_runs-requires

@@ -1,7 +1,5 @@
-use borrow.Author.Rules.{rules}
 use native.Mathlib.Omega.{arith}
-use Prim.Native.Nat.{◌-◌}
-use Rattle.labelling.proofs.RowSizeLaws.{RowSweep, row-none, row_room, row_words, row-long, row_done, row-start, row-span, row-asks, row_more}
+use Rattle.labelling.proofs.RowSizeLaws.{row-none, row_room, row_words, row-long, row_done, row-start, row-span, row-asks, row_more}
 use Rattle.labelling.proofs.sizes.size_row.Goals as goal
 
 pub overflow_mul-base : goal.overflow_mul-base

@@ -1,6 +1,4 @@
-use borrow.Author.Rules.{rules}
-use Prim.Native.Nat.{◌-◌}
-use Rattle.labelling.proofs.RowSizeLaws.{PlaneSweep, plane-none, plane-row, plane-more, plane-long, plane-done}
+use Rattle.labelling.proofs.RowSizeLaws.{plane-none, plane-row, plane-more, plane-done}
 use Rattle.labelling.proofs.sizes.size_runs.Goals as goal
 
 pub loop-y-init : goal.loop-y-init

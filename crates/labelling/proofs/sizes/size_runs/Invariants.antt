@@ -1,6 +1,5 @@
-use borrow.Author.Rules.{rules}
 use Prim.Native.Nat.{◌-◌}
-use Rattle.labelling.proofs.RowSizeLaws.{PlaneSweep, plane-none, plane-row, plane-more, plane-long, plane-done}
+use Rattle.labelling.proofs.RowSizeLaws.{PlaneSweep}
 use Rattle.labelling.proofs.sizes.size_runs.Given as goal
 
 abbrev pub invariant-loop-y : goal.invariant-loop-y

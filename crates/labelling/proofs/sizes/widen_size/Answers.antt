@@ -1,6 +1,5 @@
-use borrow.Author.Rules.{rules}
 use native.Mathlib.Omega.{arith}
-use mathlib.Core.Path.{◌≡◌, sym, ap, ◌∙◌}
+use mathlib.Core.Path.{◌≡◌, ap, ◌∙◌}
 use lib.ListN.{length, length-set}
 use Rattle.labelling.proofs.SizeSweepLaws.{five-widened}
 use Rattle.labelling.proofs.sizes.widen_size.Goals as goal

@@ -1,7 +1,6 @@
 use Rattle.labelling.proofs.SizeSweepLaws.{five-stores}
 use lib.ListN.{length-set}
 use native.Mathlib.Omega.{arith}
-use borrow.Author.Rules.{rules}
 use Rattle.labelling.proofs.sizes.write_size.Goals as goal
 
 pub bounds-words-4 : goal.bounds-words-4

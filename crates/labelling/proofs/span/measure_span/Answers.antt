@@ -1,9 +1,7 @@
-use borrow.Author.Rules.{rules}
 use native.Mathlib.Omega.{arith}
 use mathlib.Core.Path.{refl}
-use Prim.Native.Nat.{ℕ, ◌+◌, ◌-◌, ◌*◌}
-use lib.ListN.{get_or, take}
-use Rattle.labelling.specs.stages.Spans.{SpanOf}
+use Prim.Native.Nat.{◌+◌, ◌*◌}
+use lib.ListN.{get_or}
 use Rattle.labelling.proofs.SpanLaws.{place-ends, behind-long, behind-goes, span-room, first-place, first-span, next_place, next-span}
 use Rattle.labelling.proofs.span.measure_span.Goals as goal
 

@@ -1,7 +1,6 @@
 use mathlib.Core.Path.{sym, subst}
 use Prim.Native.Nat.{◌≤◌}
 use native.Mathlib.Omega.{arith}
-use borrow.Author.Rules.{rules}
 use Rattle.memory.specs.rules.Limits.{max_frame_width, max_frame_height}
 use Rattle.levelling.proofs.FrameLaws.{frame-rows, frame-fits, rows-by-shear, sides-by-shears}
 use Rattle.levelling.proofs.frame.frame_size.Goals as goal

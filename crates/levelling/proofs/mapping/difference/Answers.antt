@@ -1,7 +1,6 @@
 use mathlib.Core.Path.{◌∙◌}
 use mir.Syntax.{w64}
 use mir.ValLaws.{to_z-of_z}
-use borrow.Author.Rules.{rules}
 use Rattle.levelling.proofs.Integers.{words-difference, words-difference-fits}
 use Rattle.levelling.proofs.mapping.difference.Goals as goal
 

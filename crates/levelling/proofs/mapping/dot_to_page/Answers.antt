@@ -1,4 +1,3 @@
-use borrow.Author.Rules.{rules}
 use Rattle.levelling.proofs.MappingLaws.{dot-by}
 use Rattle.levelling.proofs.mapping.dot_to_page.Goals as goal
 

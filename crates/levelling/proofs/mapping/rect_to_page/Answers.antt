@@ -1,5 +1,4 @@
 use mathlib.Core.Path.{◌≡◌, ◌∙◌}
-use borrow.Author.Rules.{rules}
 use Rattle.memory.specs.declared.rect.Rect.{Rect}
 use Rattle.memory.specs.rules.Rects.{union}
 use Rattle.levelling.specs.rules.Frames.{Frame, frame_of}

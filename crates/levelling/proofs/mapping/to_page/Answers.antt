@@ -1,4 +1,3 @@
-use borrow.Author.Rules.{rules}
 use lib.ListN.{get_or}
 use Rattle.levelling.proofs.Integers.{words-difference-kept}
 use Rattle.levelling.proofs.MappingLaws.{point-by}

@@ -1,5 +1,4 @@
 use mir.Facts.{Fits-32_64}
-use borrow.Author.Rules.{rules}
 use Rattle.levelling.proofs.plane.is_steep.Goals as goal
 
 pub overflow_cast-first : goal.overflow_cast-first

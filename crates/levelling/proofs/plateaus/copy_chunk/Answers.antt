@@ -1,6 +1,5 @@
 use mathlib.Core.Path.{◌≡◌, ap, ◌∙◌}
 use native.Mathlib.Omega.{arith}
-use borrow.Author.Rules.{rules}
 use lib.ListN.{take, drop, length-take, length-drop}
 use lib.Seq.{take_all}
 use Rattle.memory.specs.rules.Words.{over}

@@ -1,7 +1,4 @@
-use mathlib.Core.Bool.{not}
-use mathlib.Core.Path.{ap}
 use native.Mathlib.Omega.{arith}
-use borrow.Author.Rules.{rules}
 use Rattle.levelling.proofs.plateaus.level_by_plateaus.Goals as goal
 
 pub level_rows-requires : goal.level_rows-requires

@@ -6,7 +6,7 @@ use lib.ListN.{length, take, drop, get_or, length-take, length-drop}
 use Rattle.memory.specs.rules.Lists.{table}
 use Rattle.memory.proofs.TableLaws.{table-whole}
 use Rattle.levelling.specs.stages.Moves.{Plateau}
-use Rattle.levelling.proofs.RowLaws.{RightTo, plateau-put}
+use Rattle.levelling.proofs.RowLaws.{plateau-put}
 use Rattle.levelling.proofs.plateaus.level_columns.Goals as goal
 
 pub loop-c-init : goal.loop-c-init

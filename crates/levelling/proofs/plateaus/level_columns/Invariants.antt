@@ -1,12 +1,7 @@
-use mathlib.Core.Path.{◌≡◌, refl, ap, ◌∙◌}
-use Prim.Native.Nat.{◌-◌, ◌^◌, ◌≤◌, ◌<◌, zero-le}
-use native.Mathlib.Omega.{arith}
-use mir.Facts.{Fits-32_64}
-use lib.ListN.{length, take, drop, get_or, length-take, length-drop}
-use Rattle.memory.specs.rules.Lists.{table}
-use Rattle.memory.proofs.TableLaws.{table-whole}
-use Rattle.levelling.specs.stages.Moves.{Plateau}
-use Rattle.levelling.proofs.RowLaws.{RightTo, plateau-put}
+use mathlib.Core.Path.{◌≡◌}
+use Prim.Native.Nat.{◌-◌, ◌≤◌}
+use lib.ListN.{length}
+use Rattle.levelling.proofs.RowLaws.{RightTo}
 use Rattle.levelling.proofs.plateaus.level_columns.Given as goal
 
 abbrev pub invariant-loop-c : goal.invariant-loop-c

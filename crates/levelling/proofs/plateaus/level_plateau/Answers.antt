@@ -1,6 +1,5 @@
 use mathlib.Core.Path.{refl, ◌∙◌}
 use native.Mathlib.Omega.{arith}
-use borrow.Author.Rules.{rules}
 use lib.ListN.{length}
 use Rattle.levelling.proofs.RowLaws.{plateau-above, plateau-below, plateau-inside, plateau-copied}
 use Rattle.levelling.proofs.plateaus.level_plateau.Goals as goal

@@ -1,16 +1,10 @@
-use mathlib.Core.Path.{◌≡◌, refl, sym, ap}
+use mathlib.Core.Path.{◌≡◌}
 use mathlib.Core.List.{◌++◌}
-use Prim.Native.Nat.{◌+◌, ◌-◌, ◌*◌, ◌≤◌, zero-le}
-use native.Mathlib.Nat.{zero-mul}
-use native.Mathlib.Omega.{arith}
-use mir.Facts.{Fits-32_64}
-use borrow.Author.Rules.{rules}
-use borrow.Rule.Slice.PartMut.{put_mid}
-use lib.ListN.{length, get_or, take, drop, length-take, length-drop}
+use Prim.Native.Nat.{◌-◌, ◌*◌, ◌≤◌}
+use lib.ListN.{length, drop}
 use Rattle.memory.specs.rules.Lists.{table}
-use Rattle.memory.proofs.PlaneLaws.{row-end}
 use Rattle.levelling.specs.rules.Frames.{frame_of}
-use Rattle.levelling.proofs.RowLaws.{plane_at, row_put, rows_all}
+use Rattle.levelling.proofs.RowLaws.{plane_at}
 use Rattle.levelling.proofs.plateaus.level_rows.Given as goal
 
 abbrev pub invariant-loop-r : goal.invariant-loop-r

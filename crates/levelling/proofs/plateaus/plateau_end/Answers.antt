@@ -1,6 +1,5 @@
 use Prim.Native.Nat.{◌+◌}
 use native.Mathlib.Omega.{arith}
-use borrow.Author.Rules.{rules}
 use Rattle.levelling.proofs.RowLaws.{plateau-alone, plateau-longer}
 use Rattle.levelling.proofs.plateaus.plateau_end.Goals as goal
 

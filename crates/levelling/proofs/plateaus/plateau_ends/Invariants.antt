@@ -1,10 +1,7 @@
-use mathlib.Core.Path.{◌≡◌, refl, subst}
-use Prim.Native.Nat.{◌+◌, ◌-◌, ◌≤◌}
-use native.Mathlib.Nat.{le_refl}
-use native.Mathlib.Omega.{arith}
-use lib.ListN.{length, length-set}
+use mathlib.Core.Path.{◌≡◌}
+use Prim.Native.Nat.{◌≤◌}
+use lib.ListN.{length}
 use Rattle.levelling.specs.stages.Moves.{Plateaus}
-use Rattle.levelling.proofs.RowLaws.{plateaus-more}
 use Rattle.levelling.proofs.plateaus.plateau_ends.Given as goal
 
 abbrev pub invariant-loop-c : goal.invariant-loop-c

@@ -1,6 +1,5 @@
 use mathlib.Core.Path.{◌≡◌, refl, ap, ◌∙◌}
-use mathlib.Core.List.{◌++◌}
-use Prim.Native.Nat.{◌+◌, ◌-◌, ◌≤◌, zero-le}
+use Prim.Native.Nat.{◌+◌, ◌-◌, zero-le}
 use native.Mathlib.Omega.{arith}
 use borrow.Author.Rules.{rules}
 use borrow.Rule.Slice.PartMut.{put_mid}
@@ -10,7 +9,6 @@ use mir.Val.{to_z, of_z}
 use Rattle.memory.specs.rules.Lists.{table}
 use Rattle.memory.proofs.TableLaws.{table_filled}
 use Rattle.memory.proofs.PartLaws.{part_filled}
-use Rattle.levelling.specs.stages.Entries.{entry_of}
 use Rattle.levelling.proofs.ShearTests.{least-of, shear-filled}
 use Rattle.levelling.proofs.shears.fill_shear.Goals as goal
 

@@ -1,17 +1,9 @@
-use mathlib.Core.Path.{◌≡◌, refl, ap, ◌∙◌}
+use mathlib.Core.Path.{◌≡◌}
 use mathlib.Core.List.{◌++◌}
-use Prim.Native.Nat.{◌+◌, ◌-◌, ◌≤◌, zero-le}
-use native.Mathlib.Omega.{arith}
-use borrow.Author.Rules.{rules}
-use borrow.Rule.Slice.PartMut.{put_mid}
-use lib.ListN.{length, take, drop, length-take, length-drop}
-use mir.Syntax.{w64}
-use mir.Val.{to_z, of_z}
+use Prim.Native.Nat.{◌-◌, ◌≤◌}
+use lib.ListN.{length, drop}
 use Rattle.memory.specs.rules.Lists.{table}
-use Rattle.memory.proofs.TableLaws.{table_filled}
-use Rattle.memory.proofs.PartLaws.{part_filled}
 use Rattle.levelling.specs.stages.Entries.{entry_of}
-use Rattle.levelling.proofs.ShearTests.{least-of, shear-filled}
 use Rattle.levelling.proofs.shears.fill_shear.Given as goal
 
 abbrev pub invariant-loop-c : goal.invariant-loop-c

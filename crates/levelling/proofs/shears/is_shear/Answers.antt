@@ -1,12 +1,10 @@
 use mathlib.Core.Path.{◌≡◌, sym, ◌∙◌}
-use Prim.Native.Nat.{ℕ, ◌+◌, ◌-◌, ◌≤◌, ◌<◌, zero-le}
+use Prim.Native.Nat.{◌+◌, zero-le}
 use native.Mathlib.Omega.{arith}
 use borrow.Author.Rules.{rules}
-use lib.ListN.{get_or}
 use mir.Syntax.{w64}
 use mir.Val.{to_z, of_z}
 use Rattle.memory.proofs.WordLaws.{one_more}
-use Rattle.levelling.specs.stages.Entries.{entry_of}
 use Rattle.levelling.proofs.ShearTests.{least-of, shear-same, shear-other}
 use Rattle.levelling.proofs.shears.is_shear.Goals as goal
 

@@ -1,13 +1,7 @@
-use mathlib.Core.Path.{◌≡◌, sym, ◌∙◌}
-use Prim.Native.Nat.{ℕ, ◌+◌, ◌-◌, ◌≤◌, ◌<◌, zero-le}
-use native.Mathlib.Omega.{arith}
-use borrow.Author.Rules.{rules}
+use mathlib.Core.Path.{◌≡◌}
+use Prim.Native.Nat.{ℕ, ◌-◌, ◌≤◌, ◌<◌}
 use lib.ListN.{get_or}
-use mir.Syntax.{w64}
-use mir.Val.{to_z, of_z}
-use Rattle.memory.proofs.WordLaws.{one_more}
 use Rattle.levelling.specs.stages.Entries.{entry_of}
-use Rattle.levelling.proofs.ShearTests.{least-of, shear-same, shear-other}
 use Rattle.levelling.proofs.shears.is_shear.Given as goal
 
 abbrev pub invariant-loop-c : goal.invariant-loop-c

@@ -1,11 +1,11 @@
 use mathlib.Core.Path.{◌≡◌, refl, sym, ap, ◌∙◌, subst}
 use mathlib.Core.Bool.{Bool, true, false, ◌&&◌, true≢false}
 use mathlib.Core.List.{List}
-use Prim.Native.Nat.{ℕ, ◌+◌, ◌-◌, ◌≤◌, ◌<◌, zero-le}
+use Prim.Native.Nat.{ℕ, ◌+◌, ◌<◌, zero-le}
 use native.Mathlib.Omega.{arith}
 use native.Mathlib.Decide.{ℕ_discrete}
 use lib.Dec.{T, eqb, eqb→eq}
-use lib.ListN.{length, get_or}
+use lib.ListN.{get_or}
 use Rattle.levelling.proofs.tiles.all_equal.Goals as goal
 
 more : (part : List ℕ) (v i : ℕ) (b : Bool) → (b ≡ true → (k : ℕ) → k < i → get_or part k 0 ≡ v) → (b && eqb (get_or part i 0) v) ≡ true → (k : ℕ) → k < i + 1 → get_or part k 0 ≡ v

@@ -1,12 +1,11 @@
 use mathlib.Core.Path.{◌≡◌, refl, ap, ◌∙◌}
-use Prim.Native.Nat.{◌-◌, ◌*◌, ◌≤◌, zero-le}
+use Prim.Native.Nat.{◌-◌, ◌*◌, zero-le}
 use native.Mathlib.Omega.{arith}
-use borrow.Author.Rules.{rules}
 use lib.ListN.{length, take, drop, length-take, length-drop}
 use Rattle.memory.specs.rules.Words.{over}
 use Rattle.levelling.specs.rules.Frames.{frame_of}
 use Rattle.levelling.specs.rules.Planes.{levelled}
-use Rattle.levelling.proofs.TileLaws.{Tiled, tiled-none, tiled-more, tiled-all, fits-again}
+use Rattle.levelling.proofs.TileLaws.{tiled-none, tiled-more, tiled-all, fits-again}
 use Rattle.levelling.proofs.tiles.level_by_tiles.Goals as goal
 
 pub overflow_sub-added : goal.overflow_sub-added

@@ -1,13 +1,10 @@
 use mathlib.Core.Path.{◌≡◌, refl, ap, ◌∙◌, subst}
-use mathlib.Core.Bool.{Bool}
-use mathlib.Core.List.{List}
-use mathlib.Core.Logic.{⊎_elim}
-use Prim.Native.Nat.{ℕ, ◌+◌, ◌-◌, ◌*◌, ◌^◌, ◌≤◌, ◌<◌, zero-le}
+use Prim.Native.Nat.{ℕ, ◌+◌, ◌^◌, ◌<◌, zero-le}
 use native.Mathlib.Omega.{arith}
 use mir.Syntax.{w32, w64}
 use mir.Val.{Fits}
 use mir.Facts.{Fits-32_64, Fits-lt}
-use lib.ListN.{length, get_or, length-set}
+use lib.ListN.{length, length-set}
 use Rattle.levelling.specs.stages.Moves.{MovesPart}
 use Rattle.levelling.proofs.TileLaws.{place_inside, part_none, dot-stored, dot-passed}
 use Rattle.levelling.proofs.tiles.move_dots.Goals as goal
@@ -74,15 +71,15 @@ bounds-out-r c = let a = c.args in
 
 pub loop-i-preserved : goal.loop-i-preserved
 loop-i-preserved c = let a = c.args in (
-      omega arith,
-      λ page_h done s ly fits e.
-          let k : a.part.c + c.loop-i.i < a.sides.page_w = omega (arith, c.requires.columns, fits.columns) in
-          elim c.if-dot-fill.branch [
-            then-dot-fill v ↦ dot-stored a.sides.page_w page_h a.shear.now a.shear_x.now a.sides.w (length a.shear_x.now) a.fill a.page.now a.out.now fits done s a.part.y a.part.c c.loop-i.i c.loop-i.out c.if-dot-fill.out ly k (c.loop-i.invariant.1 page_h done s ly fits e) v.out-is
-            | else-dot-fill v ↦ v.out-is ∙ (c.loop-i.invariant.1 page_h done s ly fits e ∙ dot-passed a.sides.page_w page_h a.shear.now a.shear_x.now a.sides.w (length a.shear_x.now) a.fill a.page.now a.out.now fits done s a.part.y a.part.c c.loop-i.i ly k v.if-dot-fill.false)
-          ],
-      elim c.if-dot-fill.branch [ then-dot-fill v ↦ ap length v.out-is ∙ simp length-set c.loop-i.invariant.2 | else-dot-fill v ↦ ap length v.out-is ∙ c.loop-i.invariant.2 ],
-    )
+  omega arith,
+  λ page_h done s ly fits e.
+      let k : a.part.c + c.loop-i.i < a.sides.page_w = omega (arith, c.requires.columns, fits.columns) in
+      elim c.if-dot-fill.branch [
+        | then-dot-fill v ↦ dot-stored a.sides.page_w page_h a.shear.now a.shear_x.now a.sides.w (length a.shear_x.now) a.fill a.page.now a.out.now fits done s a.part.y a.part.c c.loop-i.i c.loop-i.out c.if-dot-fill.out ly k (c.loop-i.invariant.1 page_h done s ly fits e) v.out-is
+        | else-dot-fill v ↦ v.out-is ∙ (c.loop-i.invariant.1 page_h done s ly fits e ∙ dot-passed a.sides.page_w page_h a.shear.now a.shear_x.now a.sides.w (length a.shear_x.now) a.fill a.page.now a.out.now fits done s a.part.y a.part.c c.loop-i.i ly k v.if-dot-fill.false)
+      ],
+  elim c.if-dot-fill.branch [ then-dot-fill v ↦ ap length v.out-is ∙ simp length-set c.loop-i.invariant.2 | else-dot-fill v ↦ ap length v.out-is ∙ c.loop-i.invariant.2 ],
+)
 
 pub returns : goal.returns
 returns c = let a = c.args in

@@ -1,9 +1,9 @@
 use mathlib.Core.Path.{◌≡◌, refl, ap, ◌∙◌}
-use Prim.Native.Nat.{◌+◌, ◌-◌, ◌*◌, ◌≤◌, zero-le}
+use Prim.Native.Nat.{◌+◌, ◌-◌, ◌*◌, zero-le}
 use native.Mathlib.Omega.{arith}
 use lib.ListN.{length}
 use Rattle.levelling.specs.rules.Frames.{frame_of}
-use Rattle.levelling.specs.stages.Moves.{MovesPart, partly, or_range}
+use Rattle.levelling.specs.stages.Moves.{partly, or_range}
 use Rattle.levelling.proofs.TileLaws.{part_none, part-joined, fits-again}
 use Rattle.levelling.proofs.tiles.move_part.Goals as goal
 
@@ -15,36 +15,39 @@ pub overflow_add-column : goal.overflow_add-column
 overflow_add-column c = omega (arith, c.requires.columns)
 
 pub move_chunk-requires : goal.move_chunk-requires
-move_chunk-requires c = record { chunk = refl; fits = record {
+move_chunk-requires c = record {
+  chunk = refl;
+  fits = record {
     columns = omega (arith, c.requires.columns);
     dots = omega (arith, c.requires.dots);
     room = omega (arith, c.requires.room);
     rows = c.requires.rows;
     inside = c.requires.inside;
-  } }
+  };
+}
 
 pub loop-i-preserved : goal.loop-i-preserved
 loop-i-preserved c = let a = c.args in (
-      omega arith,
-      λ page_h done s ly fits e.
-          c.move_chunk.ensures page_h (or_range done (a.part.y * a.sides.page_w + a.part.c) (a.part.y * a.sides.page_w + a.part.c + c.loop-i.i)) s ly
-          (fits-again a.sides.page_w page_h a.shear.now a.shear_x.now a.sides.w (length a.shear_x.now) a.page.now a.out.now c.loop-i.out fits c.loop-i.invariant.2)
-          (c.loop-i.invariant.1 page_h done s ly fits e)
-          ∙ part-joined a.sides.page_w page_h a.shear.now a.shear_x.now a.sides.w (length a.shear_x.now) a.fill a.page.now a.out.now fits done s a.part.y a.part.c c.loop-i.i 64,
-      omega arith,
-    )
+  omega arith,
+  λ page_h done s ly fits e.
+      c.move_chunk.ensures page_h (or_range done (a.part.y * a.sides.page_w + a.part.c) (a.part.y * a.sides.page_w + a.part.c + c.loop-i.i)) s ly
+      (fits-again a.sides.page_w page_h a.shear.now a.shear_x.now a.sides.w (length a.shear_x.now) a.page.now a.out.now c.loop-i.out fits c.loop-i.invariant.2)
+      (c.loop-i.invariant.1 page_h done s ly fits e)
+      ∙ part-joined a.sides.page_w page_h a.shear.now a.shear_x.now a.sides.w (length a.shear_x.now) a.fill a.page.now a.out.now fits done s a.part.y a.part.c c.loop-i.i 64,
+  omega arith,
+)
 
 pub overflow_add-column-2 : goal.overflow_add-column-2
 overflow_add-column-2 c = omega (arith, c.requires.columns)
 
 pub move_dots-requires : goal.move_dots-requires
 move_dots-requires c = record {
-      columns = omega (arith, c.requires.columns);
-      dots = omega (arith, c.requires.dots);
-      room = omega (arith, c.requires.room);
-      rows = c.requires.rows;
-      inside = c.requires.inside;
-    }
+  columns = omega (arith, c.requires.columns);
+  dots = omega (arith, c.requires.dots);
+  room = omega (arith, c.requires.room);
+  rows = c.requires.rows;
+  inside = c.requires.inside;
+}
 
 pub returns : goal.returns
 returns c = let a = c.args in

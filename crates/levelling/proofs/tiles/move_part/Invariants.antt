@@ -1,10 +1,7 @@
-use mathlib.Core.Path.{◌≡◌, refl, ap, ◌∙◌}
-use Prim.Native.Nat.{◌+◌, ◌-◌, ◌*◌, ◌≤◌, zero-le}
-use native.Mathlib.Omega.{arith}
+use mathlib.Core.Path.{◌≡◌}
+use Prim.Native.Nat.{◌-◌, ◌≤◌}
 use lib.ListN.{length}
-use Rattle.levelling.specs.rules.Frames.{frame_of}
-use Rattle.levelling.specs.stages.Moves.{MovesPart, partly, or_range}
-use Rattle.levelling.proofs.TileLaws.{part_none, part-joined, fits-again}
+use Rattle.levelling.specs.stages.Moves.{MovesPart}
 use Rattle.levelling.proofs.tiles.move_part.Given as goal
 
 abbrev pub invariant-loop-i : goal.invariant-loop-i

@@ -1,7 +1,5 @@
 use mathlib.Core.Path.{◌≡◌, refl, ap, ◌∙◌}
-use mathlib.Core.Bool.{Bool}
-use mathlib.Core.List.{List}
-use Prim.Native.Nat.{ℕ, ◌-◌, ◌≤◌, zero-le}
+use Prim.Native.Nat.{zero-le}
 use native.Mathlib.Omega.{arith}
 use lib.ListN.{length}
 use Rattle.memory.proofs.PlaneLaws.{row-end}
@@ -27,14 +25,14 @@ move_part-requires c = let a = c.args in
 
 pub loop-y-preserved : goal.loop-y-preserved
 loop-y-preserved c = let a = c.args in (
-      omega arith,
-      (λ done s e.
-          c.move_part.ensures a.sides.page_h (or_rows done a.sides.page_w a.tile.c a.tile.n c.loop-y.y) s c.loop-y-test.true
-          (fits-again a.sides.page_w a.sides.page_h a.shear.now a.shear_x.now a.sides.w (length a.shear_x.now) a.page.now a.out.now c.loop-y.out c.requires.planes c.loop-y.invariant.2)
-          (c.loop-y.invariant.1 done s e)
-          ∙ row_moved a.sides.page_w a.sides.page_h a.shear.now a.shear_x.now a.sides.w (length a.shear_x.now) a.fill a.page.now a.out.now c.requires.planes done s c.loop-y.y a.tile.c a.tile.n),
-      omega arith,
-    )
+  omega arith,
+  (λ done s e.
+      c.move_part.ensures a.sides.page_h (or_rows done a.sides.page_w a.tile.c a.tile.n c.loop-y.y) s c.loop-y-test.true
+      (fits-again a.sides.page_w a.sides.page_h a.shear.now a.shear_x.now a.sides.w (length a.shear_x.now) a.page.now a.out.now c.loop-y.out c.requires.planes c.loop-y.invariant.2)
+      (c.loop-y.invariant.1 done s e)
+      ∙ row_moved a.sides.page_w a.sides.page_h a.shear.now a.shear_x.now a.sides.w (length a.shear_x.now) a.fill a.page.now a.out.now c.requires.planes done s c.loop-y.y a.tile.c a.tile.n),
+  omega arith,
+)
 
 pub returns : goal.returns
 returns c = let a = c.args in

@@ -1,13 +1,10 @@
-use mathlib.Core.Path.{◌≡◌, refl, ap, ◌∙◌}
+use mathlib.Core.Path.{◌≡◌}
 use mathlib.Core.Bool.{Bool}
 use mathlib.Core.List.{List}
-use Prim.Native.Nat.{ℕ, ◌-◌, ◌≤◌, zero-le}
-use native.Mathlib.Omega.{arith}
+use Prim.Native.Nat.{ℕ, ◌-◌, ◌≤◌}
 use lib.ListN.{length}
-use Rattle.memory.proofs.PlaneLaws.{row-end}
 use Rattle.levelling.specs.rules.Frames.{frame_of}
 use Rattle.levelling.specs.stages.Moves.{partly, or_rows}
-use Rattle.levelling.proofs.TileLaws.{row_moved, fits-again}
 use Rattle.levelling.proofs.tiles.move_tile.Given as goal
 
 abbrev pub invariant-loop-y : goal.invariant-loop-y

@@ -3,7 +3,6 @@ use mathlib.Core.Bool.{Bool, true, false, not}
 use lib.Dec.{T}
 use lib.Ieee.{Float, nan, inf, fin, binary64, to_bits, ne, is_nan}
 use lib.Ieee.Compare.{differs_from_itself, nan_differs}
-use borrow.Author.Rules.{rules}
 use Rattle.memory.proofs.floats.bits_of.Goals as goal
 
 not-nan : (x : Float) → ne x x ≡ false → T (not (is_nan x))

@@ -1,8 +1,6 @@
-use Prim.Native.Nat.{◌-◌, ◌≤◌}
-use mathlib.Core.Path.{◌≡◌, refl}
-use mathlib.Core.Logic.{⊎_elim}
+use mathlib.Core.Path.{refl}
 use native.Mathlib.Omega.{arith}
-use lib.ListN.{get_or, length}
+use lib.ListN.{get_or}
 use Rattle.memory.specs.rules.Lists.{table, greatest}
 use Rattle.memory.proofs.GreatestLaws.{greatest-more}
 use Rattle.memory.proofs.MaskLaws.{mask-by-greatest}

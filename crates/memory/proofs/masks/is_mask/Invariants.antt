@@ -1,11 +1,7 @@
 use Prim.Native.Nat.{◌-◌, ◌≤◌}
-use mathlib.Core.Path.{◌≡◌, refl}
-use mathlib.Core.Logic.{⊎_elim}
-use native.Mathlib.Omega.{arith}
+use mathlib.Core.Path.{◌≡◌}
 use lib.ListN.{get_or, length}
 use Rattle.memory.specs.rules.Lists.{table, greatest}
-use Rattle.memory.proofs.GreatestLaws.{greatest-more}
-use Rattle.memory.proofs.MaskLaws.{mask-by-greatest}
 use Rattle.memory.proofs.masks.is_mask.Given as goal
 
 abbrev pub invariant-loop-i : goal.invariant-loop-i

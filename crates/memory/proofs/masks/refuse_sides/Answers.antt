@@ -1,5 +1,4 @@
 use Rattle.memory.specs.rules.Masks.{sides_refusal}
-use borrow.Author.Rules.{rules}
 use Rattle.memory.proofs.masks.refuse_sides.Goals as goal
 
 pub returns : goal.returns

@@ -1,5 +1,4 @@
 use Rattle.memory.proofs.PlaneLaws.{product-fits}
-use borrow.Author.Rules.{rules}
 use Rattle.memory.proofs.numbers.area.Goals as goal
 
 pub overflow_mul-result : goal.overflow_mul-result

@@ -1,7 +1,6 @@
 use native.Mathlib.Omega.{arith}
 use native.Mathlib.Numerals.{towards_suc}
 use lib.ListN.{length-set}
-use borrow.Author.Rules.{rules}
 use Rattle.memory.proofs.rect.put_box.Goals as goal
 
 pub bounds-words-at-2 : goal.bounds-words-at-2

@@ -1,10 +1,8 @@
-use mathlib.Core.Path.{◌≡◌, refl}
+use mathlib.Core.Path.{◌≡◌}
 use mathlib.Core.List.{◌++◌}
-use Prim.Native.Nat.{◌-◌, ◌≤◌, zero-le}
-use native.Mathlib.Omega.{arith}
-use lib.ListN.{length, drop, length-set}
+use Prim.Native.Nat.{◌-◌, ◌≤◌}
+use lib.ListN.{length, drop}
 use Rattle.memory.specs.rules.Lists.{table}
-use Rattle.memory.proofs.TableLaws.{table_more, table-whole}
 use Rattle.memory.proofs.words.fill_words.Given as goal
 
 abbrev pub invariant-loop-i : goal.invariant-loop-i

@@ -1,9 +1,6 @@
 use mathlib.Core.Bool.{true≢false}
-use Prim.Native.Nat.{◌-◌, ◌<◌, ◌≤◌, ℕ}
 use native.Mathlib.Nat.{le_refl}
 use native.Mathlib.Omega.{arith}
-use Rattle.extents.specs.rules.Extents.{run_through}
-use Rattle.rulings.specs.stages.Sweeps.{widened_scanline}
 use Rattle.rulings.proofs.ColumnLaws.{short-more}
 use Rattle.rulings.proofs.columns.any_long_run.Goals as goal
 

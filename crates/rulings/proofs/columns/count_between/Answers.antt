@@ -1,8 +1,7 @@
 use mathlib.Core.Path.{◌≡◌, refl, subst}
-use Prim.Native.Nat.{◌-◌, ◌≤◌}
 use native.Mathlib.Nat.{le_refl}
 use native.Mathlib.Omega.{arith}
-use lib.ListN.{length, length-set}
+use lib.ListN.{length-set}
 use Rattle.memory.specs.rules.Masks.{is_ink}
 use Rattle.rulings.specs.stages.Sweeps.{CountedOn}
 use Rattle.rulings.proofs.ColumnLaws.{counted-on-next, counted-on-none}
@@ -20,8 +19,7 @@ count_on-requires c =
 pub loop-o-preserved : goal.loop-o-preserved
 unfolding is_ink
 loop-o-preserved c =
-    let a = c.args in
-    (
+    let a = c.args in (
       omega arith,
       omega arith,
       counted-on-next a.ink.now a.row a.from c.loop-o.o c.count_on.result a.words.now c.loop-o.words c.loop-o.invariant.0 (omega arith) c.count_on.ensures c.loop-o.invariant.2,

@@ -1,11 +1,7 @@
-use mathlib.Core.Path.{◌≡◌, refl, subst}
+use mathlib.Core.Path.{◌≡◌}
 use Prim.Native.Nat.{◌-◌, ◌≤◌}
-use native.Mathlib.Nat.{le_refl}
-use native.Mathlib.Omega.{arith}
-use lib.ListN.{length, length-set}
-use Rattle.memory.specs.rules.Masks.{is_ink}
+use lib.ListN.{length}
 use Rattle.rulings.specs.stages.Sweeps.{CountedOn}
-use Rattle.rulings.proofs.ColumnLaws.{counted-on-next, counted-on-none}
 use Rattle.rulings.proofs.columns.count_between.Given as goal
 
 abbrev pub invariant-loop-o : goal.invariant-loop-o

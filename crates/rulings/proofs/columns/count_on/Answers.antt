@@ -1,7 +1,6 @@
 use mathlib.Core.Bool.{◌||◌}
 use Prim.Native.Nat.{◌+◌}
 use native.Mathlib.Omega.{arith}
-use borrow.Author.Rules.{rules}
 use lib.Dec.{ltb}
 use Rattle.extents.proofs.ExtentLaws.{bit-times, bit-times-le}
 use Rattle.rulings.proofs.columns.count_on.Goals as goal

@@ -1,7 +1,6 @@
 use mathlib.Core.Path.{◌≡◌, subst}
 use Prim.Native.Nat.{◌+◌, ◌-◌}
 use native.Mathlib.Omega.{arith}
-use borrow.Author.Rules.{rules}
 use Rattle.rulings.specs.stages.Sweeps.{Recounted, widened_scanline}
 use Rattle.extents.proofs.RunLaws.{behind-le}
 use Rattle.rulings.proofs.ColumnLaws.{counted-between, counted-last, recounted-all, recounted-row, row-spot}

@@ -6,7 +6,6 @@ use lib.ListN.{drop, get_or, length-drop}
 use lib.Seq.{get_or-drop, take-set-le}
 use Rattle.rulings.specs.stages.Sweeps.{spot_of}
 use Rattle.rulings.proofs.ColumnLaws.{place-cut, place-left}
-use borrow.Author.Rules.{rules}
 use Rattle.rulings.proofs.columns.cut_place.Goals as goal
 
 pub spot-requires : goal.spot-requires

@@ -1,9 +1,8 @@
-use mathlib.Core.Bool.{false}
 use mathlib.Core.Path.{◌∙◌, ◌≡◌, refl, subst}
-use Prim.Native.Nat.{◌*◌, ◌+◌, ◌-◌, ◌≤◌}
+use Prim.Native.Nat.{◌*◌, ◌+◌}
 use native.Mathlib.Nat.{le_refl}
 use native.Mathlib.Omega.{arith}
-use lib.ListN.{drop, length, take}
+use lib.ListN.{drop, length}
 use Rattle.rulings.specs.stages.Sweeps.{Marked, is_thin}
 use Rattle.rulings.proofs.SweepLaws.{still_both, marked-none, run-loop}
 use Rattle.rulings.proofs.ColumnLaws.{marked_more}
@@ -23,8 +22,7 @@ cut_place-here-requires c =
 pub loop-i-preserved : goal.loop-i-preserved
 loop-i-preserved c =
     let a = c.args in
-    let p = c.requires in
-    (
+    let p = c.requires in (
       omega arith,
       omega arith,
       run-loop a.t.sweep (length a.ink.now) (is_thin a.t.sweep a.ink.now a.t.thick_max) 2 (drop a.t.marks a.words.now) (drop a.t.marks c.loop-i.words) _ a.from c.loop-i.i a.o p.0 c.loop-i.invariant.0 (omega arith) p.1 p.4.room c.loop-i.invariant.2 c.cut_place-here.ensures.0,

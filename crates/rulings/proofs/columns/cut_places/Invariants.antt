@@ -1,12 +1,8 @@
 use mathlib.Core.Bool.{false}
-use mathlib.Core.Path.{◌∙◌, ◌≡◌, refl, subst}
+use mathlib.Core.Path.{◌≡◌}
 use Prim.Native.Nat.{◌*◌, ◌+◌, ◌-◌, ◌≤◌}
-use native.Mathlib.Nat.{le_refl}
-use native.Mathlib.Omega.{arith}
 use lib.ListN.{drop, length, take}
 use Rattle.rulings.specs.stages.Sweeps.{Marked, is_thin}
-use Rattle.rulings.proofs.SweepLaws.{still_both, marked-none, run-loop}
-use Rattle.rulings.proofs.ColumnLaws.{marked_more}
 use Rattle.rulings.proofs.columns.cut_places.Given as goal
 
 abbrev pub invariant-loop-i : goal.invariant-loop-i

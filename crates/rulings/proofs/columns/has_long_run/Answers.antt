@@ -1,8 +1,6 @@
 use mathlib.Core.Bool.{true≢false}
-use Prim.Native.Nat.{◌+◌, ◌-◌, ◌<◌, ◌≤◌, ℕ}
+use Prim.Native.Nat.{◌+◌}
 use native.Mathlib.Omega.{arith}
-use Rattle.extents.specs.rules.Extents.{run_through}
-use Rattle.extents.specs.stages.Scans.{Starts}
 use Rattle.rulings.specs.stages.Sweeps.{widened_scanline}
 use Rattle.extents.proofs.RunLaws.{starts-zero}
 use Rattle.rulings.proofs.SweepLaws.{back-starts}

@@ -1,12 +1,7 @@
-use mathlib.Core.Bool.{true≢false}
-use Prim.Native.Nat.{◌+◌, ◌-◌, ◌<◌, ◌≤◌, ℕ}
-use native.Mathlib.Omega.{arith}
+use Prim.Native.Nat.{◌-◌, ◌<◌, ◌≤◌, ℕ}
 use Rattle.extents.specs.rules.Extents.{run_through}
 use Rattle.extents.specs.stages.Scans.{Starts}
 use Rattle.rulings.specs.stages.Sweeps.{widened_scanline}
-use Rattle.extents.proofs.RunLaws.{starts-zero}
-use Rattle.rulings.proofs.SweepLaws.{back-starts}
-use Rattle.rulings.proofs.ColumnLaws.{short-all, short-to}
 use Rattle.rulings.proofs.columns.has_long_run.Given as goal
 
 abbrev pub invariant-loop-x : goal.invariant-loop-x

@@ -1,6 +1,4 @@
 use Prim.Native.Nat.{◌-◌, ◌≤◌}
-use native.Mathlib.Nat.{le_refl}
-use native.Mathlib.Omega.{arith}
 use Rattle.rulings.proofs.columns.long_end.Given as goal
 
 abbrev pub invariant-loop-b : goal.invariant-loop-b

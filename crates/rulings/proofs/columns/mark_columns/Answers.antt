@@ -1,9 +1,7 @@
-use mathlib.Core.Bool.{false}
 use Rattle.rulings.proofs.SweepLaws.{still_both}
 use mathlib.Core.Path.{◌≡◌, refl, subst}
-use Prim.Native.Nat.{◌-◌, ◌≤◌}
 use native.Mathlib.Omega.{arith}
-use lib.ListN.{drop, length}
+use lib.ListN.{drop}
 use Rattle.rulings.specs.stages.Sweeps.{Risen}
 use Rattle.rulings.proofs.ColumnLaws.{risen-all, risen-scanlines, risen-short, risen-small}
 use Rattle.rulings.proofs.columns.mark_columns.Goals as goal

@@ -1,11 +1,8 @@
 use mathlib.Core.Bool.{false}
-use Rattle.rulings.proofs.SweepLaws.{still_both}
-use mathlib.Core.Path.{◌≡◌, refl, subst}
+use mathlib.Core.Path.{◌≡◌}
 use Prim.Native.Nat.{◌-◌, ◌≤◌}
-use native.Mathlib.Omega.{arith}
 use lib.ListN.{drop, length}
 use Rattle.rulings.specs.stages.Sweeps.{Risen}
-use Rattle.rulings.proofs.ColumnLaws.{risen-all, risen-scanlines, risen-short, risen-small}
 use Rattle.rulings.proofs.columns.mark_columns.Given as goal
 
 abbrev pub invariant-loop-a : goal.invariant-loop-a

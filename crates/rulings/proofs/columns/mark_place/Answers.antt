@@ -7,7 +7,6 @@ use Rattle.extents.specs.rules.Extents.{behind}
 use Rattle.rulings.specs.stages.Sweeps.{widened_scanline}
 use Rattle.extents.proofs.RunLaws.{behind-le}
 use Rattle.rulings.proofs.ColumnLaws.{risen-long, risen-still}
-use borrow.Author.Rules.{rules}
 use Rattle.rulings.proofs.columns.mark_place.Goals as goal
 
 pub returns-then-run_min-since : goal.returns-then-run_min-since

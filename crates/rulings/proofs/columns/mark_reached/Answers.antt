@@ -1,10 +1,9 @@
-use mathlib.Core.Bool.{false}
 use Rattle.rulings.proofs.SweepLaws.{still_both}
 use mathlib.Core.Path.{◌∙◌, ◌≡◌, refl, subst}
-use Prim.Native.Nat.{◌+◌, ◌-◌, ◌≤◌}
+use Prim.Native.Nat.{◌+◌}
 use native.Mathlib.Nat.{le_refl}
 use native.Mathlib.Omega.{arith}
-use lib.ListN.{drop, length, take}
+use lib.ListN.{drop}
 use Rattle.rulings.specs.stages.Sweeps.{Risen}
 use Rattle.rulings.proofs.ColumnLaws.{counted-kept, risen-scanlines, risen-small, risen-still}
 use Rattle.rulings.proofs.columns.mark_reached.Goals as goal
@@ -18,8 +17,7 @@ loop-o-init c =
 pub mark_place-here-requires : goal.mark_place-here-requires
 mark_place-here-requires c =
     let a = c.args in
-    let p = c.requires in
-    (
+    let p = c.requires in (
       p.0,
       omega arith,
       p.3,
@@ -33,8 +31,7 @@ mark_place-here-requires c =
 pub loop-o-preserved : goal.loop-o-preserved
 loop-o-preserved c =
     let a = c.args in
-    let p = c.requires in
-    (
+    let p = c.requires in (
       omega arith,
       omega arith,
       risen-scanlines a.t.sweep a.ink.now a.t.run_min a.t.thick_max a.a c.loop-o.o (c.loop-o.o + 1) a.y (a.y + 1) (drop a.t.marks a.words.now) (drop a.t.marks c.loop-o.words) _ c.loop-o.invariant.0 (omega arith) c.loop-o.invariant.2 c.mark_place-here.ensures.0,

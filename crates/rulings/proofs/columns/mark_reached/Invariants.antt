@@ -1,12 +1,8 @@
 use mathlib.Core.Bool.{false}
-use Rattle.rulings.proofs.SweepLaws.{still_both}
-use mathlib.Core.Path.{◌∙◌, ◌≡◌, refl, subst}
+use mathlib.Core.Path.{◌≡◌}
 use Prim.Native.Nat.{◌+◌, ◌-◌, ◌≤◌}
-use native.Mathlib.Nat.{le_refl}
-use native.Mathlib.Omega.{arith}
 use lib.ListN.{drop, length, take}
 use Rattle.rulings.specs.stages.Sweeps.{Risen}
-use Rattle.rulings.proofs.ColumnLaws.{counted-kept, risen-scanlines, risen-small, risen-still}
 use Rattle.rulings.proofs.columns.mark_reached.Given as goal
 
 abbrev pub invariant-loop-o : goal.invariant-loop-o

@@ -5,7 +5,6 @@ use lib.ListN.{drop, length}
 use Rattle.rulings.specs.stages.Sweeps.{Risen, UpTo}
 use Rattle.memory.proofs.StoredLaws.{within-drop}
 use Rattle.rulings.proofs.ColumnLaws.{counted-kept, recounted-counted, risen-still}
-use borrow.Author.Rules.{rules}
 use Rattle.rulings.proofs.columns.mark_row.Goals as goal
 
 pub mark_reached-requires : goal.mark_reached-requires

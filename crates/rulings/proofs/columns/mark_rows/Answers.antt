@@ -1,11 +1,10 @@
-use mathlib.Core.Bool.{false}
 use Rattle.rulings.proofs.SweepLaws.{still_both}
 use mathlib.Core.Path.{◌∙◌, ◌≡◌, refl, subst, sym}
-use Prim.Native.Nat.{◌+◌, ◌-◌, ◌≤◌}
+use Prim.Native.Nat.{◌+◌, ◌-◌}
 use native.Mathlib.Omega.{arith}
 use borrow.Rule.Slice.PartMut.{put_mid}
 use lib.ListN.{drop, length}
-use Rattle.rulings.specs.stages.Sweeps.{Counted, Risen, UpTo}
+use Rattle.rulings.specs.stages.Sweeps.{Risen, UpTo}
 use Rattle.memory.proofs.StoredLaws.{within-drop, stored_at, stored-filled}
 use Rattle.rulings.proofs.ColumnLaws.{counted-zero, risen-none, risen-places, risen-small}
 use Rattle.rulings.proofs.columns.mark_rows.Goals as goal
@@ -24,8 +23,7 @@ mark_row-here-requires c =
     let p = c.requires in
     let s = put_mid a.a (a.b - a.a) a.words.now c.fill_words.new.dst in
     let f = stored-filled 0 a.a a.b a.words.now c.fill_words.new.dst (omega arith) (omega arith) c.fill_words.ensures in
-    let D : drop a.t.marks s ≡ drop a.t.marks a.words.now = within-drop f.within a.t.marks (omega arith) in
-    (
+    let D : drop a.t.marks s ≡ drop a.t.marks a.words.now = within-drop f.within a.t.marks (omega arith) in (
       p.0,
       p.1,
       p.2,
@@ -43,8 +41,7 @@ loop-y-preserved c =
     let a = c.args in
     let p = c.requires in
     let s = put_mid a.a (a.b - a.a) a.words.now c.fill_words.new.dst in
-    let f = stored-filled 0 a.a a.b a.words.now c.fill_words.new.dst (omega arith) (omega arith) c.fill_words.ensures in
-    (
+    let f = stored-filled 0 a.a a.b a.words.now c.fill_words.new.dst (omega arith) (omega arith) c.fill_words.ensures in (
       omega arith,
       risen-places a.t.sweep a.ink.now a.t.run_min a.t.thick_max a.a a.b 0 c.loop-y.y (c.loop-y.y + 1) (drop a.t.marks s) (drop a.t.marks c.loop-y.words) _ c.loop-y.invariant.1 c.mark_row-here.ensures.0,
       c.mark_row-here.ensures.1,

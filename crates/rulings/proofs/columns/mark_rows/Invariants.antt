@@ -1,13 +1,8 @@
 use mathlib.Core.Bool.{false}
-use Rattle.rulings.proofs.SweepLaws.{still_both}
-use mathlib.Core.Path.{◌∙◌, ◌≡◌, refl, subst, sym}
-use Prim.Native.Nat.{◌+◌, ◌-◌, ◌≤◌}
-use native.Mathlib.Omega.{arith}
-use borrow.Rule.Slice.PartMut.{put_mid}
+use mathlib.Core.Path.{◌≡◌}
+use Prim.Native.Nat.{◌-◌, ◌≤◌}
 use lib.ListN.{drop, length}
-use Rattle.rulings.specs.stages.Sweeps.{Counted, Risen, UpTo}
-use Rattle.memory.proofs.StoredLaws.{within-drop, stored_at, stored-filled}
-use Rattle.rulings.proofs.ColumnLaws.{counted-zero, risen-none, risen-places, risen-small}
+use Rattle.rulings.specs.stages.Sweeps.{Counted, Risen}
 use Rattle.rulings.proofs.columns.mark_rows.Given as goal
 
 abbrev pub invariant-loop-y : goal.invariant-loop-y

@@ -1,8 +1,6 @@
 use mathlib.Core.Path.{refl}
-use borrow.Author.Tests.{not-true}
 use lib.ListN.{drop}
 use Rattle.rulings.proofs.ColumnLaws.{risen-short}
-use borrow.Author.Rules.{rules}
 use Rattle.rulings.proofs.columns.mark_strips.Goals as goal
 
 pub returns-then-not-any_long_run : goal.returns-then-not-any_long_run

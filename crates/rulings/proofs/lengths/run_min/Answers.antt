@@ -1,6 +1,5 @@
 use native.Mathlib.Omega.{arith}
 use Rattle.rulings.specs.rules.Rulings.{run_min}
-use borrow.Author.Rules.{rules}
 use Rattle.rulings.proofs.lengths.run_min.Goals as goal
 
 pub returns-then-run-lt2 : goal.returns-then-run-lt2

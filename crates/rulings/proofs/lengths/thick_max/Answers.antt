@@ -1,6 +1,5 @@
 use native.Mathlib.Omega.{arith}
 use Rattle.rulings.specs.rules.Rulings.{thick_max}
-use borrow.Author.Rules.{rules}
 use Rattle.rulings.proofs.lengths.thick_max.Goals as goal
 
 pub returns-then-thick-lt1 : goal.returns-then-thick-lt1

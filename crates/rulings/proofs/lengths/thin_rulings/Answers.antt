@@ -3,7 +3,6 @@ use Prim.Native.Nat.{ℕ, ◌≤◌}
 use Rattle.rulings.specs.rules.Rulings.{run_min}
 use Rattle.rulings.specs.stages.Marks.{RulingsMarked}
 use Rattle.rulings.proofs.RulingMasks.{two-least}
-use borrow.Author.Rules.{rules}
 use Rattle.rulings.proofs.lengths.thin_rulings.Goals as goal
 
 pub mark_rulings-requires : goal.mark_rulings-requires

@@ -8,7 +8,6 @@ use lib.Seq.{get_or-drop}
 use Rattle.rulings.specs.stages.Sweeps.{spot_of, Cached}
 use Rattle.extents.proofs.OverLaws.{front-put, front-put-add}
 use Rattle.rulings.proofs.SweepLaws.{dot-cut, dot-thick, dot-blank}
-use borrow.Author.Rules.{rules}
 use Rattle.rulings.proofs.scanlines.cut_dot.Goals as goal
 
 pub extent_across-thickness-requires : goal.extent_across-thickness-requires

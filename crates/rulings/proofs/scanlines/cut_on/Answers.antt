@@ -1,12 +1,12 @@
 use mathlib.Core.Bool.{not}
 use mathlib.Core.Path.{ap}
-use mathlib.Core.Path.{◌≡◌, refl}
-use mathlib.Core.Bool.{true, false}
+use mathlib.Core.Path.{refl}
+use mathlib.Core.Bool.{true}
 use native.Mathlib.Omega.{arith}
 use native.Mathlib.Nat.{le_refl}
-use Prim.Native.Nat.{ℕ, ◌+◌, ◌*◌, ◌-◌, ◌≤◌, ◌<◌}
-use lib.ListN.{length, take, drop}
-use Rattle.rulings.specs.stages.Sweeps.{widened_scanline, is_thin, Marked, Cached}
+use Prim.Native.Nat.{◌+◌, ◌*◌}
+use lib.ListN.{length, drop}
+use Rattle.rulings.specs.stages.Sweeps.{widened_scanline, is_thin}
 use Rattle.extents.proofs.ExtentLaws.{scan-none, scan-more}
 use Rattle.rulings.proofs.SweepLaws.{still_both, test-off, test_on, marked-none, unmarked-later, run-loop}
 use Rattle.rulings.proofs.scanlines.cut_on.Goals as goal
@@ -31,8 +31,7 @@ cut_dot-here-requires c =
 
 pub loop-i-preserved : goal.loop-i-preserved
 loop-i-preserved c =
-    let p = c.requires in let a = c.args in
-    (
+    let p = c.requires in let a = c.args in (
       omega arith,
       omega arith,
       scan-more (widened_scanline a.t.sweep a.ink.now a.o) true a.from c.loop-i.i c.loop-i.invariant.2 (test_on _ _ c.is_widened.ensures (ap not c.if-not-is_widened.false)),

@@ -1,12 +1,8 @@
-use mathlib.Core.Path.{◌≡◌, refl}
+use mathlib.Core.Path.{◌≡◌}
 use mathlib.Core.Bool.{true, false}
-use native.Mathlib.Omega.{arith}
-use native.Mathlib.Nat.{le_refl}
 use Prim.Native.Nat.{ℕ, ◌+◌, ◌*◌, ◌-◌, ◌≤◌, ◌<◌}
 use lib.ListN.{length, take, drop}
 use Rattle.rulings.specs.stages.Sweeps.{widened_scanline, is_thin, Marked, Cached}
-use Rattle.extents.proofs.ExtentLaws.{scan-none, scan-more}
-use Rattle.rulings.proofs.SweepLaws.{still_both, test-off, test_on, marked-none, unmarked-later, run-loop}
 use Rattle.rulings.proofs.scanlines.cut_on.Given as goal
 
 abbrev pub invariant-loop-i : goal.invariant-loop-i

@@ -1,10 +1,9 @@
-use mathlib.Core.Bool.{false}
 use mathlib.Core.Path.{subst, ◌≡◌, refl}
 use native.Mathlib.Omega.{arith}
-use Prim.Native.Nat.{◌+◌, ◌*◌, ◌-◌, ◌≤◌}
+use Prim.Native.Nat.{◌+◌, ◌*◌}
 use native.Mathlib.Nat.{le_refl}
-use lib.ListN.{length, take, drop}
-use Rattle.rulings.specs.stages.Sweeps.{is_thin, Marked, Cached}
+use lib.ListN.{length, drop}
+use Rattle.rulings.specs.stages.Sweeps.{is_thin, Marked}
 use Rattle.rulings.proofs.SweepLaws.{still_both, marked-none, unmarked-later, run-loop}
 use Rattle.rulings.proofs.scanlines.cut_run.Goals as goal
 
@@ -23,8 +22,7 @@ cut_dot-here-requires c =
 pub loop-i-preserved : goal.loop-i-preserved
 loop-i-preserved c =
     let p = c.requires in
-    let a = c.args in
-    (
+    let a = c.args in (
       omega arith,
       omega arith,
       run-loop a.t.sweep (length a.ink.now) (is_thin a.t.sweep a.ink.now a.t.thick_max) 1 (drop a.t.marks a.words.now) (drop a.t.marks c.loop-i.words) _ a.from c.loop-i.i a.o p.0 c.loop-i.invariant.0 (omega arith) p.1 p.4.room c.loop-i.invariant.2 c.cut_dot-here.ensures.0,

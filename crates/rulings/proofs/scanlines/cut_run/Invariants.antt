@@ -1,11 +1,8 @@
 use mathlib.Core.Bool.{false}
-use mathlib.Core.Path.{subst, ◌≡◌, refl}
-use native.Mathlib.Omega.{arith}
+use mathlib.Core.Path.{◌≡◌}
 use Prim.Native.Nat.{◌+◌, ◌*◌, ◌-◌, ◌≤◌}
-use native.Mathlib.Nat.{le_refl}
 use lib.ListN.{length, take, drop}
 use Rattle.rulings.specs.stages.Sweeps.{is_thin, Marked, Cached}
-use Rattle.rulings.proofs.SweepLaws.{still_both, marked-none, unmarked-later, run-loop}
 use Rattle.rulings.proofs.scanlines.cut_run.Given as goal
 
 abbrev pub invariant-loop-i : goal.invariant-loop-i

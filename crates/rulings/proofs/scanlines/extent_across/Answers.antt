@@ -8,7 +8,6 @@ use Rattle.extents.specs.rules.Extents.{extent}
 use Rattle.rulings.specs.stages.Sweeps.{plane_of}
 use Rattle.extents.proofs.RunLaws.{behind-le, ahead-le}
 use Rattle.rulings.proofs.SweepLaws.{run-thin, cached-run}
-use borrow.Author.Rules.{rules}
 use Rattle.rulings.proofs.scanlines.extent_across.Goals as goal
 
 pub overflow_cast-kept : goal.overflow_cast-kept

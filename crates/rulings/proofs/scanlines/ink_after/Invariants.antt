@@ -1,10 +1,7 @@
 use mathlib.Core.Path.{◌≡◌}
 use Prim.Native.Nat.{◌+◌, ◌-◌, ◌≤◌}
-use native.Mathlib.Omega.{arith}
 use Rattle.extents.specs.rules.Extents.{ahead}
 use Rattle.rulings.specs.stages.Sweeps.{plane_of}
-use Rattle.rulings.proofs.SweepLaws.{test-off, test_on}
-use Rattle.rulings.proofs.ColumnLaws.{ahead-blank, ahead-ended, ahead_step}
 use Rattle.rulings.proofs.scanlines.ink_after.Given as goal
 
 abbrev pub invariant-loop-n : goal.invariant-loop-n

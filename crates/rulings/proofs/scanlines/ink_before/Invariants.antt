@@ -1,10 +1,7 @@
-use mathlib.Core.Path.{◌≡◌, ap}
+use mathlib.Core.Path.{◌≡◌}
 use Prim.Native.Nat.{◌+◌, ◌-◌, ◌≤◌}
-use native.Mathlib.Omega.{arith}
 use Rattle.extents.specs.rules.Extents.{behind}
 use Rattle.rulings.specs.stages.Sweeps.{plane_of}
-use Rattle.rulings.proofs.SweepLaws.{test-off, test_on}
-use Rattle.rulings.proofs.ColumnLaws.{behind-blank, behind-ended, behind-step}
 use Rattle.rulings.proofs.scanlines.ink_before.Given as goal
 
 abbrev pub invariant-loop-n : goal.invariant-loop-n

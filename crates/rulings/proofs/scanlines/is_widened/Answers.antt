@@ -1,7 +1,6 @@
 use mathlib.Core.Path.{sym, ◌∙◌}
 use mathlib.Core.Bool.{◌||◌}
 use Rattle.rulings.proofs.SweepLaws.{widened-scanlines}
-use borrow.Author.Rules.{rules}
 use Rattle.rulings.proofs.scanlines.is_widened.Goals as goal
 
 pub returns : goal.returns

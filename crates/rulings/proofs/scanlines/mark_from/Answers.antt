@@ -4,7 +4,6 @@ use Prim.Native.Nat.{◌+◌, ◌*◌}
 use lib.ListN.{length, drop}
 use Rattle.rulings.specs.stages.Sweeps.{widened_scanline, is_thin, ScannedBack}
 use Rattle.rulings.proofs.SweepLaws.{still_both, marked-trans, unmarked-later, walked-short, walked-long}
-use borrow.Author.Rules.{rules}
 use Rattle.rulings.proofs.scanlines.mark_from.Goals as goal
 
 pub returns-then-x-start : goal.returns-then-x-start

@@ -7,7 +7,6 @@ use Rattle.rulings.specs.declared.scanlines.Sweep.{Sweep}
 use Rattle.rulings.specs.stages.Sweeps.{sweep_down, is_ruling, Laid, Marked, Unmarked, UpTo}
 use Rattle.rulings.proofs.SweepLaws.{fit-down, fit-across, unmarked-all, marks-cleared, marked-small, rulings-marked, blank-down, blank-across}
 use Rattle.rulings.proofs.ColumnLaws.{up-to-all}
-use borrow.Author.Rules.{rules}
 use Rattle.rulings.proofs.scanlines.mark_rulings.Goals as goal
 
 pub overflow_add-end : goal.overflow_add-end

@@ -1,10 +1,8 @@
-use mathlib.Core.Bool.{false}
 use native.Mathlib.Omega.{arith}
-use mathlib.Core.Path.{◌≡◌, refl}
-use Prim.Native.Nat.{◌+◌, ◌*◌, ◌-◌, ◌≤◌}
-use lib.ListN.{length, take, drop}
-use Rattle.extents.specs.stages.Scans.{Starts}
-use Rattle.rulings.specs.stages.Sweeps.{widened_scanline, is_ruling, Marked, Cached}
+use mathlib.Core.Path.{refl}
+use Prim.Native.Nat.{◌+◌, ◌*◌}
+use lib.ListN.{length, drop}
+use Rattle.rulings.specs.stages.Sweeps.{widened_scanline, is_ruling}
 use Rattle.extents.proofs.RunLaws.{starts-zero}
 use Rattle.rulings.proofs.SweepLaws.{still_both, marked-none, unmarked-later, scanline-loop, scanline-end}
 use Rattle.rulings.proofs.scanlines.mark_scanline.Goals as goal
@@ -26,8 +24,7 @@ overflow_add-x c = let n = c.requires.0.narrow in omega arith
 pub mark_from-walk-requires : goal.mark_from-walk-requires
 mark_from-walk-requires c =
     let p = c.requires in
-    let a = c.args in
-    (
+    let a = c.args in (
       p.0,
       p.1,
       p.2,

@@ -1,12 +1,9 @@
 use mathlib.Core.Bool.{false}
-use native.Mathlib.Omega.{arith}
-use mathlib.Core.Path.{◌≡◌, refl}
+use mathlib.Core.Path.{◌≡◌}
 use Prim.Native.Nat.{◌+◌, ◌*◌, ◌-◌, ◌≤◌}
 use lib.ListN.{length, take, drop}
 use Rattle.extents.specs.stages.Scans.{Starts}
 use Rattle.rulings.specs.stages.Sweeps.{widened_scanline, is_ruling, Marked, Cached}
-use Rattle.extents.proofs.RunLaws.{starts-zero}
-use Rattle.rulings.proofs.SweepLaws.{still_both, marked-none, unmarked-later, scanline-loop, scanline-end}
 use Rattle.rulings.proofs.scanlines.mark_scanline.Given as goal
 
 abbrev pub invariant-loop-x : goal.invariant-loop-x

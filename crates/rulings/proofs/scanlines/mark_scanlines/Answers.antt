@@ -1,11 +1,10 @@
-use mathlib.Core.Bool.{false}
 use native.Mathlib.Omega.{arith}
 use mathlib.Core.Path.{◌≡◌, refl, subst, ◌∙◌}
 use Prim.Native.Nat.{◌+◌, ◌*◌, ◌-◌, ◌≤◌}
 use borrow.Rule.Slice.PartMut.{put_mid}
 use lib.ListN.{length, take, drop}
 use lib.Seq.{get_or-take, length-take-le}
-use Rattle.rulings.specs.stages.Sweeps.{is_ruling, Marked, Cached}
+use Rattle.rulings.specs.stages.Sweeps.{is_ruling, Marked}
 use Rattle.memory.proofs.StoredLaws.{within-drop, stored_at, stored-filled}
 use Rattle.rulings.proofs.SweepLaws.{still_both, marked-none, unmarked-later, cached-none, cached-later, scanlines-loop}
 use Rattle.rulings.proofs.scanlines.mark_scanlines.Goals as goal
@@ -27,8 +26,7 @@ pub mark_scanline-here-requires : goal.mark_scanline-here-requires
 mark_scanline-here-requires c =
     let p = c.requires in
     let a = c.args in
-    let f = stored-filled 0 0 a.t.sweep.inner a.words.now c.fill_words.new.dst (omega arith) (omega arith) c.fill_words.ensures in
-    (
+    let f = stored-filled 0 0 a.t.sweep.inner a.words.now c.fill_words.new.dst (omega arith) (omega arith) c.fill_words.ensures in (
       p.0,
       omega arith,
       p.1,
@@ -40,8 +38,7 @@ mark_scanline-here-requires c =
 
 pub loop-o-preserved : goal.loop-o-preserved
 loop-o-preserved c =
-    let a = c.args in
-    (
+    let a = c.args in (
       omega arith,
       scanlines-loop a.t.sweep (length a.ink.now) (is_ruling a.t.sweep a.ink.now a.t.run_min a.t.thick_max) 1 c.loop-o.o _ (drop a.t.marks c.loop-o.words) _ c.loop-o.invariant.1 c.mark_scanline-here.ensures.0,
       cached-later a.t.sweep a.ink.now a.t.thick_max c.loop-o.o (c.loop-o.o + 1) _ (omega arith) c.mark_scanline-here.ensures.1,

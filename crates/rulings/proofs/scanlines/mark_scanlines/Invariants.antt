@@ -1,13 +1,8 @@
 use mathlib.Core.Bool.{false}
-use native.Mathlib.Omega.{arith}
-use mathlib.Core.Path.{◌≡◌, refl, subst, ◌∙◌}
-use Prim.Native.Nat.{◌+◌, ◌*◌, ◌-◌, ◌≤◌}
-use borrow.Rule.Slice.PartMut.{put_mid}
+use mathlib.Core.Path.{◌≡◌}
+use Prim.Native.Nat.{◌*◌, ◌-◌, ◌≤◌}
 use lib.ListN.{length, take, drop}
-use lib.Seq.{get_or-take, length-take-le}
 use Rattle.rulings.specs.stages.Sweeps.{is_ruling, Marked, Cached}
-use Rattle.memory.proofs.StoredLaws.{within-drop, stored_at, stored-filled}
-use Rattle.rulings.proofs.SweepLaws.{still_both, marked-none, unmarked-later, cached-none, cached-later, scanlines-loop}
 use Rattle.rulings.proofs.scanlines.mark_scanlines.Given as goal
 
 abbrev pub invariant-loop-o : goal.invariant-loop-o

@@ -1,9 +1,7 @@
 use mathlib.Core.Bool.{not}
 use mathlib.Core.Path.{ap}
 use native.Mathlib.Omega.{arith}
-use mathlib.Core.Path.{◌≡◌}
 use mathlib.Core.Bool.{true}
-use Prim.Native.Nat.{ℕ, ◌≤◌, ◌<◌, ◌-◌}
 use native.Mathlib.Nat.{le_refl}
 use Rattle.rulings.specs.stages.Sweeps.{widened_scanline}
 use Rattle.extents.proofs.ExtentLaws.{scan-none}

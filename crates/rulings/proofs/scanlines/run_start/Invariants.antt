@@ -1,11 +1,7 @@
-use native.Mathlib.Omega.{arith}
 use mathlib.Core.Path.{◌≡◌}
 use mathlib.Core.Bool.{true}
-use Prim.Native.Nat.{ℕ, ◌≤◌, ◌<◌, ◌-◌}
-use native.Mathlib.Nat.{le_refl}
+use Prim.Native.Nat.{ℕ, ◌≤◌, ◌<◌}
 use Rattle.rulings.specs.stages.Sweeps.{widened_scanline}
-use Rattle.extents.proofs.ExtentLaws.{scan-none}
-use Rattle.rulings.proofs.SweepLaws.{back_more, back-stop, test-off, test_on}
 use Rattle.rulings.proofs.scanlines.run_start.Given as goal
 
 abbrev pub invariant-loop-s : goal.invariant-loop-s

@@ -1,10 +1,6 @@
-use Prim.Native.Nat.{◌-◌, ◌≤◌, zero-le}
-use mathlib.Core.Path.{◌≡◌, ◌∙◌}
-use native.Mathlib.Omega.{arith}
-use borrow.Author.Rules.{rules}
+use Prim.Native.Nat.{◌-◌, ◌≤◌}
 use Rattle.memory.specs.stages.Stored.{Stored}
-use Rattle.memory.proofs.StoredLaws.{stored-fill, stored-again}
-use Rattle.smoothing.proofs.LabelCounts.{label_count, labels-none, count_room, counts_all, label-room, label-step}
+use Rattle.smoothing.proofs.LabelCounts.{label_count}
 use Rattle.smoothing.proofs.glyphs.count_glyphs.Given as goal
 
 abbrev pub invariant-loop-k : goal.invariant-loop-k

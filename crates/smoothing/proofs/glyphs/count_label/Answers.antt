@@ -1,6 +1,5 @@
 use mathlib.Core.Path.{refl}
 use native.Mathlib.Omega.{arith}
-use borrow.Author.Rules.{rules}
 use Rattle.smoothing.proofs.glyphs.count_label.Goals as goal
 
 pub overflow_add-at : goal.overflow_add-at

@@ -1,12 +1,7 @@
-use Prim.Native.Nat.{◌+◌, ◌-◌, ◌≤◌, zero-le}
-use mathlib.Core.Path.{◌≡◌, refl, ◌∙◌, subst}
-use native.Mathlib.Omega.{arith}
-use borrow.Author.Rules.{rules}
+use Prim.Native.Nat.{◌+◌, ◌-◌, ◌≤◌}
 use lib.ListN.{get_or}
 use Rattle.smoothing.specs.stages.LineWords.{kind_word, first_number}
 use Rattle.memory.specs.stages.Stored.{Stored}
-use Rattle.memory.proofs.StoredLaws.{stored-none, stored_more}
-use Rattle.smoothing.proofs.LabelCounts.{kept-kind, kept_word}
 use Rattle.smoothing.proofs.glyphs.label_glyphs.Given as goal
 
 abbrev pub invariant-loop-k : goal.invariant-loop-k

@@ -1,6 +1,5 @@
 use native.Mathlib.Omega.{arith}
 use native.Mathlib.Numerals.{towards_suc}
-use borrow.Author.Rules.{rules}
 use lib.ListN.{length-set}
 use Rattle.smoothing.proofs.glyphs.put_glyph.Goals as goal
 

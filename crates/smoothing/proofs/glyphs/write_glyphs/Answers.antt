@@ -1,9 +1,6 @@
-use Prim.Native.Nat.{◌-◌, ◌≤◌, zero-le}
+use Prim.Native.Nat.{zero-le}
 use mathlib.Core.Path.{◌≡◌, refl, ◌∙◌}
 use native.Mathlib.Omega.{arith}
-use borrow.Author.Rules.{rules}
-use lib.ListN.{length}
-use Rattle.smoothing.specs.stages.LineWords.{WrittenGlyphs}
 use Rattle.smoothing.proofs.GlyphLaws.{glyphs-none, glyphs-few, glyphs-more, glyphs-all}
 use Rattle.smoothing.proofs.glyphs.write_glyphs.Goals as goal
 

@@ -1,6 +1,5 @@
 use Prim.Native.Nat.{◌≤◌}
 use native.Mathlib.Omega.{arith}
-use borrow.Author.Rules.{rules}
 use Rattle.smoothing.proofs.PageLaws.{smears-many, ends, label-ask, count-ask, lines-ask, page-long, smears-done, lines-many}
 use Rattle.smoothing.proofs.smears.find_smears.Goals as goal
 

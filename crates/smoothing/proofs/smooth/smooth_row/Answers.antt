@@ -1,9 +1,6 @@
-use mathlib.Core.Path.{◌≡◌, refl, ◌∙◌}
+use mathlib.Core.Path.{refl, ◌∙◌}
 use native.Mathlib.Nat.{le_refl}
-use Prim.Native.Nat.{ℕ, ◌-◌, ◌≤◌}
 use native.Mathlib.Omega.{arith}
-use lib.ListN.{length}
-use Rattle.smoothing.specs.stages.RowRuns.{SmoothingInput, PageWalk, RowOf}
 use Rattle.smoothing.proofs.smooth.smooth_row.Goals as goal
 
 pub loop-walk-init : goal.loop-walk-init

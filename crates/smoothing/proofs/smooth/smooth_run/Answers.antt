@@ -1,4 +1,3 @@
-use borrow.Author.Rules.{rules}
 use mathlib.Core.Path.{refl}
 use native.Mathlib.Omega.{arith}
 use Rattle.smoothing.proofs.PageWalkLaws.{row-parts, run_room, other-pass, glyph-at}

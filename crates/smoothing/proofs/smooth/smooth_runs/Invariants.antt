@@ -1,13 +1,8 @@
-use borrow.Author.Rules.{rules}
-use mathlib.Core.Path.{◌≡◌, sym, ap, ◌∙◌}
+use mathlib.Core.Path.{◌≡◌}
 use mathlib.Core.List.{List}
-use Prim.Native.Nat.{ℕ, ◌+◌, ◌-◌, ◌*◌, ◌≤◌, zero-le}
-use native.Mathlib.Nat.{suc-mul}
-use native.Mathlib.Numerals.{add-one}
-use native.Mathlib.Omega.{arith}
+use Prim.Native.Nat.{ℕ, ◌-◌, ◌*◌, ◌≤◌}
 use Rattle.smoothing.specs.stages.RowRuns.{SmoothRoom, PageWalk, row_start}
-use Rattle.smoothing.proofs.RowStepLaws.{walk-done}
-use Rattle.smoothing.proofs.PageWalkLaws.{page-room, page_of, page-few, row-few, page-start, row_of, row_on}
+use Rattle.smoothing.proofs.PageWalkLaws.{page_of}
 use Rattle.smoothing.proofs.smooth.smooth_runs.Given as goal
 
 abbrev pub invariant-loop-y : goal.invariant-loop-y

@@ -1,4 +1,3 @@
-use borrow.Author.Rules.{rules}
 use Rattle.labelling.proofs.component.Component.absorb.Goals as goal
 
 pub returns : goal.returns

@@ -2,7 +2,6 @@ use mathlib.Core.Path.{ap}
 use Prim.Native.Nat.{◌+◌, ◌*◌, ◌^◌}
 use Rattle.labelling.proofs.AbsorbLaws.{between-small, ends-x0, ends-y0, ends-x1, ends-y1}
 use native.Mathlib.Omega.{arith}
-use borrow.Author.Rules.{rules}
 use Rattle.labelling.proofs.component.Component.absorb_span.Goals as goal
 
 pub absorb-ends-requires : goal.absorb-ends-requires

@@ -1,4 +1,3 @@
-use borrow.Author.Rules.{rules}
 use Rattle.memory.proofs.rect.Rect.union.Goals as goal
 
 pub returns : goal.returns
