@@ -23,37 +23,36 @@ pub const SUMMARY: [&str; 12] = [
 
 /// What the module begins with: all that is compared of a page, as rows of numbers.
 const HEAD: &str = "\
-use mathlib.Core.Path.{_≡_, refl}
-use mathlib.Core.List.{List, [], _∷_, _++_, map}
+use mathlib.Core.Path.{◌≡◌, refl}
+use mathlib.Core.List.{List, [], ◌∷◌, ◌++◌, map}
 use mathlib.Core.Bool.{cond}
 use Prim.Native.Nat.{ℕ}
 use lib.Dec.{leb}
-use lib.ListN.{getD}
-use lib.Ieee.{Float, binary64, ofBits, toBits}
-use Rattle·params.specs.declared.LayoutParams.{LayoutParams}
-use Rattle·memory.specs.declared.rect.Rect.{Rect}
-use Rattle·grouping.specs.rules.Readings.{summaryNumbers}
-use Rattle·segmenting.specs.rules.Layouts.{Page, page}
-use Rattle·segmenting.specs.rules.LayoutReadings.{summary}
-use Rattle·segmenting.proofs.Computed.{computed}
-use Rattle·listing·specs.specs.rules.Pages.{corners, headFigures, lineFigures, blockFigures, glyphFigures, columnFigures}
+use lib.Ieee.{Float, binary64, of_bits, to_bits}
+use Rattle.params.specs.declared.LayoutParams.{LayoutParams}
+use Rattle.memory.specs.declared.rect.Rect.{Rect}
+use Rattle.grouping.specs.rules.Readings.{summary_numbers}
+use Rattle.segmenting.specs.rules.Layouts.{Page, page}
+use Rattle.segmenting.specs.rules.LayoutReadings.{summary}
+use Rattle.segmenting.proofs.Computed.{computed}
+use Rattle.listing.specs.rules.Pages.{corners, head_figures, line_figures, block_figures, glyph_figures, column_figures}
 
 rows : Page → List (List ℕ)
-unfolding computed headFigures lineFigures blockFigures glyphFigures columnFigures
+unfolding computed head_figures line_figures block_figures glyph_figures column_figures
 rows p =
-    let l = p .layout in
-    headFigures p ∷ []
-    ++ map lineFigures (l .lines)
-    ++ map blockFigures (l .blocks)
-    ++ map (λ (r : Rect). 3 ∷ corners r) (l .rules)
-    ++ map (λ (r : Rect). 4 ∷ corners r) (l .graphics)
-    ++ map glyphFigures (l .glyphs)
-    ++ map columnFigures (l .columns)
-    ++ ((l .ink-pixels ∷ l .counts .cut ∷ l .counts .glyph ∷ [])
-    ∷ p .levelled .frame .shear
-    ∷ p .levelled .frame .shear-x
-    ∷ map (toBits binary64) (summaryNumbers (summary (p .levelled .frame) (p .levelled .skew) l))
-    ∷ map (λ k. cond (leb 2 k) 1 0) (l .plane)
+    let l = p.layout in
+    head_figures p ∷ []
+    ++ map line_figures l.lines
+    ++ map block_figures l.blocks
+    ++ map (λ (r : Rect). 3 ∷ corners r) l.rules
+    ++ map (λ (r : Rect). 4 ∷ corners r) l.graphics
+    ++ map glyph_figures l.glyphs
+    ++ map column_figures l.columns
+    ++ ((l.ink_pixels ∷ l.counts.cut ∷ l.counts.glyph ∷ [])
+    ∷ p.levelled.frame.shear
+    ∷ p.levelled.frame.shear_x
+    ∷ map (to_bits binary64) (summary_numbers (summary p.levelled.frame p.levelled.skew l))
+    ∷ map (λ k. cond (leb 2 k) 1 0) l.plane
     ∷ [])
 ";
 
@@ -80,7 +79,7 @@ fn case(i: u64, random: &mut Random) -> String {
     let rows: Vec<String> = rows(&layout).iter().map(|row| format!("({})", list(row))).collect();
     format!(
         "\nsheet-{i} : LayoutParams\nsheet-{i} = {}\n\npage-{i} : rows (page ({}) {w} {h} ({}) ({}) sheet-{i} sheet-{i}) ≡ {} ∷ []\n\
-         unfolding computed rows sheet-{i} headFigures lineFigures blockFigures glyphFigures columnFigures\npage-{i} = refl\n",
+         unfolding computed rows sheet-{i} head_figures line_figures block_figures glyph_figures column_figures\npage-{i} = refl\n",
         record(&sheet),
         list(&dots),
         float(skew),
@@ -164,7 +163,7 @@ fn list(numbers: &[u64]) -> String {
 }
 
 fn float(x: f64) -> String {
-    format!("ofBits binary64 0x{:016X}", x.to_bits())
+    format!("of_bits binary64 0x{:016X}", x.to_bits())
 }
 
 /// The sheet as the record that antt writes.
@@ -191,7 +190,7 @@ fn record(sheet: &LayoutParams) -> String {
     ];
     let body: Vec<String> = fields
         .iter()
-        .map(|(name, value)| format!("«{name}» = {value}"))
+        .map(|(name, value)| format!("{name} = {value}"))
         .collect();
     format!("record {{ {} }}", body.join("; "))
 }

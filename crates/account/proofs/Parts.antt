@@ -12,7 +12,6 @@ use Rattle.memory.specs.rules.Lists.{occurs}
 use Rattle.memory.specs.rules.Masks.{is_ink}
 use Rattle.params.specs.declared.LayoutParams.{LayoutParams}
 use Rattle.levelling.specs.rules.Frames.{Frame}
-use Rattle.levelling.specs.rules.Planes as planes
 use Rattle.levelling.proofs.PairTheorems.{plane-pairs}
 use Rattle.sorting.specs.rules.Sorted.{sorted, kind_counts}
 use Rattle.sorting.proofs.KindLaws.{KindOfDot, kind-of-dot, kinds-add-up}

@@ -2,7 +2,7 @@
 use mathlib.Core.Path.{◌≡◌, refl, sym, ap, ◌∙◌, subst}
 use mathlib.Core.Bool.{Bool, true, false, not, ◌||◌, true≢false}
 use mathlib.Core.List.{List}
-use Prim.Native.Nat.{ℕ, suc, ◌+◌, ◌-◌, ◌*◌, ◌≤◌, ◌<◌}
+use Prim.Native.Nat.{ℕ, suc, ◌+◌, ◌*◌, ◌≤◌, ◌<◌}
 use native.Mathlib.Nat.{le_trans, mul-le-mul_left, mul-le-mul_right}
 use native.Mathlib.Omega.{arith}
 use borrow.Author.Tests.{le-ltb, ltb-false, not-false}
@@ -20,7 +20,6 @@ use Rattle.params.specs.rules.Valid.{valid}
 use Rattle.params.specs.declared.LayoutParams.{LayoutParams}
 use Rattle.params.proofs.SheetLaws.{valid-gives}
 use Rattle.levelling.specs.rules.Frames.{Frame, frame}
-use Rattle.segmenting.specs.rules.Answers as Answers
 use Rattle.judging.specs.rules.Header.{Held, held, frame_held, dots_held, store_held, scratch_held}
 use Rattle.judging.specs.rules.Spoiled.{limits_ok, state_spoiled, frame_spoiled, ink_spoiled}
 use Rattle.judging.specs.rules.Refusals.{head_refusal, held_refusal, segment_refusal}

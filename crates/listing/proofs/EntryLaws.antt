@@ -8,12 +8,12 @@ use native.Mathlib.Numerals.{add-one}
 use native.Mathlib.Omega.{arith}
 use borrow.Author.Tests.{leb-true}
 use lib.Dec.{lit≤, leb}
-use lib.ListN.{length, get_or, take, drop, set, length-append, length-set}
-use Rattle.memory.specs.rules.Words.{word_at, put_at}
+use lib.ListN.{length, get_or, take, drop, set, length-append}
+use Rattle.memory.specs.rules.Words.{word_at}
 use Rattle.memory.proofs.BoolLaws.{and_left, and_right}
 use Rattle.judging.specs.rules.Header.{part}
 use Rattle.judging.proofs.PartLaws.{length_part}
-use Rattle.listing.specs.rules.Digits.{hex, joined, line_feed, refusal_text}
+use Rattle.listing.specs.rules.Digits.{hex, joined, line_feed}
 use Rattle.listing.specs.stages.Puts.{Put}
 use Rattle.listing.specs.rules.Sheets.{word_format, field_count, field_digits, fields_text, word_from, entry_text, entry_from, entry_at, entries_text}
 use Rattle.listing.specs.stages.Parts.{fields_from, entries_at, all_digits, entry_length}

@@ -1,8 +1,8 @@
 -- The leaf that document 01 prints ("Leaves to try"): the figures of its sheet, and the exact bytes.
-use mathlib.Core.Path.{◌≡◌, refl, ap, ◌∙◌}
+use mathlib.Core.Path.{◌≡◌, refl, ap}
 use mathlib.Core.List.{List, [], ◌∷◌, ◌++◌}
 use Prim.Native.Nat.{ℕ}
-use Prim.Native.Char.{Char, code}
+use Prim.Native.Char.{code}
 use Prim.Native.String.{String, [] as none, ◌∷◌ as ◌then◌}
 use Rattle.segmenting.proofs.Computed.{computed}
 use Rattle.segmenting.proofs.SampleLeaf.{sample_leaf}

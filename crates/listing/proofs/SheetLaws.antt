@@ -1,17 +1,17 @@
 -- The whole sheet in the parts that its writer puts one behind the other.
-use mathlib.Core.Path.{◌≡◌, refl, sym, ap, ◌∙◌, subst}
-use mathlib.Core.List.{List, [], ◌∷◌, ◌++◌, append_assoc}
+use mathlib.Core.Path.{◌≡◌, sym, ap, ◌∙◌, subst}
+use mathlib.Core.List.{List, ◌++◌, append_assoc}
 use Prim.Native.Nat.{ℕ, ◌+◌, ◌*◌, ◌≤◌, ◌<◌}
 use native.Mathlib.Nat.{mul-le-mul}
 use native.Mathlib.Omega.{arith}
 use lib.ListN.{length, set, length-append}
-use Rattle.memory.specs.rules.Words.{word_at, over, put_at}
-use Rattle.listing.specs.rules.Digits.{hex, joined, line_feed, refusal_text}
+use Rattle.memory.specs.rules.Words.{word_at, over}
+use Rattle.listing.specs.rules.Digits.{hex, line_feed, refusal_text}
 use Rattle.listing.specs.stages.Puts.{Put}
 use Rattle.judging.specs.rules.Views.{ink_dots_at, rule_count, graphic_count, glyph_count, line_count, block_count, column_count}
 use Rattle.listing.specs.rules.Sheets.{head_text, head_words, entry_from, word_from, entries_text, sheet_text}
 use Rattle.listing.specs.stages.Parts.{three_kinds, lines_to_rules, graphics_to_columns, entry_length, sheet_length}
-use Rattle.listing.proofs.TextLaws.{put-more, put-length, three-room, three-room-2, three-room-3, three-put}
+use Rattle.listing.proofs.TextLaws.{put-more, put-length, three-room-2, three-room-3, three-put}
 use Rattle.listing.proofs.EntryLaws.{line-put, length-entry, length-entries}
 
 -- so many entries, of so many bytes each

@@ -1,7 +1,7 @@
 -- The sheet of the words that a segmentation leaves is the sheet of its page (specs/rules/Pages).
 use mathlib.Core.Path.{◌≡◌, refl, sym, ap, ◌∙◌}
 use mathlib.Core.List.{List, [], ◌∷◌, ◌++◌, map, append-nil, append_assoc}
-use Prim.Native.Nat.{ℕ, zero, suc, ◌+◌, ◌*◌, ◌/◌, ◌%◌, ◌^◌, ◌≤◌, ◌<◌}
+use Prim.Native.Nat.{ℕ, zero, suc, ◌+◌, ◌*◌, ◌/◌, ◌%◌, ◌^◌, ◌<◌}
 use native.Mathlib.Nat.{suc-mul, le_refl, div-add-mod'}
 use native.Mathlib.Omega.{arith}
 use lib.Ieee.{Float, binary64, to_bits}
@@ -18,14 +18,13 @@ use Rattle.smoothing.specs.rules.Lines.{TextLine, GlyphBox}
 use Rattle.levelling.specs.rules.Planes.{Levelling, levelling}
 use Rattle.grouping.specs.declared.column.Column.{Column}
 use Rattle.judging.specs.rules.Views.{view_of_layout, rule_count, graphic_count, glyph_count, line_count, block_count, column_count, ink_dots_at}
-use Rattle.listing.specs.rules.Pages.{figures, head_figures, line_figures, block_figures, glyph_figures, column_figures, dot_figures, corners, edition, formats, numbers_text, figure_text, figures_text, page_sheet}
-use Rattle.listing.specs.rules.Sheets.{field_count, field_digits, fields_text, word_from, entry_text, entry_from, entry_at, entries_text, head_text, sheet_text, sheet_held}
+use Rattle.listing.specs.rules.Pages.{figures, head_figures, line_figures, block_figures, glyph_figures, column_figures, dot_figures, corners, edition, numbers_text, figure_text, figures_text, page_sheet}
+use Rattle.listing.specs.rules.Sheets.{field_count, field_digits, word_from, entry_text, entry_from, entry_at, entries_text, head_text, sheet_text, sheet_held}
 use Rattle.smoothing.specs.rules.LineRecords.{line_record, glyph_record}
 use Rattle.grouping.specs.rules.BlockRecords.{block_record, column_record}
 use Rattle.memory.specs.rules.Rects.{box_words}
 use Rattle.segmenting.specs.rules.Figures.{figures_of, figure_words}
 use Rattle.listing.specs.rules.Digits.{digit_of, hex, joined, line_feed}
-use Rattle.listing.proofs.EntryLaws.{fields-few}
 
 -- ---- texts one after the other, from the first on
 joined-ext : (f g : ℕ → List ℕ) (n : ℕ) → ((i : ℕ) → i < n → f i ≡ g i) → joined f n ≡ joined g n

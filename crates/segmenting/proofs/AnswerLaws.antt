@@ -4,9 +4,8 @@ use mathlib.Core.List.{List}
 use Prim.Native.Nat.{ℕ, ◌≤◌, ◌<◌, max}
 use native.Mathlib.Omega.{arith}
 use borrow.Author.Tests.{lt-ltb, le-ltb}
-use lib.Dec.{ltb}
 use lib.ListN.{length}
-use Rattle.memory.specs.rules.Lists.{table, greatest}
+use Rattle.memory.specs.rules.Lists.{greatest}
 use Rattle.memory.specs.rules.Limits.{max_lines}
 use Rattle.memory.specs.rules.Refusals.{refuse_if}
 use Rattle.memory.specs.rules.Words.{over}

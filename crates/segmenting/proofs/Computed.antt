@@ -20,7 +20,6 @@ use Rattle.smoothing.specs.rules.Smoothing.{smoothing_gap, glyph_at, joined, smo
 use Rattle.smoothing.specs.stages.ClosedRuns.{closed_from, closed}
 use Rattle.smoothing.specs.rules.Lines.{first_dot, labelled_glyphs, smoothed_line, is_line, keys_at_most, kept_lines, line_number, glyph_box}
 use Rattle.grouping.specs.rules.Blocks.{line_height, hard_cap, candidates, least_of, nearest_gaps, max_gap, together, block_firsts, opens_block, block_number, union_all, block_of, blocks_of}
-use Rattle.grouping.specs.stages.Joining.{least_with}
 use Rattle.grouping.specs.rules.Columns.{cover, covered, columns_from, column_runs, columns_of}
 use Rattle.segmenting.specs.rules.Layouts.{text_line, layout, page, layout_refusal}
 use Rattle.grouping.specs.rules.Readings.{differences, pitches, listed, columns_and_rows, dot_list}

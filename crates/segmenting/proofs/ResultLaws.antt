@@ -1,11 +1,11 @@
 -- The lists of a segmentation in their places: what each stage of writing them asks and leaves.
 use mathlib.Core.Path.{◌≡◌, refl, sym, ap, ◌∙◌, subst}
-use mathlib.Core.List.{List, [], ◌∷◌, ◌++◌, map}
+use mathlib.Core.List.{List, ◌++◌}
 use Prim.Native.Nat.{ℕ, ◌+◌, ◌-◌, ◌*◌, ◌≤◌, ◌<◌}
 use native.Mathlib.Decide.{dec_lt}
 use native.Mathlib.Omega.{arith}
 use lib.Ieee.{Float}
-use lib.ListN.{get_or, length, take, drop, length-append, length-drop}
+use lib.ListN.{get_or, length, take, drop, length-drop}
 use lib.Seq.{take_at, drop_at, length-take-le}
 use borrow.Rule.Slice.PartMut.{put_mid}
 use Rattle.memory.specs.rules.Lists.{table}
@@ -17,7 +17,7 @@ use Rattle.memory.proofs.TableLaws.{length-table, get_or-table, table-ext}
 use Rattle.memory.specs.declared.rect.Rect.{Rect}
 use Rattle.params.specs.declared.LayoutParams.{LayoutParams}
 use Rattle.sorting.specs.stages.Scratch.{horizontal_at, vertical_at, sizes_at, kinds_at}
-use Rattle.grouping.specs.rules.Blocks.{Block, no_rect, block_firsts, block_number, blocks_of}
+use Rattle.grouping.specs.rules.Blocks.{no_rect, block_firsts, block_number, blocks_of}
 use Rattle.grouping.specs.rules.Columns.{columns_of}
 use Rattle.smoothing.specs.rules.Lines.{TextLine, SmoothedLine}
 use Rattle.segmenting.specs.rules.Layouts.{text_line}
@@ -26,7 +26,7 @@ use Rattle.memory.specs.rules.Rects.{box_words}
 use Rattle.segmenting.specs.rules.Results.{rules_at, graphics_at, lines_at, blocks_at}
 use Rattle.segmenting.specs.stages.Places.{result_places, Placed}
 use Rattle.smoothing.specs.stages.LineWords.{plain_line}
-use Rattle.segmenting.specs.stages.Writing.{rules_read, graphics_read, BoxRoom, BoxesLeft, plain_records, boxes_of_lines, GroupRoom, groups_left}
+use Rattle.segmenting.specs.stages.Writing.{rules_read, graphics_read, BoxRoom, plain_records, boxes_of_lines, GroupRoom, groups_left}
 use Rattle.memory.specs.stages.Boxes.{Inside}
 use Rattle.grouping.specs.stages.LineBoxes.{Lines, ByTop, Groupable, line_boxes}
 use Rattle.grouping.specs.rules.HeldLines.{line_box}

@@ -3,14 +3,11 @@ use mathlib.Core.Path.{◌≡◌, refl}
 use mathlib.Core.Bool.{true}
 use mathlib.Core.List.{List, [], ◌∷◌}
 use Prim.Native.Nat.{ℕ}
-use lib.Ieee.{Float, binary64, of_bits}
-use Rattle.params.specs.declared.LayoutParams.{LayoutParams}
 use Rattle.params.specs.rules.ShowSheets.{show_sheet}
 use Rattle.params.specs.rules.Valid.{valid}
-use Rattle.memory.specs.declared.rect.Rect.{Rect}
 use Rattle.rounding.specs.rules.Lengths.{float}
 use Rattle.segmenting.specs.rules.Layouts.{Page, page, layout_refusal}
-use Rattle.segmenting.specs.rules.LayoutReadings.{summary, twenty_line_measure}
+use Rattle.segmenting.specs.rules.LayoutReadings.{twenty_line_measure}
 use Rattle.grouping.specs.rules.Readings.{dot_list}
 use Rattle.segmenting.proofs.Computed.{computed}
 

@@ -16,6 +16,9 @@ const INPUT: usize = 4096;
 // No sheet of a page of 16 by 16 is longer.
 const OUTPUT: usize = 16384;
 
+// A proved loop has to end, and nothing says that the input does: so many times what is read at once is read at most.
+const MOST_READS: u64 = 1_000_000_000_000;
+
 // Fills the room from its front as far as the input goes; how many bytes that is.
 fn read_full<R: Read>(input: &mut R, room: &mut [u8]) -> io::Result<usize>
     ensures { IfOk result (λ n. n ≤ length room.new) }
@@ -34,7 +37,7 @@ fn read_full<R: Read>(input: &mut R, room: &mut [u8]) -> io::Result<usize>
 // Reads what is left of the input.
 fn drain<R: Read>(input: &mut R) -> io::Result<()> {
     let mut room = [0u8; INPUT];
-    for _ in 0..u64::MAX {
+    for _ in 0..MOST_READS {
         if read_full(input, &mut room)? == 0 {
             break;
         }

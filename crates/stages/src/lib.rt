@@ -15,13 +15,18 @@ mod pages;
 mod sorted_pages;
 mod sorting_parts;
 
-use params::LayoutParams;
-
-pub use levels::{novlizeb_applied, novlizeb_plane_size, novlizeb_level_plane, novlizeb_to_page_x, novlizeb_to_page_y, novlizeb_rect_to_page_start, novlizeb_rect_to_page_end};
+pub use levels::{
+    novlizeb_applied, novlizeb_level_plane, novlizeb_plane_size, novlizeb_rect_to_page_end,
+    novlizeb_rect_to_page_start, novlizeb_to_page_x, novlizeb_to_page_y,
+};
 pub use masks::{novlizeb_label, novlizeb_run_extents};
 pub use pages::novlizeb_segment_plane;
+use params::LayoutParams;
 pub use sorted_pages::novlizeb_sort;
-pub use sorting_parts::{novlizeb_thin_rulings, novlizeb_cut_rulings, novlizeb_run_min, novlizeb_thick_max, novlizeb_kind_by_size};
+pub use sorting_parts::{
+    novlizeb_cut_rulings, novlizeb_kind_by_size, novlizeb_run_min, novlizeb_thick_max,
+    novlizeb_thin_rulings,
+};
 
 // x at the nearest whole number, halves away from zero.
 pub fn novlizeb_round(x: f64) -> f64

@@ -14,7 +14,6 @@ use lib.Seq.{take_at, drop_at, length-take-le}
 use Rattle.memory.specs.rules.Limits.{scratch_words}
 use Rattle.memory.specs.rules.Words.{word_at, over}
 use Rattle.memory.proofs.PartLaws.{tail-part, tail-put}
-use Rattle.params.specs.rules.Valid.{valid}
 use Rattle.params.specs.declared.LayoutParams.{LayoutParams}
 use Rattle.levelling.specs.rules.Frames.{frame}
 use Rattle.levelling.proofs.FrameLaws.{frame-fits}

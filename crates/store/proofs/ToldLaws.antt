@@ -6,7 +6,6 @@ use Prim.Native.Nat.{ℕ}
 use borrow.Author.Tests.{ne_eqb}
 use lib.ListN.{length}
 use Rattle.memory.specs.rules.Refusals.{refuse_if}
-use Rattle.levelling.specs.rules.Frames.{frame}
 use Rattle.judging.specs.rules.Header.{held}
 use Rattle.judging.specs.rules.Views.{view_of}
 use Rattle.judging.specs.rules.Refusals.{result_refusal}

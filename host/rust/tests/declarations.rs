@@ -24,7 +24,7 @@ fn exports() -> BTreeMap<String, Signature> {
     let mut all = BTreeMap::new();
     for file in fs::read_dir(project().join("crates/novlizeb/src")).unwrap() {
         let source = text(&file.unwrap().path());
-        for part in source.split("#[no_mangle]").skip(1) {
+        for part in source.split("#[unsafe(no_mangle)]").skip(1) {
             let part = part.split("extern \"C\" fn ").nth(1).unwrap();
             let (name, rest) = part.split_once('(').unwrap();
             let (list, rest) = rest.split_once(')').unwrap();

@@ -14,7 +14,7 @@ use Rattle.store.specs.rules.Readings.LevelReading.{point, box, gray, frame_figu
 use Rattle.store.specs.rules.Readings.Which.{columns, rules, graphics, glyphs, lines, blocks}
 use Rattle.store.specs.rules.Readings.ResultReading.{figures, summary, list, twenty_lines, count_dots, dots, listing}
 use Rattle.store.specs.rules.Outcomes.{Told}
-use Rattle.account.specs.rules.Calls.{Lent, Act, Call, call, World, world, step, says}
+use Rattle.account.specs.rules.Calls.{Lent, Act, Call, call, World, step, says}
 use Rattle.account.specs.rules.Calls.Act.{level, segment, clear, read_level, read_result}
 use Rattle.account.specs.rules.Claims.{Claim}
 

@@ -1,5 +1,5 @@
 -- The figures of a segmentation: what is told besides its lists, and the words that tell it (01, part 5, part 6, "Added by us").
-use Rattle.std.specs.Prelude.{List, [], ◌∷◌, ℕ, ◌/◌, ◌%◌, ◌^◌, get_or, length}
+use Rattle.std.specs.Prelude.{List, [], ◌∷◌, ℕ, ◌/◌, ◌%◌, ◌^◌, length}
 use Rattle.std.specs.Float.{binary64}
 use Rattle.std.specs.Float.Ieee.{to_bits}
 use Rattle.sorting.specs.rules.Units.{unit_value}

@@ -1,5 +1,5 @@
 -- What is read from the results of a page: `summarize` (01, part 8) and the twenty-line measure (01, "Added by us").
-use Rattle.std.specs.Prelude.{ℕ, List, map, Float, get_or, length}
+use Rattle.std.specs.Prelude.{ℕ, List, map, Float, length}
 use Rattle.levelling.specs.rules.Frames.{Frame}
 use Rattle.sorting.specs.rules.Units.{median, unit_value}
 use Rattle.segmenting.specs.rules.Layouts.{Layout}

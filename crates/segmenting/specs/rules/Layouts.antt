@@ -3,7 +3,6 @@ use Rattle.std.specs.Prelude.{ℕ, List, [], ◌∷◌, map, Float, get_or, leng
 use Rattle.memory.specs.rules.Lists.{table, occurs, greatest}
 use Rattle.memory.specs.rules.Limits.{max_lines}
 use Rattle.memory.specs.rules.Refusals.{refuse_if}
-use Rattle.labelling.specs.rules.Components.{no_dots, box_of}
 use Rattle.labelling.specs.rules.Labels.{labelling}
 use Rattle.memory.specs.declared.rect.Rect.{Rect}
 use Rattle.params.specs.declared.LayoutParams.{LayoutParams}

@@ -1,9 +1,8 @@
 -- The lists of a segmentation in the words lent for results, one after the other (01, "Records lie in lent words").
-use Rattle.std.specs.Prelude.{List, [], ◌∷◌, ℕ, ◌+◌, ◌*◌}
+use Rattle.std.specs.Prelude.{List, ℕ, ◌+◌, ◌*◌}
 use Rattle.memory.specs.rules.Words.{over, put_at}
 use Rattle.memory.specs.rules.Records.{encoded}
 use Rattle.memory.specs.rules.Rects.{box_words}
-use Rattle.memory.specs.declared.rect.Rect.{Rect}
 use Rattle.segmenting.specs.rules.Layouts.{Layout}
 use Rattle.grouping.specs.rules.BlockRecords.{column_record, block_record}
 use Rattle.smoothing.specs.rules.LineRecords.{glyph_record, line_record}

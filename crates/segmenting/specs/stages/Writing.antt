@@ -1,5 +1,5 @@
 -- What the stages of writing the results ask and leave: rules and graphics, glyphs and lines, blocks and columns, the figures.
-use Rattle.std.specs.Prelude.{◌≡◌, List, [], map, ℕ, suc, ◌+◌, ◌*◌, ◌≤◌, ◌<◌, Float, get_or, length}
+use Rattle.std.specs.Prelude.{◌≡◌, List, map, ℕ, suc, ◌+◌, ◌*◌, ◌≤◌, ◌<◌, Float, get_or, length}
 use Rattle.memory.specs.rules.Lists.{table, total}
 use Rattle.memory.specs.rules.Limits.{max_frame_width, max_frame_height, max_capacity, max_lines, scratch_words}
 use Rattle.memory.specs.rules.Records.{encoded}
@@ -14,7 +14,7 @@ use Rattle.sorting.specs.rules.Capacity.{most_components}
 use Rattle.sorting.specs.rules.Sorted.{sorted}
 use Rattle.sorting.specs.declared.sort.SortCounts.{SortCounts}
 use Rattle.sorting.specs.declared.Unit.{Unit}
-use Rattle.smoothing.specs.rules.Lines.{LabelledGlyph, SmoothedLine, kept_lines, line_number, TextLine, glyph_box}
+use Rattle.smoothing.specs.rules.Lines.{LabelledGlyph, SmoothedLine, kept_lines, line_number, glyph_box}
 use Rattle.grouping.specs.rules.Blocks.{block_firsts, blocks_of}
 use Rattle.grouping.specs.rules.Columns.{columns_of}
 use Rattle.segmenting.specs.rules.Layouts.{text_line}

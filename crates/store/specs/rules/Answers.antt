@@ -1,9 +1,7 @@
 -- 01's number and value of each case of an answer ("Turned back": a refusal carries the number and zeros elsewhere).
 use Rattle.std.specs.Prelude.{ℕ}
 use Rattle.store.specs.declared.answers.Outcome.{Outcome}
-use Rattle.store.specs.declared.answers.Outcome.TheVariants as Outcome
 use Rattle.store.specs.declared.answers.Answer.{Answer}
-use Rattle.store.specs.declared.answers.Answer.TheVariants as Answer
 
 -- a call without a value
 abbrev pub outcome_number : Outcome → ℕ

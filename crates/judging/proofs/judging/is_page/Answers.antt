@@ -1,4 +1,3 @@
-use borrow.Author.Rules.{rules}
 use Rattle.judging.proofs.judging.is_page.Goals as goal
 
 -- `judging::judging::is_page` meets its contract. Assumes nothing.

@@ -1,5 +1,4 @@
 use Rattle.judging.proofs.HeadTests.{head-short, head-long}
-use borrow.Author.Rules.{rules}
 use Rattle.judging.proofs.judging.judge_head.Goals as goal
 
 -- `judging::judging::judge_head` meets its contract. Assumes nothing.

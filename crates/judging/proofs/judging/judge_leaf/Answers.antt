@@ -1,5 +1,4 @@
 use Rattle.judging.specs.rules.Refusals.{leaf_refusal}
-use borrow.Author.Rules.{rules}
 use Rattle.judging.proofs.judging.judge_leaf.Goals as goal
 
 -- `judging::judging::judge_leaf` meets its contract: a chain of tests, from the last to the first. Assumes nothing.

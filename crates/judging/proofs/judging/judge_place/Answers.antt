@@ -1,5 +1,4 @@
 use Rattle.judging.specs.rules.Refusals.{place_refusal}
-use borrow.Author.Rules.{rules}
 use Rattle.judging.proofs.judging.judge_place.Goals as goal
 
 -- `judging::judging::judge_place` meets its contract: a chain of tests, from the last to the first. Assumes nothing.

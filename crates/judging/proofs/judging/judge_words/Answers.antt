@@ -1,6 +1,5 @@
 use Rattle.judging.specs.rules.Header.{held}
 use Rattle.judging.specs.rules.Spoiled.{limits_ok}
-use borrow.Author.Rules.{rules}
 use Rattle.judging.proofs.judging.judge_words.Goals as goal
 
 -- `judging::judging::judge_words` meets its contract: the words of a header, test by test. Assumes nothing.

@@ -1,4 +1,3 @@
-use borrow.Author.Rules.{rules}
 use Rattle.judging.proofs.judging.limits_ok.Goals as goal
 
 -- `judging::judging::limits_ok` meets its contract. Assumes nothing.

@@ -2,7 +2,6 @@ use Rattle.judging.proofs.LimitLaws.{point-sides, point-within}
 use mathlib.Core.Path.{ap, ◌∙◌}
 use Rattle.levelling.specs.rules.Frames.{Frame}
 use Rattle.judging.proofs.LevelLaws.{frame-by-words}
-use borrow.Author.Rules.{rules}
 use Rattle.judging.proofs.levels.frame_held.Goals as goal
 
 -- `judging::levels::frame_held` meets its contract. Assumes nothing.

@@ -2,7 +2,6 @@ use Rattle.judging.proofs.LimitLaws.{point-sides, point-within, point-held}
 use mathlib.Core.Path.{sym, ap, ◌∙◌}
 use Rattle.levelling.specs.rules.Frames.{Frame}
 use Rattle.judging.proofs.LevelLaws.{frame-by-words, frame-short, frame-room, frame-judged}
-use borrow.Author.Rules.{rules}
 use Rattle.judging.proofs.levels.judge_frame.Goals as goal
 
 -- `judging::levels::judge_frame` meets its contract: the frame, then what hangs on it. Assumes nothing.

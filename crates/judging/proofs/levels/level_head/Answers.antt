@@ -1,5 +1,4 @@
 use Rattle.judging.proofs.LevelLaws.{state-held}
-use borrow.Author.Rules.{rules}
 use Rattle.judging.proofs.levels.level_head.Goals as goal
 
 -- `judging::levels::level_head` meets its contract. Assumes nothing.

@@ -1,9 +1,7 @@
-use Prim.Native.Nat.{◌+◌, ◌*◌, ◌-◌, ◌≤◌}
-use mathlib.Core.Path.{◌≡◌, ap, ◌∙◌}
+use mathlib.Core.Path.{ap, ◌∙◌}
 use native.Mathlib.Omega.{arith}
-use borrow.Author.Rules.{rules}
-use Rattle.judging.specs.rules.Spoiled.{every, box_ok}
-use Rattle.judging.proofs.ResultLaws.{every-none, every_more, record-ends, box_ok_at, boxes-there}
+use Rattle.judging.specs.rules.Spoiled.{box_ok}
+use Rattle.judging.proofs.ResultLaws.{every-none, every_more, record-ends, boxes-there}
 use Rattle.judging.proofs.results.boxes_ok.Goals as goal
 
 -- `judging::results::boxes_ok` meets its contract. Assumes nothing.

@@ -1,9 +1,7 @@
 use Prim.Native.Nat.{◌+◌, ◌*◌, ◌-◌, ◌≤◌}
-use mathlib.Core.Path.{◌≡◌, ap, ◌∙◌}
-use native.Mathlib.Omega.{arith}
-use borrow.Author.Rules.{rules}
-use Rattle.judging.specs.rules.Spoiled.{every, box_ok}
-use Rattle.judging.proofs.ResultLaws.{every-none, every_more, record-ends, box_ok_at, boxes-there}
+use mathlib.Core.Path.{◌≡◌}
+use Rattle.judging.specs.rules.Spoiled.{every}
+use Rattle.judging.proofs.ResultLaws.{box_ok_at}
 use Rattle.judging.proofs.results.boxes_ok.Given as goal
 
 abbrev pub invariant-loop-i : goal.invariant-loop-i

@@ -1,11 +1,9 @@
-use Prim.Native.Nat.{◌+◌, ◌*◌, ◌-◌, ◌≤◌}
-use mathlib.Core.Path.{◌≡◌, ap}
+use Prim.Native.Nat.{◌+◌}
+use mathlib.Core.Path.{ap}
 use native.Mathlib.Omega.{arith}
-use borrow.Author.Rules.{rules}
 use lib.Dec.{ltb}
 use lib.ListN.{get_or}
-use Rattle.judging.specs.rules.Spoiled.{every}
-use Rattle.judging.proofs.ResultLaws.{every-none, every_more, record-ends, field_at, fields-there}
+use Rattle.judging.proofs.ResultLaws.{every-none, every_more, record-ends, fields-there}
 use Rattle.judging.proofs.results.fields_below.Goals as goal
 
 -- `judging::results::fields_below` meets its contract. Assumes nothing.

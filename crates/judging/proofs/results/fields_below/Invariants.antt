@@ -1,11 +1,8 @@
 use Prim.Native.Nat.{◌+◌, ◌*◌, ◌-◌, ◌≤◌}
-use mathlib.Core.Path.{◌≡◌, ap}
-use native.Mathlib.Omega.{arith}
-use borrow.Author.Rules.{rules}
+use mathlib.Core.Path.{◌≡◌}
 use lib.Dec.{ltb}
-use lib.ListN.{get_or}
 use Rattle.judging.specs.rules.Spoiled.{every}
-use Rattle.judging.proofs.ResultLaws.{every-none, every_more, record-ends, field_at, fields-there}
+use Rattle.judging.proofs.ResultLaws.{field_at}
 use Rattle.judging.proofs.results.fields_below.Given as goal
 
 abbrev pub invariant-loop-i : goal.invariant-loop-i

@@ -1,13 +1,10 @@
 use Prim.Native.Nat.{◌+◌, ◌*◌, ◌-◌, ◌≤◌}
-use mathlib.Core.Path.{◌≡◌, ap}
+use mathlib.Core.Path.{◌≡◌}
 use mathlib.Core.Bool.{◌||◌}
-use native.Mathlib.Omega.{arith}
-use borrow.Author.Rules.{rules}
 use lib.Dec.{eqb, ltb}
-use lib.ListN.{get_or}
 use Rattle.memory.specs.rules.Limits.{no_line}
 use Rattle.judging.specs.rules.Spoiled.{every}
-use Rattle.judging.proofs.ResultLaws.{every-none, every_more, record-ends, field_at, fields-there}
+use Rattle.judging.proofs.ResultLaws.{field_at}
 use Rattle.judging.proofs.results.fields_marked.Given as goal
 
 abbrev pub invariant-loop-i : goal.invariant-loop-i

@@ -1,6 +1,5 @@
 use Rattle.judging.proofs.ResultLaws.{places-are, lists-by}
 use native.Mathlib.Omega.{arith}
-use borrow.Author.Rules.{rules}
 use Rattle.judging.proofs.results.lists_ok.Goals as goal
 
 -- `judging::results::lists_ok` meets its contract. Assumes nothing.

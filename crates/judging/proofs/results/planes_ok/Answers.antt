@@ -1,9 +1,5 @@
-use Prim.Native.Nat.{◌-◌, ◌≤◌}
-use mathlib.Core.Path.{◌≡◌}
 use native.Mathlib.Omega.{arith}
-use borrow.Author.Rules.{rules}
-use Rattle.judging.specs.rules.Spoiled.{every}
-use Rattle.judging.proofs.ResultLaws.{every-none, every_more, dot_at, planes-is}
+use Rattle.judging.proofs.ResultLaws.{every-none, every_more, planes-is}
 use Rattle.judging.proofs.results.planes_ok.Goals as goal
 
 -- `judging::results::planes_ok` meets its contract. Assumes nothing.

@@ -1,5 +1,4 @@
 use Rattle.judging.proofs.ResultLaws.{assumed-is, measured-is}
-use borrow.Author.Rules.{rules}
 use Rattle.judging.proofs.results.unit_ok.Goals as goal
 
 -- `judging::results::unit_ok` meets its contract. Assumes nothing.

@@ -1,11 +1,8 @@
 use mathlib.Core.Path.{ap, ◌∙◌}
-use mathlib.Core.Bool.{◌&&◌}
-use borrow.Author.Tests.{not-true, not-false}
 use native.Mathlib.Omega.{arith}
 use Rattle.judging.specs.rules.Header.{lists_at, part}
 use Rattle.judging.specs.stages.Judged.{words_ok}
 use Rattle.judging.proofs.ResultLaws.{words-no, words-few, words-yes}
-use borrow.Author.Rules.{rules}
 use Rattle.judging.proofs.results.words_ok.Goals as goal
 
 -- `judging::results::words_ok` meets its contract. Assumes nothing.

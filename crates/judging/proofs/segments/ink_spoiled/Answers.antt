@@ -2,7 +2,6 @@ use mathlib.Core.Path.{sym, ap}
 use mathlib.Core.Bool.{not}
 use lib.Seq.{length-take-le}
 use Rattle.judging.specs.rules.Spoiled.{ink_spoiled}
-use borrow.Author.Rules.{rules}
 use Rattle.judging.proofs.segments.ink_spoiled.Goals as goal
 
 -- `judging::segments::ink_spoiled` meets its contract: the front part is no mask. Assumes nothing.

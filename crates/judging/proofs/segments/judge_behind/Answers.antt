@@ -1,9 +1,6 @@
-use mathlib.Core.Bool.{not}
-use mathlib.Core.Path.{ap}
 use native.Mathlib.Omega.{arith}
 use Rattle.judging.proofs.LimitLaws.{point-sides, point-within, point-held}
 use Rattle.judging.proofs.SegmentLaws.{behind-short, behind-dots, behind-lent, behind-ink, behind-room, behind-judged}
-use borrow.Author.Rules.{rules}
 use Rattle.judging.proofs.segments.judge_behind.Goals as goal
 
 -- `judging::segments::judge_behind` meets its contract: the frame, then what hangs on it. Assumes nothing.

@@ -1,4 +1,3 @@
-use borrow.Author.Rules.{rules}
 use Rattle.judging.proofs.segments.judge_lengths.Goals as goal
 
 -- `judging::segments::judge_lengths` meets its contract, test by test. Assumes nothing.

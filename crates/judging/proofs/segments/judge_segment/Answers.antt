@@ -1,7 +1,6 @@
 use mathlib.Core.Bool.{not}
 use mathlib.Core.Path.{ap}
 use Rattle.judging.proofs.SegmentLaws.{sheet-no, header-no, header-yes, behind-all}
-use borrow.Author.Rules.{rules}
 use Rattle.judging.proofs.segments.judge_segment.Goals as goal
 
 -- `judging::segments::judge_segment` meets its contract, test by test. Assumes nothing.

@@ -1,5 +1,4 @@
 use Rattle.judging.proofs.ShearTests.{rows-asked, columns-asked, differs-is}
-use borrow.Author.Rules.{rules}
 use Rattle.judging.proofs.shears.frame_differs.Goals as goal
 
 -- `judging::shears::frame_differs` meets its contract: both shears, then the frame words. Assumes nothing.

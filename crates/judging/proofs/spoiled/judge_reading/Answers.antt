@@ -1,5 +1,4 @@
 use Rattle.judging.proofs.SpoiledLaws.{reading-no, reading-yes, reading-rest}
-use borrow.Author.Rules.{rules}
 use Rattle.judging.proofs.spoiled.judge_reading.Goals as goal
 
 -- `judging::spoiled::judge_reading` meets its contract. Assumes nothing.

@@ -1,7 +1,6 @@
 use native.Mathlib.Omega.{arith}
 use Rattle.judging.proofs.LimitLaws.{point-sides, point-within, point-few, point-held}
 use Rattle.judging.proofs.SpoiledLaws.{rest-lacking, rest-room, rest-judged}
-use borrow.Author.Rules.{rules}
 use Rattle.judging.proofs.spoiled.judge_rest.Goals as goal
 
 -- `judging::spoiled::judge_rest` meets its contract. Assumes nothing.

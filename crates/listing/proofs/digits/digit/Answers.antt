@@ -1,7 +1,6 @@
 use borrow.Author.Tests.{lt-ltb, le-ltb}
 use Rattle.listing.specs.rules.Digits.{digit_of}
 use native.Mathlib.Omega.{arith}
-use borrow.Author.Rules.{rules}
 use Rattle.listing.proofs.digits.digit.Goals as goal
 
 pub returns-then-d-lt10 : goal.returns-then-d-lt10

@@ -1,7 +1,6 @@
-use mathlib.Core.Path.{◌≡◌, refl, sym, ap, ◌∙◌}
-use Prim.Native.Nat.{◌+◌, ◌-◌, ◌/◌, ◌^◌, ◌≤◌}
-use lib.ListN.{length, length-set}
-use Rattle.listing.proofs.DigitLaws.{Written, none_written, pair_step, two-quotients, hex-written, odd-digit, length-hex}
+use mathlib.Core.Path.{refl}
+use lib.ListN.{length-set}
+use Rattle.listing.proofs.DigitLaws.{none_written, pair_step, two-quotients, hex-written, odd-digit, length-hex}
 use native.Mathlib.Omega.{arith}
 use Rattle.listing.proofs.digits.put_hex.Goals as goal
 

@@ -1,8 +1,7 @@
-use mathlib.Core.Path.{◌≡◌, refl, sym, ap, ◌∙◌}
-use Prim.Native.Nat.{◌+◌, ◌-◌, ◌/◌, ◌^◌, ◌≤◌}
-use lib.ListN.{length, length-set}
-use Rattle.listing.proofs.DigitLaws.{Written, none_written, pair_step, two-quotients, hex-written, odd-digit, length-hex}
-use native.Mathlib.Omega.{arith}
+use mathlib.Core.Path.{◌≡◌}
+use Prim.Native.Nat.{◌-◌, ◌/◌, ◌^◌, ◌≤◌}
+use lib.ListN.{length}
+use Rattle.listing.proofs.DigitLaws.{Written}
 use Rattle.listing.proofs.digits.put_hex.Given as goal
 
 abbrev pub invariant-loop-done : goal.invariant-loop-done

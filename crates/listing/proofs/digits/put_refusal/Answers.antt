@@ -1,8 +1,6 @@
-use lib.ListN.{length-set}
 use Rattle.listing.proofs.DigitLaws.{length-hex}
 use Rattle.listing.proofs.SheetLaws.{refusal-put}
 use native.Mathlib.Omega.{arith}
-use borrow.Author.Rules.{rules}
 use Rattle.listing.proofs.digits.put_refusal.Goals as goal
 
 pub put_hex-q-requires : goal.put_hex-q-requires

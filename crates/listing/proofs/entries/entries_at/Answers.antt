@@ -1,7 +1,6 @@
 use Rattle.listing.proofs.EntryLaws.{found-end, found_part}
 use lib.ListN.{length}
 use native.Mathlib.Omega.{arith}
-use borrow.Author.Rules.{rules}
 use Rattle.listing.proofs.entries.entries_at.Goals as goal
 
 pub overflow_mul-end : goal.overflow_mul-end

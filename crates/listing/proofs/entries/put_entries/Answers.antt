@@ -1,5 +1,4 @@
 use mathlib.Core.Path.{◌≡◌, refl, subst}
-use Prim.Native.Nat.{◌-◌, ◌≤◌}
 use lib.ListN.{length}
 use Rattle.listing.specs.rules.Digits.{joined}
 use Rattle.listing.specs.stages.Puts.{Put}
@@ -27,8 +26,7 @@ put_entry-p-requires c =
 
 pub loop-i-preserved : goal.loop-i-preserved
 loop-i-preserved c =
-    let a = c.args in
-    (
+    let a = c.args in (
       c.loop-i.invariant.0,
       omega arith,
       entries-more a.out.now c.loop-i.out c.put_entry-p.new.out a.words.now a.at a.kind a.n c.loop-i.i c.loop-i.p c.put_entry-p.result (omega arith) c.requires.2 c.field_count-count.result c.field_count-count.ensures c.loop-i.invariant.2 c.put_entry-p.ensures,

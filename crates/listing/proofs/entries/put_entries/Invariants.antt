@@ -1,12 +1,8 @@
-use mathlib.Core.Path.{◌≡◌, refl, subst}
+use mathlib.Core.Path.{◌≡◌}
 use Prim.Native.Nat.{◌-◌, ◌≤◌}
 use lib.ListN.{length}
-use Rattle.listing.specs.rules.Digits.{joined}
 use Rattle.listing.specs.stages.Puts.{Put}
 use Rattle.listing.specs.rules.Sheets.{field_count, entries_text}
-use Rattle.listing.proofs.TextLaws.{put-none}
-use Rattle.listing.proofs.EntryLaws.{words-there, entries-more, entries-room}
-use native.Mathlib.Omega.{arith}
 use Rattle.listing.proofs.entries.put_entries.Given as goal
 
 abbrev pub invariant-loop-i : goal.invariant-loop-i

@@ -1,4 +1,3 @@
-use lib.ListN.{length-set}
 use Rattle.listing.proofs.EntryLaws.{kind-room, entry-room, entry-put}
 use native.Mathlib.Omega.{arith}
 use Rattle.listing.proofs.entries.put_entry.Goals as goal

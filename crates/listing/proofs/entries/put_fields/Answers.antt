@@ -1,12 +1,7 @@
-use mathlib.Core.Path.{◌≡◌, refl, sym, ap, ◌∙◌, subst}
-use mathlib.Core.List.{List}
-use Prim.Native.Nat.{ℕ, ◌+◌, ◌-◌, ◌≤◌}
-use lib.ListN.{length, get_or}
-use Rattle.memory.specs.rules.Words.{word_at}
-use Rattle.listing.specs.rules.Digits.{hex, joined}
+use mathlib.Core.Path.{◌≡◌, refl, subst}
+use Rattle.listing.specs.rules.Digits.{joined}
 use Rattle.listing.specs.stages.Puts.{Put}
 use Rattle.listing.specs.rules.Sheets.{field_count, fields_text, word_from}
-use Rattle.listing.proofs.DigitLaws.{length-hex}
 use Rattle.listing.proofs.TextLaws.{put-none}
 use Rattle.listing.proofs.EntryLaws.{fields-few, fields-more, fields-room}
 use native.Mathlib.Omega.{arith}

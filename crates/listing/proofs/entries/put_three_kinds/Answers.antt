@@ -2,7 +2,6 @@ use Prim.Native.Nat.{◌+◌}
 use Rattle.listing.specs.rules.Sheets.{entries_text}
 use Rattle.listing.proofs.TextLaws.{three-room, three-room-2, three-room-3, three-put}
 use native.Mathlib.Omega.{arith}
-use borrow.Author.Rules.{rules}
 use Rattle.listing.proofs.entries.put_three_kinds.Goals as goal
 
 pub put_entries-p-requires : goal.put_entries-p-requires

@@ -1,7 +1,5 @@
 use mathlib.Core.Path.{◌≡◌, ap, ◌∙◌}
-use Prim.Native.Nat.{◌+◌, ◌-◌, ◌*◌, ◌≤◌}
 use native.Mathlib.Omega.{arith}
-use Rattle.listing.specs.rules.Sheets.{field_count}
 use Rattle.listing.proofs.EntryLaws.{fields-few, digits-few, digits_to, digits-none, digits_more, digits-all}
 use Rattle.listing.proofs.formats.entry_length.Goals as goal
 

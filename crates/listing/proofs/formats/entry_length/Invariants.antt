@@ -1,8 +1,7 @@
-use mathlib.Core.Path.{◌≡◌, ap, ◌∙◌}
+use mathlib.Core.Path.{◌≡◌}
 use Prim.Native.Nat.{◌+◌, ◌-◌, ◌*◌, ◌≤◌}
-use native.Mathlib.Omega.{arith}
 use Rattle.listing.specs.rules.Sheets.{field_count}
-use Rattle.listing.proofs.EntryLaws.{fields-few, digits-few, digits_to, digits-none, digits_more, digits-all}
+use Rattle.listing.proofs.EntryLaws.{digits_to}
 use Rattle.listing.proofs.formats.entry_length.Given as goal
 
 abbrev pub invariant-loop-j : goal.invariant-loop-j

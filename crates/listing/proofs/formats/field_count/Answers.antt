@@ -6,7 +6,6 @@ use lib.Dec.{eqb, eqb→eq}
 use lib.ListN.{get_or}
 use Rattle.listing.proofs.ComputedTable.{at}
 use Rattle.listing.specs.rules.Sheets.{field_count}
-use native.Mathlib.Omega.{arith}
 use borrow.Author.Rules.{rules}
 use Rattle.listing.proofs.formats.field_count.Goals as goal
 

@@ -8,7 +8,6 @@ use lib.ListN.{get_or}
 use Rattle.memory.specs.rules.Lists.{table, upto}
 use Rattle.listing.specs.rules.Sheets.{field_digits}
 use Rattle.listing.proofs.ComputedTable.{at}
-use borrow.Author.Rules.{rules}
 use Rattle.listing.proofs.formats.field_digits.Goals as goal
 
 -- the table of the source

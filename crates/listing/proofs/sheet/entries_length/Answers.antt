@@ -1,6 +1,5 @@
 use Prim.Native.Nat.{◌*◌}
 use native.Mathlib.Omega.{arith}
-use borrow.Author.Rules.{rules}
 use Rattle.listing.proofs.SheetLaws.{product_small}
 use Rattle.listing.proofs.sheet.entries_length.Goals as goal
 

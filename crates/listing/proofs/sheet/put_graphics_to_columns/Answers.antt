@@ -3,7 +3,6 @@ use Rattle.listing.specs.stages.Lists.{graphics_in, glyphs_in, columns_in}
 use Rattle.listing.proofs.EntryLaws.{found-long}
 use Rattle.listing.proofs.SheetLaws.{found-room, found-put}
 use native.Mathlib.Omega.{arith}
-use borrow.Author.Rules.{rules}
 use Rattle.listing.proofs.sheet.put_graphics_to_columns.Goals as goal
 
 pub put_three_kinds-requires : goal.put_three_kinds-requires

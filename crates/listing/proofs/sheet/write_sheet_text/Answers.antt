@@ -2,7 +2,6 @@ use Rattle.listing.specs.rules.Pages.{edition}
 use Rattle.listing.specs.stages.Lists.{lines_in, blocks_in, rules_in, graphics_in, glyphs_in, columns_in}
 use Rattle.listing.proofs.SheetLaws.{first-room, second-room, dots-room, sheet-put}
 use native.Mathlib.Omega.{arith}
-use borrow.Author.Rules.{rules}
 use Rattle.listing.proofs.sheet.write_sheet_text.Goals as goal
 
 pub put_lines_to_rules-q-requires : goal.put_lines_to_rules-q-requires

@@ -2,7 +2,6 @@ use mathlib.Core.Path.{◌≡◌, sym, ap, ◌∙◌}
 use Prim.Native.Nat.{◌+◌, ◌*◌}
 use native.Mathlib.Omega.{arith}
 use Rattle.novlizeb.specs.rules.Answers.{answer_word}
-use borrow.Author.Rules.{rules}
 use Rattle.novlizeb.proofs.answers.word_of.Goals as goal
 
 -- `novlizeb::answers::word_of` meets its contract, case by case. Assumes nothing.

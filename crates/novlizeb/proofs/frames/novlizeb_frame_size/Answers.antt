@@ -1,7 +1,6 @@
 use mathlib.Core.Bool.{not}
 use mathlib.Core.Path.{ap}
 use Rattle.novlizeb.proofs.AnswerLaws.{page-limits, size_none, size-some}
-use borrow.Author.Rules.{rules}
 use Rattle.novlizeb.proofs.frames.novlizeb_frame_size.Goals as goal
 
 -- `novlizeb::frames::novlizeb_frame_size` meets its contract: 0 outside the limits, else the frame's sides. Assumes nothing.

@@ -1,5 +1,4 @@
 use Rattle.novlizeb.proofs.AnswerLaws.{told-number}
-use borrow.Author.Rules.{rules}
 use Rattle.novlizeb.proofs.frames.novlizeb_level_gray.Goals as goal
 
 -- `novlizeb::frames::novlizeb_level_gray` meets its contract: the entry's promise. Assumes nothing.

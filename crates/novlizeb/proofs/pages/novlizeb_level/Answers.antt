@@ -1,5 +1,4 @@
 use Rattle.novlizeb.proofs.AnswerLaws.{left-number}
-use borrow.Author.Rules.{rules}
 use Rattle.novlizeb.proofs.pages.novlizeb_level.Goals as goal
 
 -- `novlizeb::pages::novlizeb_level` meets its contract: the entry's promise. Assumes nothing.

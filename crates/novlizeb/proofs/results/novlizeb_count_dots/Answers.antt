@@ -1,5 +1,4 @@
 use Rattle.novlizeb.proofs.AnswerLaws.{told-word}
-use borrow.Author.Rules.{rules}
 use Rattle.novlizeb.proofs.results.novlizeb_count_dots.Goals as goal
 
 -- `novlizeb::results::novlizeb_count_dots` meets its contract: the entry's promise. Assumes nothing.

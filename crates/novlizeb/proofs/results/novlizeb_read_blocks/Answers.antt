@@ -1,5 +1,4 @@
 use Rattle.novlizeb.proofs.AnswerLaws.{told-word, told-output}
-use borrow.Author.Rules.{rules}
 use Rattle.novlizeb.proofs.results.novlizeb_read_blocks.Goals as goal
 
 -- `novlizeb::results::novlizeb_read_blocks` meets its contract: the entry's promise. Assumes nothing.

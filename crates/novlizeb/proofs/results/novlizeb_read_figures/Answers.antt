@@ -1,5 +1,4 @@
 use Rattle.novlizeb.proofs.AnswerLaws.{told-number}
-use borrow.Author.Rules.{rules}
 use Rattle.novlizeb.proofs.results.novlizeb_read_figures.Goals as goal
 
 -- `novlizeb::results::novlizeb_read_figures` meets its contract: the entry's promise. Assumes nothing.

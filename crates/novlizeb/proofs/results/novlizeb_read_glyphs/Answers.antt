@@ -1,5 +1,4 @@
 use Rattle.novlizeb.proofs.AnswerLaws.{told-word, told-output}
-use borrow.Author.Rules.{rules}
 use Rattle.novlizeb.proofs.results.novlizeb_read_glyphs.Goals as goal
 
 -- `novlizeb::results::novlizeb_read_glyphs` meets its contract: the entry's promise. Assumes nothing.

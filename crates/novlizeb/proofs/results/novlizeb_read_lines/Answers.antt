@@ -1,5 +1,4 @@
 use Rattle.novlizeb.proofs.AnswerLaws.{told-word, told-output}
-use borrow.Author.Rules.{rules}
 use Rattle.novlizeb.proofs.results.novlizeb_read_lines.Goals as goal
 
 -- `novlizeb::results::novlizeb_read_lines` meets its contract: the entry's promise. Assumes nothing.

@@ -1,5 +1,4 @@
 use Rattle.novlizeb.proofs.AnswerLaws.{told-word}
-use borrow.Author.Rules.{rules}
 use Rattle.novlizeb.proofs.results.novlizeb_twenty_line_measure.Goals as goal
 
 -- `novlizeb::results::novlizeb_twenty_line_measure` meets its contract: the entry's promise. Assumes nothing.

@@ -1,5 +1,4 @@
 use Rattle.scripts.proofs.ScriptLaws.{part-long, level-called}
-use borrow.Author.Rules.{rules}
 use Rattle.scripts.proofs.playing.level_call.Goals as goal
 
 -- `scripts::playing::level_call` meets its contract. Assumes nothing.

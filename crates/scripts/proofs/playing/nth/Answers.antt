@@ -1,5 +1,4 @@
 use Rattle.scripts.proofs.PlayLaws.{called_at}
-use borrow.Author.Rules.{rules}
 use Rattle.scripts.proofs.playing.nth.Goals as goal
 
 -- `scripts::playing::nth` meets its contract. Assumes nothing.

@@ -1,7 +1,6 @@
 use lib.ListN.{length}
 use Rattle.scripts.specs.rules.Scripts.{outputs}
 use Rattle.scripts.proofs.ScriptLaws.{part-long, did-level, did-segment, did-read-level, did-read-result, did-clear}
-use borrow.Author.Rules.{rules}
 use Rattle.scripts.proofs.playing.perform.Goals as goal
 
 -- `scripts::playing::perform` meets its contract. Assumes nothing.

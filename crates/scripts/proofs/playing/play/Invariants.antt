@@ -1,10 +1,9 @@
-use mathlib.Core.Path.{◌≡◌, refl, ◌∙◌, subst}
-use Prim.Native.Nat.{ℕ, ◌-◌, ◌*◌, ◌≤◌, zero-le}
-use native.Mathlib.Omega.{arith}
-use lib.ListN.{length, length-set}
+use mathlib.Core.Path.{◌≡◌}
+use Prim.Native.Nat.{◌-◌, ◌*◌, ◌≤◌}
+use lib.ListN.{length}
 use Rattle.account.specs.rules.Calls.{world}
 use Rattle.scripts.specs.rules.Scripts.{script_of, outputs, memory}
-use Rattle.scripts.proofs.PlayLaws.{Going, same-scratch, going-none, going_more, going-all}
+use Rattle.scripts.proofs.PlayLaws.{Going}
 use Rattle.scripts.proofs.playing.play.Given as goal
 
 abbrev pub invariant-loop-i : goal.invariant-loop-i

@@ -1,5 +1,4 @@
 use Rattle.scripts.proofs.ScriptLaws.{part-long, read-point, read-box, read-gray, read-frame}
-use borrow.Author.Rules.{rules}
 use Rattle.scripts.proofs.playing.read_level.Goals as goal
 
 -- `scripts::playing::read_level` meets its contract. Assumes nothing.

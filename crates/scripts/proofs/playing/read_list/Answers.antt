@@ -1,5 +1,4 @@
 use Rattle.scripts.proofs.ScriptLaws.{is-columns, is-rules, is-graphics, is-glyphs, is-lines, is-blocks, list-told}
-use borrow.Author.Rules.{rules}
 use Rattle.scripts.proofs.playing.read_list.Goals as goal
 
 -- `scripts::playing::read_list` meets its contract. Assumes nothing.

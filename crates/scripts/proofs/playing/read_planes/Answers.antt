@@ -1,6 +1,5 @@
 use Rattle.scripts.specs.rules.Scripts.{outputs, result_reading}
 use Rattle.scripts.proofs.ScriptLaws.{part-long, lent-planes}
-use borrow.Author.Rules.{rules}
 use Rattle.scripts.proofs.playing.read_planes.Goals as goal
 
 -- `scripts::playing::read_planes` meets its contract. Assumes nothing.

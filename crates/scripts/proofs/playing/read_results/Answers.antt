@@ -1,5 +1,4 @@
 use Rattle.scripts.proofs.ScriptLaws.{part-long, read-summary, read-twenty, read_count, read-sheet, read-words}
-use borrow.Author.Rules.{rules}
 use Rattle.scripts.proofs.playing.read_results.Goals as goal
 
 -- `scripts::playing::read_results` meets its contract. Assumes nothing.

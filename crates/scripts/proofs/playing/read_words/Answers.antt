@@ -1,5 +1,4 @@
 use Rattle.scripts.proofs.ScriptLaws.{words-figures, words-dots, words-list}
-use borrow.Author.Rules.{rules}
 use Rattle.scripts.proofs.playing.read_words.Goals as goal
 
 -- `scripts::playing::read_words` meets its contract. Assumes nothing.

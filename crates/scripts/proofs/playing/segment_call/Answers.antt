@@ -1,6 +1,5 @@
 use lib.ListN.{length}
 use Rattle.scripts.proofs.ScriptLaws.{part-long, segment-called}
-use borrow.Author.Rules.{rules}
 use Rattle.scripts.proofs.playing.segment_call.Goals as goal
 
 -- `scripts::playing::segment_call` meets its contract. Assumes nothing.

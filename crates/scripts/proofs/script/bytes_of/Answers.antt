@@ -2,7 +2,6 @@ use mathlib.Core.Path.{◌≡◌}
 use Prim.Native.Nat.{◌+◌, ◌-◌}
 use native.Mathlib.Omega.{arith}
 use Rattle.scripts.specs.rules.Scripts.{bytes_of}
-use borrow.Author.Rules.{rules}
 use Rattle.scripts.proofs.script.bytes_of.Goals as goal
 
 -- `scripts::script::bytes_of` meets its contract. Assumes nothing.

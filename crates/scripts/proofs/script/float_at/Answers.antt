@@ -2,7 +2,6 @@ use mathlib.Core.Path.{refl, sym}
 use native.Mathlib.Omega.{arith}
 use lib.Ieee.{nan, div, of_bits}
 use lib.ListN.{get_or-eq_default}
-use borrow.Author.Rules.{rules}
 use Rattle.scripts.proofs.script.float_at.Goals as goal
 
 -- `scripts::script::float_at` meets its contract. Assumes nothing.

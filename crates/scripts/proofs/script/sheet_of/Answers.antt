@@ -3,7 +3,6 @@ use Prim.Native.Nat.{ℕ, ◌+◌}
 use native.Mathlib.Omega.{arith}
 use Rattle.memory.specs.rules.Words.{word_at}
 use Rattle.scripts.specs.rules.Scripts.{sheet_at, number_at, sheet_from}
-use borrow.Author.Rules.{rules}
 use Rattle.scripts.proofs.script.sheet_of.Goals as goal
 
 -- `scripts::script::sheet_of` meets its contract. Assumes nothing.

@@ -1,10 +1,6 @@
 use Prim.Native.Nat.{◌-◌, ◌≤◌}
-use mathlib.Core.Path.{◌≡◌, ap, ◌∙◌}
-use mathlib.Core.Logic.{⊎_elim}
-use native.Mathlib.Omega.{arith}
-use borrow.Author.Rules.{rules}
+use mathlib.Core.Path.{◌≡◌}
 use Rattle.segmenting.specs.stages.Held.{held_area}
-use Rattle.segmenting.proofs.BoxLaws.{area-none, area-more, area_same, area-fits}
 use Rattle.segmenting.proofs.boxes.area_of_kind.Given as goal
 
 abbrev pub invariant-loop-k : goal.invariant-loop-k

@@ -1,14 +1,6 @@
-use Prim.Native.Nat.{◌+◌, ◌-◌, ◌*◌, ◌≤◌}
-use mathlib.Core.Path.{◌≡◌, sym, ap, ◌∙◌, subst}
-use native.Mathlib.Omega.{arith}
-use borrow.Author.Rules.{rules}
-use lib.ListN.{get_or}
-use Rattle.memory.specs.rules.Words.{over}
-use Rattle.memory.specs.rules.Records.{encoded}
-use Rattle.memory.specs.rules.Rects.{box_words}
-use Rattle.sorting.specs.stages.Measures.{unpacked}
+use Prim.Native.Nat.{◌-◌, ◌≤◌}
 use Rattle.segmenting.specs.stages.Held.{unpacked_boxes}
-use Rattle.segmenting.proofs.BoxLaws.{BoxesWritten, written-length, box-more, unpacked-none, unpacked-more}
+use Rattle.segmenting.proofs.BoxLaws.{BoxesWritten}
 use Rattle.segmenting.proofs.boxes.unpack_boxes.Given as goal
 
 abbrev pub invariant-loop-k : goal.invariant-loop-k

@@ -1,15 +1,6 @@
-use Prim.Native.Nat.{◌+◌, ◌-◌, ◌≤◌}
-use mathlib.Core.Path.{◌≡◌, sym, ap, ◌∙◌, subst}
-use mathlib.Core.Logic.{⊎_elim}
-use native.Mathlib.Omega.{arith}
-use borrow.Author.Rules.{rules}
-use lib.ListN.{length}
-use Rattle.memory.specs.rules.Words.{over}
-use Rattle.memory.specs.rules.Records.{encoded}
-use Rattle.memory.specs.rules.Rects.{box_words}
-use Rattle.sorting.specs.stages.Measures.{size_box}
+use Prim.Native.Nat.{◌-◌, ◌≤◌}
 use Rattle.segmenting.specs.stages.Held.{held_boxes}
-use Rattle.segmenting.proofs.BoxLaws.{BoxesWritten, written-length, box-more, boxes-none, boxes-more, boxes-same, boxes-below}
+use Rattle.segmenting.proofs.BoxLaws.{BoxesWritten}
 use Rattle.segmenting.proofs.boxes.write_boxes.Given as goal
 
 abbrev pub invariant-loop-k : goal.invariant-loop-k

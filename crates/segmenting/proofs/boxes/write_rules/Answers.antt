@@ -1,5 +1,5 @@
 use native.Mathlib.Omega.{arith}
-use Rattle.segmenting.proofs.BoxLaws.{rules-room, rules-first, rules-second, rules-count, rules-written, rules-long}
+use Rattle.segmenting.proofs.BoxLaws.{rules-room, rules-first, rules-second, rules-count, rules-written}
 use Rattle.segmenting.proofs.boxes.write_rules.Goals as goal
 
 pub unpack_boxes-requires : goal.unpack_boxes-requires

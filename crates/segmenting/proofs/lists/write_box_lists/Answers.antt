@@ -1,7 +1,7 @@
 use borrow.Author.Rules.{rules}
 use Prim.Native.Nat.{◌*◌}
 use mathlib.Core.Path.{refl}
-use Rattle.segmenting.proofs.ResultLaws.{rules-fit, graphics-fit, graphics-put, graphics-long}
+use Rattle.segmenting.proofs.ResultLaws.{rules-fit, graphics-fit, graphics-put}
 use Rattle.segmenting.proofs.lists.write_box_lists.Goals as goal
 
 pub write_rules-rules-requires : goal.write_rules-rules-requires

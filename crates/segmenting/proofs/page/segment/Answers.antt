@@ -4,7 +4,6 @@ use Rattle.sorting.proofs.PlanLaws.{frame-of, plan-dots, planned}
 use Rattle.sorting.specs.stages.SortSteps.{sort_left}
 use Rattle.sorting.specs.declared.sort.SortAnswer.{SortAnswer}
 use Rattle.segmenting.proofs.AnswerLaws.{sorted-many, sorted-ask}
-use borrow.Author.Rules.{rules}
 use Rattle.segmenting.proofs.page.segment.Goals as goal
 
 pub plan_of-plan-requires : goal.plan_of-plan-requires

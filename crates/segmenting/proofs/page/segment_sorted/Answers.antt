@@ -1,10 +1,9 @@
 use Rattle.smoothing.specs.stages.Segments.{smears_left}
 use Rattle.smoothing.specs.declared.smears.SmearsAnswer.{SmearsAnswer}
-use mathlib.Core.Path.{refl, sym, ◌∙◌, subst}
+use mathlib.Core.Path.{◌∙◌, subst}
 use Rattle.sorting.specs.stages.Scratch.{ink_after_cut}
 use Rattle.segmenting.proofs.LayoutLaws.{paint-ask, kinds-painted}
 use Rattle.segmenting.proofs.AnswerLaws.{smears-refused, lines-refused, page-segmented, smears-ask, results-ask}
-use borrow.Author.Rules.{rules}
 use Rattle.segmenting.proofs.page.segment_sorted.Goals as goal
 
 pub find_smears-requires : goal.find_smears-requires

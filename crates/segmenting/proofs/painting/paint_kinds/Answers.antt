@@ -1,8 +1,6 @@
-use Prim.Native.Nat.{◌-◌}
 use native.Mathlib.Omega.{arith}
-use borrow.Author.Rules.{rules}
 use lib.ListN.{length}
-use Rattle.segmenting.proofs.PaintingLaws.{part-long, KindSweep, kinds-none, kinds-ask, kinds-more, kinds-last, kinds-done, kinds-length}
+use Rattle.segmenting.proofs.PaintingLaws.{part-long, kinds-none, kinds-ask, kinds-more, kinds-last, kinds-done}
 use Rattle.segmenting.proofs.painting.paint_kinds.Goals as goal
 
 pub loop-k-init : goal.loop-k-init

@@ -1,8 +1,5 @@
 use Prim.Native.Nat.{◌-◌}
-use native.Mathlib.Omega.{arith}
-use borrow.Author.Rules.{rules}
-use lib.ListN.{length}
-use Rattle.segmenting.proofs.PaintingLaws.{part-long, KindSweep, kinds-none, kinds-ask, kinds-more, kinds-last, kinds-done, kinds-length}
+use Rattle.segmenting.proofs.PaintingLaws.{KindSweep}
 use Rattle.segmenting.proofs.painting.paint_kinds.Given as goal
 
 abbrev pub invariant-loop-k : goal.invariant-loop-k

@@ -1,7 +1,6 @@
 use Prim.Native.Nat.{◌-◌}
 use mathlib.Core.Path.{ap}
 use native.Mathlib.Omega.{arith}
-use borrow.Author.Rules.{rules}
 use Rattle.segmenting.specs.stages.Held.{held_kind}
 use Rattle.segmenting.proofs.PaintingLaws.{part-long, copied-long, run-painted}
 use Rattle.segmenting.proofs.painting.paint_run.Goals as goal

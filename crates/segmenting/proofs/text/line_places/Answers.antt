@@ -1,7 +1,6 @@
 use native.Mathlib.Omega.{arith}
 use Prim.Native.Nat.{◌+◌, ◌*◌}
 use mathlib.Core.Path.{◌≡◌}
-use borrow.Author.Rules.{rules}
 use Rattle.sorting.specs.stages.Scratch.{horizontal_at}
 use Rattle.segmenting.proofs.text.line_places.Goals as goal
 

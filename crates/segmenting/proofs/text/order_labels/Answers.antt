@@ -1,4 +1,3 @@
-use borrow.Author.Rules.{rules}
 use Rattle.segmenting.proofs.TextLaws.{text-order, text-number, text-ordered}
 use Rattle.segmenting.proofs.text.order_labels.Goals as goal
 

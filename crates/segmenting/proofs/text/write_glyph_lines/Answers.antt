@@ -2,7 +2,6 @@ use Prim.Native.Nat.{◌-◌}
 use mathlib.Core.Path.{refl, ◌∙◌}
 use native.Mathlib.Omega.{arith}
 use lib.ListN.{length}
-use borrow.Author.Rules.{rules}
 use borrow.Rule.Slice.PartMut.{put_mid}
 use Rattle.segmenting.specs.rules.Results.{glyph_records_at}
 use Rattle.segmenting.proofs.TextLaws.{text-glyphs, text-lines, text-found, text-left}

@@ -3,7 +3,6 @@ use borrow.Author.Tests.{le-leb, lt-leb}
 use lib.Dec.{eqb}
 use lib.ListN.{get_or}
 use Rattle.showing.specs.rules.Inputs.{head_good}
-use borrow.Author.Rules.{rules}
 use Rattle.showing.proofs.input.head_good.Goals as goal
 
 pub returns-then-s-lt-ROWS_AT : goal.returns-then-s-lt-ROWS_AT

@@ -5,7 +5,6 @@ use Rattle.showing.specs.declared.input.Parsed.TheVariants.{Page}
 use Rattle.showing.specs.rules.Inputs.{row_at, dots_in}
 use Rattle.showing.proofs.InputLaws.{made, made-long, dots-few, parsed-page, parsed-none, mask-page, mask-none}
 use native.Mathlib.Omega.{arith}
-use borrow.Author.Rules.{rules}
 use Rattle.showing.proofs.input.parse_page.Goals as goal
 
 pub number_at-width-requires : goal.number_at-width-requires

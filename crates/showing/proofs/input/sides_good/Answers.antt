@@ -5,7 +5,6 @@ use lib.ListN.{length}
 use Rattle.showing.specs.rules.Inputs.{sides_good}
 use Rattle.showing.proofs.InputLaws.{rows_fit}
 use native.Mathlib.Omega.{arith}
-use borrow.Author.Rules.{rules}
 use Rattle.showing.proofs.input.sides_good.Goals as goal
 
 pub overflow_mul-result : goal.overflow_mul-result

@@ -1,11 +1,9 @@
 use mathlib.Core.Path.{◌≡◌, sym, ◌∙◌}
 use lib.ListN.{length}
-use borrow.Author.Tests.{not-true, not-false}
 use Rattle.judging.specs.rules.Spoiled.{every}
 use Rattle.showing.specs.rules.Inputs.{row_good, row_at}
 use Rattle.showing.proofs.InputLaws.{head-long, sides-good, head-bad, sides-bad, rows_tell}
 use native.Mathlib.Omega.{arith}
-use borrow.Author.Rules.{rules}
 use Rattle.showing.proofs.input.well_made.Goals as goal
 
 pub returns-then-not-head_good : goal.returns-then-not-head_good

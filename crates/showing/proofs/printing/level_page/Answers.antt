@@ -1,4 +1,3 @@
-use borrow.Author.Rules.{rules}
 use Rattle.showing.proofs.ShowLaws.{level-page-left}
 use Rattle.showing.proofs.printing.level_page.Goals as goal
 

@@ -1,4 +1,3 @@
-use borrow.Author.Rules.{rules}
 use Rattle.showing.proofs.ShowLaws.{segment-page-left}
 use Rattle.showing.proofs.printing.segment_page.Goals as goal
 

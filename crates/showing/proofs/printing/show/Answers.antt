@@ -2,7 +2,6 @@ use mathlib.Core.Path.{sym, ◌∙◌}
 use Prim.Native.Nat.{◌*◌}
 use lib.Seq.{length-take-le}
 use native.Mathlib.Omega.{arith}
-use borrow.Author.Rules.{rules}
 use Rattle.showing.proofs.PrintLaws.{says, none-shown, sides-small, dots-small, page-shown}
 use Rattle.showing.proofs.printing.show.Goals as goal
 

@@ -1,4 +1,3 @@
-use borrow.Author.Rules.{rules}
 use Rattle.showing.proofs.ShowLaws.{refused-first, refused-second, page-told}
 use Rattle.showing.proofs.printing.show_leaf.Goals as goal
 

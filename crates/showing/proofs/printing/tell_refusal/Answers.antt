@@ -1,6 +1,5 @@
 use mathlib.Core.Path.{sym}
 use native.Mathlib.Omega.{arith}
-use borrow.Author.Rules.{rules}
 use Rattle.listing.specs.rules.Digits.{refusal_text}
 use Rattle.showing.proofs.TextLaws.{refusal-long, text-short, text-told}
 use Rattle.showing.proofs.printing.tell_refusal.Goals as goal

@@ -1,7 +1,6 @@
 use borrow.Author.Tests.{le-leb, lt-leb}
 use Rattle.showing.specs.rules.Inputs.{digit_value}
 use native.Mathlib.Omega.{arith}
-use borrow.Author.Rules.{rules}
 use Rattle.showing.proofs.reading.digit_value.Goals as goal
 
 pub returns-then-v-le57 : goal.returns-then-v-le57

@@ -1,9 +1,6 @@
-use mathlib.Core.Path.{◌≡◌, refl, ap, ◌∙◌}
+use mathlib.Core.Path.{◌≡◌}
 use Prim.Native.Nat.{◌-◌, ◌≤◌}
-use Rattle.judging.specs.rules.Spoiled.{every}
 use Rattle.showing.specs.rules.Inputs.{digits_at}
-use Rattle.showing.proofs.ReadLaws.{every_more}
-use native.Mathlib.Omega.{arith}
 use Rattle.showing.proofs.reading.digits_at.Given as goal
 
 abbrev pub invariant-loop-i : goal.invariant-loop-i

@@ -1,5 +1,5 @@
 use mathlib.Core.Path.{◌≡◌, refl, ap, ◌∙◌}
-use Prim.Native.Nat.{◌-◌, ◌≤◌, ◌<◌, ◌^◌}
+use Prim.Native.Nat.{◌^◌}
 use Rattle.showing.specs.rules.Inputs.{number_at}
 use Rattle.showing.proofs.ReadLaws.{number_more, power-more, power_small}
 use native.Mathlib.Omega.{arith}

@@ -1,8 +1,6 @@
-use mathlib.Core.Path.{◌≡◌, refl, ap, ◌∙◌}
+use mathlib.Core.Path.{◌≡◌}
 use Prim.Native.Nat.{◌-◌, ◌≤◌, ◌<◌, ◌^◌}
 use Rattle.showing.specs.rules.Inputs.{number_at}
-use Rattle.showing.proofs.ReadLaws.{number_more, power-more, power_small}
-use native.Mathlib.Omega.{arith}
 use Rattle.showing.proofs.reading.number_at.Given as goal
 
 abbrev pub invariant-loop-i : goal.invariant-loop-i

@@ -1,7 +1,6 @@
 use Prim.Native.Nat.{◌/◌, ◌%◌}
 use Rattle.showing.proofs.InputLaws.{wide_enough, row_inside, row_of, column-of}
 use native.Mathlib.Omega.{arith}
-use borrow.Author.Rules.{rules}
 use Rattle.showing.proofs.rows.dot_at.Goals as goal
 
 pub nonzero_div-y : goal.nonzero_div-y

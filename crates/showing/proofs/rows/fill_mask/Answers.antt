@@ -1,7 +1,6 @@
-use mathlib.Core.Path.{◌≡◌, refl}
-use mathlib.Core.List.{◌++◌}
-use Prim.Native.Nat.{◌*◌, ◌-◌, ◌≤◌}
-use lib.ListN.{length, drop, length-set}
+use mathlib.Core.Path.{refl}
+use Prim.Native.Nat.{◌*◌}
+use lib.ListN.{length-set}
 use Rattle.memory.specs.rules.Lists.{table}
 use Rattle.memory.proofs.TableLaws.{table_more, table_filled}
 use Rattle.showing.specs.rules.Inputs.{dot_at, dots_in}

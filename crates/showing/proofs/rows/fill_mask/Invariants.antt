@@ -1,11 +1,9 @@
-use mathlib.Core.Path.{◌≡◌, refl}
+use mathlib.Core.Path.{◌≡◌}
 use mathlib.Core.List.{◌++◌}
 use Prim.Native.Nat.{◌*◌, ◌-◌, ◌≤◌}
-use lib.ListN.{length, drop, length-set}
+use lib.ListN.{length, drop}
 use Rattle.memory.specs.rules.Lists.{table}
-use Rattle.memory.proofs.TableLaws.{table_more, table_filled}
-use Rattle.showing.specs.rules.Inputs.{dot_at, dots_in}
-use native.Mathlib.Omega.{arith}
+use Rattle.showing.specs.rules.Inputs.{dot_at}
 use Rattle.showing.proofs.rows.fill_mask.Given as goal
 
 abbrev pub invariant-loop-i : goal.invariant-loop-i

@@ -3,7 +3,6 @@ use Prim.Native.Nat.{◌+◌, ◌%◌}
 use lib.Dec.{eqb}
 use lib.ListN.{get_or}
 use Rattle.showing.specs.rules.Inputs.{row_good, row_at, row_digits}
-use borrow.Author.Rules.{rules}
 use Rattle.showing.proofs.rows.row_good.Goals as goal
 
 pub returns : goal.returns

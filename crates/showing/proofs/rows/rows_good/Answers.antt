@@ -1,5 +1,4 @@
 use mathlib.Core.Path.{◌≡◌, refl, ap, ◌∙◌}
-use Prim.Native.Nat.{◌-◌, ◌≤◌}
 use Rattle.judging.specs.rules.Spoiled.{every}
 use Rattle.showing.specs.rules.Inputs.{row_good}
 use Rattle.showing.proofs.ReadLaws.{every_more}

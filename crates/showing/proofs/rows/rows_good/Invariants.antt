@@ -1,10 +1,7 @@
-use mathlib.Core.Path.{◌≡◌, refl, ap, ◌∙◌}
+use mathlib.Core.Path.{◌≡◌}
 use Prim.Native.Nat.{◌-◌, ◌≤◌}
 use Rattle.judging.specs.rules.Spoiled.{every}
 use Rattle.showing.specs.rules.Inputs.{row_good}
-use Rattle.showing.proofs.ReadLaws.{every_more}
-use Rattle.showing.proofs.InputLaws.{row_inside}
-use native.Mathlib.Omega.{arith}
 use Rattle.showing.proofs.rows.rows_good.Given as goal
 
 abbrev pub invariant-loop-y : goal.invariant-loop-y

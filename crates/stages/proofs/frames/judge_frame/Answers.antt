@@ -1,5 +1,3 @@
-use borrow.Author.Rules.{rules}
-use native.Mathlib.Omega.{arith}
 use Rattle.memory.proofs.PlaneLaws.{product-fits}
 use Rattle.stages.specs.rules.Frames.{frame_refusal}
 use Rattle.stages.proofs.frames.judge_frame.Goals as goal

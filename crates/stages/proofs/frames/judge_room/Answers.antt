@@ -1,4 +1,3 @@
-use borrow.Author.Rules.{rules}
 use Rattle.stages.specs.rules.Frames.{room_refusal}
 use Rattle.stages.proofs.frames.judge_room.Goals as goal
 

@@ -1,6 +1,5 @@
 use mathlib.Core.Path.{refl}
 use Rattle.stages.specs.rules.Levels.{holds_row}
-use borrow.Author.Rules.{rules}
 use Rattle.stages.proofs.levels.holds_row.Goals as goal
 
 -- `stages::levels::holds_row` meets its contract, test by test. Assumes nothing.

@@ -3,7 +3,6 @@ use Prim.Native.Nat.{◌≤◌, ◌*◌}
 use native.Mathlib.Nat.{mul-le-mul}
 use native.Mathlib.Omega.{arith}
 use Rattle.stages.specs.rules.Levels.{lent_fits}
-use borrow.Author.Rules.{rules}
 use Rattle.stages.proofs.levels.lent_fits.Goals as goal
 
 -- `stages::levels::lent_fits` meets its contract: the products fit. Assumes nothing.

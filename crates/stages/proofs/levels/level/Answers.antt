@@ -1,11 +1,8 @@
 use mathlib.Core.Path.{ap, ◌∙◌}
-use mathlib.Core.List.{List}
-use native.Mathlib.Omega.{arith}
 use Rattle.memory.specs.rules.Words.{over}
 use Rattle.levelling.specs.rules.Frames.{Frame}
 use Rattle.levelling.specs.rules.Planes.{levelled}
 use Rattle.levelling.proofs.ShearParts.{parts_are, parts-fit}
-use borrow.Author.Rules.{rules}
 use Rattle.stages.proofs.levels.level.Goals as goal
 
 -- `stages::levels::level` meets its contract: the words that were filled are the frame's own shears. Assumes nothing.

@@ -1,7 +1,6 @@
 use mathlib.Core.Path.{ap, ◌∙◌}
 use Rattle.params.specs.declared.LayoutParams.{LayoutParams}
 use Rattle.levelling.specs.rules.Shears.{applied}
-use borrow.Author.Rules.{rules}
 use Rattle.stages.proofs.levels.novlizeb_applied.Goals as goal
 
 -- `stages::levels::novlizeb_applied` promises what `levelling::applied` does. Assumes nothing.

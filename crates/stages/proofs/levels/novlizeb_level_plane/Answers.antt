@@ -1,8 +1,6 @@
 use mathlib.Core.Bool.{not}
 use mathlib.Core.Path.{ap}
-use native.Mathlib.Omega.{arith}
 use Rattle.stages.proofs.LevelLaws.{limits-held, lent-held, outside, too_short, moved}
-use borrow.Author.Rules.{rules}
 use Rattle.stages.proofs.levels.novlizeb_level_plane.Goals as goal
 
 -- `stages::levels::novlizeb_level_plane` meets its contract: outside the limits, too short, or moved. Assumes nothing.

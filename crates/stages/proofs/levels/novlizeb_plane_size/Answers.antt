@@ -1,7 +1,6 @@
 use mathlib.Core.Bool.{not}
 use mathlib.Core.Path.{ap}
 use Rattle.stages.proofs.LevelLaws.{limits-held, frame-outside, frame-inside}
-use borrow.Author.Rules.{rules}
 use Rattle.stages.proofs.levels.novlizeb_plane_size.Goals as goal
 
 -- `stages::levels::novlizeb_plane_size` promises what `levelling::frame_size` does, within the limits. Assumes nothing.

@@ -1,7 +1,6 @@
 use mathlib.Core.Path.{ap, ◌∙◌}
 use Rattle.memory.specs.declared.rect.Rect.{Rect}
 use Rattle.stages.specs.rules.Levels.{corner_word}
-use borrow.Author.Rules.{rules}
 use Rattle.stages.proofs.levels.novlizeb_rect_to_page_end.Goals as goal
 
 -- `stages::levels::novlizeb_rect_to_page_end` promises a corner of what `page_rect` does. Assumes nothing.

@@ -3,7 +3,6 @@ use mathlib.Core.Path.{ap}
 use native.Mathlib.Omega.{arith}
 use lib.ListN.{length-take, length-drop}
 use Rattle.stages.proofs.MapLaws.{rows-held, rect-none, rect-some}
-use borrow.Author.Rules.{rules}
 use Rattle.stages.proofs.levels.page_rect.Goals as goal
 
 -- `stages::levels::page_rect` promises what `levelling::rect_to_page` does, of the shears that the words hold. Assumes nothing.

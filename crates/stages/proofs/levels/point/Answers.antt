@@ -3,7 +3,6 @@ use mathlib.Core.Path.{ap}
 use native.Mathlib.Omega.{arith}
 use lib.ListN.{length-take, length-drop}
 use Rattle.stages.proofs.MapLaws.{row-held, point-none, point-some}
-use borrow.Author.Rules.{rules}
 use Rattle.stages.proofs.levels.point.Goals as goal
 
 -- `stages::levels::point` promises what `levelling::to_page` does, of the shears that the words hold. Assumes nothing.

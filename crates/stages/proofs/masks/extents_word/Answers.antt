@@ -1,5 +1,4 @@
 use mathlib.Core.Path.{sym, ap}
-use borrow.Author.Rules.{rules}
 use Rattle.stages.specs.rules.ExtentAnswers.{extents_word}
 use Rattle.stages.proofs.masks.extents_word.Goals as goal
 

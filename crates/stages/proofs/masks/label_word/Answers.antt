@@ -1,5 +1,4 @@
 use mathlib.Core.Path.{sym, ap}
-use borrow.Author.Rules.{rules}
 use Rattle.stages.specs.rules.LabelAnswers.{label_word}
 use Rattle.stages.proofs.masks.label_word.Goals as goal
 

@@ -1,4 +1,3 @@
-use borrow.Author.Rules.{rules}
 use Rattle.stages.proofs.LabelAnswerLaws.{label-told}
 use Rattle.stages.proofs.masks.novlizeb_label.Goals as goal
 

@@ -1,4 +1,3 @@
-use borrow.Author.Rules.{rules}
 use Rattle.stages.proofs.ExtentAnswerLaws.{extents-told}
 use Rattle.stages.proofs.masks.novlizeb_run_extents.Goals as goal
 

@@ -1,9 +1,7 @@
-use borrow.Author.Rules.{rules}
 use mathlib.Core.Path.{ap, ◌∙◌}
 use mathlib.Core.Bool.{not}
 use lib.Dec.{ltb}
 use Rattle.memory.specs.rules.Refusals.{refuse_if}
-use Rattle.segmenting.specs.rules.Results.{result_words}
 use Rattle.stages.specs.rules.Frames.{room_refusal}
 use Rattle.stages.specs.rules.Pages.{lent_refusal}
 use Rattle.stages.proofs.pages.judge_lent.Goals as goal

@@ -1,4 +1,3 @@
-use borrow.Author.Rules.{rules}
 use Rattle.stages.specs.rules.Pages.{plane_refusal}
 use Rattle.stages.proofs.pages.judge_plane.Goals as goal
 

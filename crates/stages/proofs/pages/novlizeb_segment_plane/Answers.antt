@@ -1,7 +1,6 @@
 use native.Mathlib.Omega.{arith}
-use borrow.Author.Rules.{rules}
 use mathlib.Core.Path.{sym}
-use lib.Seq.{length-take-le, length_front}
+use lib.Seq.{length-take-le}
 use Rattle.stages.proofs.PageLaws.{refused-plane, page-plane, refused-lent, page-lent, page-room, page-done}
 use Rattle.stages.proofs.pages.novlizeb_segment_plane.Goals as goal
 

@@ -1,4 +1,3 @@
-use borrow.Author.Rules.{rules}
 use mathlib.Core.Path.{sym, ap, ◌∙◌}
 use Rattle.segmenting.specs.rules.Answers.{segment_number}
 use Rattle.segmenting.specs.declared.page.SegmentAnswer.{SegmentAnswer}

@@ -1,7 +1,6 @@
-use borrow.Author.Rules.{rules}
 use native.Mathlib.Omega.{arith}
 use mathlib.Core.Path.{sym, subst}
-use lib.Seq.{length-take-le, length_front}
+use lib.Seq.{length-take-le}
 use Rattle.sorting.specs.stages.SortSteps.{sort_left}
 use Rattle.sorting.specs.declared.sort.SortAnswer.{SortAnswer}
 use Rattle.stages.proofs.SortedPageLaws.{few-sorted, sort-plane, sort-frame, sort-refused, sort-lent, sort-room, sort-many, sort-done}

@@ -1,5 +1,4 @@
 use native.Mathlib.Omega.{arith}
-use borrow.Author.Rules.{rules}
 use Rattle.sorting.proofs.PlanLaws.{frame-of, plan-dots, planned}
 use Rattle.stages.proofs.sorted_pages.sort_by_plan.Goals as goal
 

@@ -1,8 +1,7 @@
-use borrow.Author.Rules.{rules}
 use native.Mathlib.Omega.{arith}
 use mathlib.Core.Path.{sym, subst}
 use Prim.Native.Nat.{ℕ, ◌<◌}
-use lib.Seq.{length-take-le, length_front}
+use lib.Seq.{length-take-le}
 use Rattle.sorting.specs.rules.Capacity.{most_cuts}
 use Rattle.sorting.specs.stages.SortSteps.{CutsHeld, cuts_left}
 use Rattle.sorting.specs.declared.sort.CutAnswer.{CutAnswer}

@@ -1,5 +1,4 @@
 use Rattle.stages.proofs.KindLaws.{kind-told}
-use borrow.Author.Rules.{rules}
 use Rattle.stages.proofs.sorting_parts.novlizeb_kind_by_size.Goals as goal
 
 -- `stages::sorting_parts::novlizeb_kind_by_size` promises what `sorting::kind_by_size` does. Assumes nothing.

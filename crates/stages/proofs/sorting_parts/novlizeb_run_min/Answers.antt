@@ -1,7 +1,6 @@
 use mathlib.Core.Path.{ap, ◌∙◌}
 use Rattle.params.specs.declared.LayoutParams.{LayoutParams}
 use Rattle.rulings.specs.rules.Rulings.{run_min}
-use borrow.Author.Rules.{rules}
 use Rattle.stages.proofs.sorting_parts.novlizeb_run_min.Goals as goal
 
 -- `stages::sorting_parts::novlizeb_run_min` promises what `rulings::run_min` does. Assumes nothing.

@@ -1,7 +1,6 @@
 use mathlib.Core.Path.{ap, ◌∙◌}
 use Rattle.params.specs.declared.LayoutParams.{LayoutParams}
 use Rattle.rulings.specs.rules.Rulings.{thick_max}
-use borrow.Author.Rules.{rules}
 use Rattle.stages.proofs.sorting_parts.novlizeb_thick_max.Goals as goal
 
 -- `stages::sorting_parts::novlizeb_thick_max` promises what `rulings::thick_max` does. Assumes nothing.

@@ -5,7 +5,6 @@ use Prim.Native.Nat.{◌-◌}
 use lib.ListN.{length}
 use Rattle.stages.specs.rules.Sorting.{rulings_fit}
 use Rattle.stages.proofs.RulingLaws.{rulings-held, rulings-refused, rulings-marked}
-use borrow.Author.Rules.{rules}
 use Rattle.stages.proofs.sorting_parts.novlizeb_thin_rulings.Goals as goal
 
 -- `stages::sorting_parts::novlizeb_thin_rulings` promises what `rulings::mark_rulings` does, where all fits. Assumes nothing.

@@ -1,5 +1,4 @@
 use Rattle.stages.proofs.RulingLaws.{fit_is}
-use borrow.Author.Rules.{rules}
 use Rattle.stages.proofs.sorting_parts.rulings_fit.Goals as goal
 
 -- `stages::sorting_parts::rulings_fit` meets its contract, test by test. Assumes nothing.

@@ -1,4 +1,3 @@
-use borrow.Author.Rules.{rules}
 use Rattle.store.proofs.EntryLaws.{clear-no, clear-yes}
 use Rattle.store.proofs.clearing.clear.Goals as goal
 

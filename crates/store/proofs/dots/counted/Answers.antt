@@ -6,7 +6,6 @@ use lib.Seq.{length-take-le}
 use Rattle.grouping.specs.rules.Readings.{listed}
 use Rattle.store.specs.stages.Areas.{words_frame, words_kinds}
 use Rattle.store.proofs.DotReads.{cut-words, cut-count, count_low}
-use borrow.Author.Rules.{rules}
 use Rattle.store.proofs.dots.counted.Goals as goal
 
 -- `store::dots::counted` meets its contract. Assumes nothing.

@@ -2,7 +2,6 @@ use native.Mathlib.Omega.{arith}
 use Rattle.store.specs.rules.Readings.{ResultReading}
 use Rattle.store.proofs.ToldLaws.{told-refused, told-good}
 use Rattle.store.proofs.DotReads.{here, kind-low, dots-bad, dots-short, dots-room, dots-done}
-use borrow.Author.Rules.{rules}
 use Rattle.store.proofs.dots.read_dots.Goals as goal
 
 -- `store::dots::read_dots` meets its contract. Assumes nothing.

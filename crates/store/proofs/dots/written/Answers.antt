@@ -6,7 +6,6 @@ use lib.Seq.{length-take-le}
 use Rattle.memory.specs.rules.Words.{over}
 use Rattle.store.specs.stages.Areas.{words_kinds}
 use Rattle.store.proofs.DotReads.{cut-words, cut-count, cut_list}
-use borrow.Author.Rules.{rules}
 use Rattle.store.proofs.dots.written.Goals as goal
 
 -- `store::dots::written` meets its contract. Assumes nothing.

@@ -1,6 +1,5 @@
 use Rattle.judging.specs.rules.Header.{part}
 use Rattle.store.proofs.TellLaws.{put_one, put-zero}
-use borrow.Author.Rules.{rules}
 use Rattle.store.proofs.figures.put_figures.Goals as goal
 
 -- `store::figures::put_figures` meets its contract. Assumes nothing.

@@ -1,5 +1,4 @@
 use Rattle.store.proofs.TellLaws.{figures-refused, figures-room, figures-done}
-use borrow.Author.Rules.{rules}
 use Rattle.store.proofs.figures.read_figures.Goals as goal
 
 -- `store::figures::read_figures` meets its contract. Assumes nothing.

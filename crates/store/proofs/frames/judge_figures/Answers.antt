@@ -1,5 +1,4 @@
 use Rattle.judging.proofs.LevelLaws.{header-passed, level-stopped, level-judged}
-use borrow.Author.Rules.{rules}
 use Rattle.store.proofs.frames.judge_figures.Goals as goal
 
 -- `store::frames::judge_figures` meets its contract, test by test. Assumes nothing.

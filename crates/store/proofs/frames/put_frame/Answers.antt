@@ -1,8 +1,6 @@
 use native.Mathlib.Omega.{arith}
-use mathlib.Core.Path.{ap, ◌∙◌}
-use lib.ListN.{length, length-set}
+use lib.ListN.{length-set}
 use Rattle.store.proofs.MappingLaws.{frame-long, frame-written}
-use borrow.Author.Rules.{rules}
 use Rattle.store.proofs.frames.put_frame.Goals as goal
 
 -- `store::frames::put_frame` meets its contract: eight stores over the front. Assumes nothing.

@@ -8,7 +8,6 @@ use Rattle.store.specs.rules.Readings.{LevelReading}
 use Rattle.store.specs.rules.Readings.Output.{words}
 use Rattle.store.specs.rules.Outcomes.{told}
 use Rattle.store.proofs.MappingLaws.{reading-no, reading-yes, frame-read}
-use borrow.Author.Rules.{rules}
 use Rattle.store.proofs.frames.read_frame.Goals as goal
 
 -- `store::frames::read_frame` meets its contract: one judgement, then one worker. Assumes nothing.

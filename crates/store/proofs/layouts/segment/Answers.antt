@@ -1,6 +1,5 @@
 use Rattle.store.proofs.SegmentedLaws.{judged-no}
 use mathlib.Core.Path.{refl}
-use borrow.Author.Rules.{rules}
 use Rattle.store.proofs.layouts.segment.Goals as goal
 
 -- `store::layouts::segment` meets its contract: one judgement, then one worker. Assumes nothing.

@@ -4,7 +4,6 @@ use lib.ListN.{length}
 use Rattle.judging.proofs.SegmentLaws.{segmentable}
 use Rattle.store.proofs.SegmentedLaws.{segment-room, plane-room, start_fits, page-done, past-kept}
 use Rattle.store.specs.rules.Answers.{outcome_number}
-use borrow.Author.Rules.{rules}
 use Rattle.store.proofs.layouts.segment_held.Goals as goal
 
 -- `store::layouts::segment_held` meets its contract: the lists, then the header. Assumes nothing.
@@ -25,8 +24,7 @@ tell-requires c =
 
 pub returns : goal.returns
 returns c =
-    let a = c.args in
-    (
+    let a = c.args in (
       page-done a.sheet a.store.now a.ink.now a.kinds.now (length a.scratch.now) c.requires c.word_at-page_w.result c.word_at-w.result c.word_at-h.result c.word_at-capacity.result c.word_at-page_w.ensures c.word_at-w.ensures c.word_at-h.ensures c.word_at-capacity.ensures c.lists_at-start.result c.lists_at-start.ensures c.segment_parts-answer.result (outcome_number c.tell.result) c.segment_parts-answer.new.store c.segment_parts-answer.new.kinds c.tell.new.store c.segment_parts-answer.ensures.0 c.segment_parts-answer.ensures.1 c.tell.ensures.0 c.tell.ensures.1,
       past-kept a.sheet a.store.now a.ink.now a.kinds.now (length a.scratch.now) c.requires c.word_at-page_w.result c.word_at-w.result c.word_at-h.result c.word_at-capacity.result c.word_at-page_w.ensures c.word_at-w.ensures c.word_at-h.ensures c.word_at-capacity.ensures c.lists_at-start.result c.lists_at-start.ensures a.scratch.now c.segment_parts-answer.new.scratch c.segment_parts-answer.ensures.2,
     )

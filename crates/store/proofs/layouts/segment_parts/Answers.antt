@@ -5,7 +5,6 @@ use native.Mathlib.Omega.{arith}
 use lib.Seq.{length-take-le}
 use Rattle.memory.specs.rules.Limits.{max_frame_width, max_frame_height}
 use Rattle.store.proofs.SegmentedLaws.{parts-room, parts-done}
-use borrow.Author.Rules.{rules}
 use Rattle.store.proofs.layouts.segment_parts.Goals as goal
 
 -- `store::layouts::segment_parts` meets its contract: three parts lent, and put back. Assumes nothing.

@@ -2,7 +2,6 @@ use mathlib.Core.Path.{sym, ap, ◌∙◌}
 use Rattle.segmenting.specs.rules.Answers.{segment_number}
 use Rattle.segmenting.specs.declared.page.SegmentAnswer.{SegmentAnswer}
 use Rattle.store.specs.stages.Heads.{head_left}
-use borrow.Author.Rules.{rules}
 use Rattle.store.proofs.layouts.tell.Goals as goal
 
 -- `store::layouts::tell` meets its contract, case by case. Assumes nothing.

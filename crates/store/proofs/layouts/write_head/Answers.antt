@@ -1,7 +1,6 @@
 use native.Mathlib.Omega.{arith}
 use lib.ListN.{length-set}
-use Rattle.store.proofs.HeadLaws.{head-room, head-kept, head-written}
-use borrow.Author.Rules.{rules}
+use Rattle.store.proofs.HeadLaws.{head-room, head-written}
 use Rattle.store.proofs.layouts.write_head.Goals as goal
 
 -- `store::layouts::write_head` meets its contract: the state, then fifteen words. Assumes nothing.

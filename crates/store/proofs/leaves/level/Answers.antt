@@ -1,8 +1,5 @@
-use mathlib.Core.Bool.{not}
-use mathlib.Core.Path.{ap}
 use Rattle.store.specs.rules.Handed.{leaf_handed}
-use Rattle.store.proofs.EntryLaws.{handed-no, level-sides, level-within, level-few, level-whole, place-no, place-yes, place-done}
-use borrow.Author.Rules.{rules}
+use Rattle.store.proofs.EntryLaws.{handed-no, level-sides, level-within, level-whole, place-no, place-yes, place-done}
 use Rattle.store.proofs.leaves.level.Goals as goal
 
 -- `store::leaves::level` meets its contract: two judgements, then one worker. Assumes nothing.

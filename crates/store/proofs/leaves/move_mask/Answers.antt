@@ -2,7 +2,6 @@ use mathlib.Core.List.{◌++◌}
 use native.Mathlib.Omega.{arith}
 use Rattle.levelling.specs.rules.Frames.{frame}
 use Rattle.segmenting.proofs.PutLaws.{part_length, put-part}
-use borrow.Author.Rules.{rules}
 use Rattle.store.proofs.leaves.move_mask.Goals as goal
 
 -- `store::leaves::move_mask` meets its contract: a part of the store is filled. Assumes nothing.

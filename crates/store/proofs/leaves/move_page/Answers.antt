@@ -4,7 +4,6 @@ use Rattle.levelling.specs.rules.Frames.{Frame}
 use Rattle.levelling.specs.rules.Planes.{levelled}
 use Rattle.levelling.proofs.ShearParts.{parts_are, parts-fit}
 use native.Mathlib.Omega.{arith}
-use borrow.Author.Rules.{rules}
 use Rattle.store.proofs.leaves.move_page.Goals as goal
 
 -- `store::leaves::move_page` meets its contract: the words that were filled are the frame's own shears. Assumes nothing.

@@ -1,4 +1,3 @@
-use borrow.Author.Rules.{rules}
 use Rattle.store.proofs.leaves.write_head.Goals as goal
 
 -- `store::leaves::write_head` meets its contract: ten words over the front. Assumes nothing.

@@ -6,7 +6,6 @@ use Rattle.levelling.specs.rules.Frames.{frame}
 use Rattle.store.specs.rules.Written.{head_words}
 use Rattle.memory.specs.rules.Words.{put_at}
 use Rattle.judging.proofs.PartLaws.{length_over}
-use borrow.Author.Rules.{rules}
 use Rattle.store.proofs.leaves.write_leaf.Goals as goal
 
 -- `store::leaves::write_leaf` meets its contract: the header, then the shears and the plane. Assumes nothing.

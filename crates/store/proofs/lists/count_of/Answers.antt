@@ -1,4 +1,3 @@
-use borrow.Author.Rules.{rules}
 use Rattle.store.proofs.lists.count_of.Goals as goal
 
 -- `store::lists::count_of` meets its contract. Assumes nothing.

@@ -3,7 +3,6 @@ use native.Mathlib.Omega.{arith}
 use Rattle.store.specs.stages.Areas.{which_of}
 use Rattle.store.specs.rules.Readings.{Which}
 use Rattle.store.proofs.TellLaws.{list-start, list-by, which-last}
-use borrow.Author.Rules.{rules}
 use Rattle.store.proofs.lists.list_at.Goals as goal
 
 -- `store::lists::list_at` meets its contract. Assumes nothing.

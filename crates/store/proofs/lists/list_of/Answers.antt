@@ -3,7 +3,6 @@ use Prim.Native.Nat.{◌*◌}
 use native.Mathlib.Omega.{arith}
 use Rattle.store.specs.stages.Areas.{which_of}
 use Rattle.store.proofs.TellLaws.{list-end, list-part}
-use borrow.Author.Rules.{rules}
 use Rattle.store.proofs.lists.list_of.Goals as goal
 
 -- `store::lists::list_of` meets its contract. Assumes nothing.

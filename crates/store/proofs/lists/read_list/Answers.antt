@@ -6,7 +6,6 @@ use Rattle.store.specs.rules.Readings.{ResultReading}
 use Rattle.store.specs.stages.Areas.{which_of}
 use Rattle.store.proofs.ToldLaws.{told-refused, told-good}
 use Rattle.store.proofs.TellLaws.{lists_at_lem, list-short, list_done}
-use borrow.Author.Rules.{rules}
 use Rattle.store.proofs.lists.read_list.Goals as goal
 
 pub returns-then-number-ne0 : goal.returns-then-number-ne0

@@ -1,6 +1,5 @@
 use Rattle.judging.proofs.LevelLaws.{header-passed, level-stopped, level-judged}
 use Rattle.store.proofs.MappingLaws.{box-judged}
-use borrow.Author.Rules.{rules}
 use Rattle.store.proofs.mappings.judge_box.Goals as goal
 
 -- `store::mappings::judge_box` meets its contract, test by test. Assumes nothing.

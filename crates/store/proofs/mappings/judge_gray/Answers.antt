@@ -1,6 +1,5 @@
 use Rattle.judging.proofs.LevelLaws.{header-passed, level-stopped, level-judged}
 use Rattle.store.proofs.MappingLaws.{gray-judged}
-use borrow.Author.Rules.{rules}
 use Rattle.store.proofs.mappings.judge_gray.Goals as goal
 
 -- `store::mappings::judge_gray` meets its contract, test by test. Assumes nothing.

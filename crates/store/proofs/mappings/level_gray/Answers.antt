@@ -5,7 +5,6 @@ use Rattle.store.specs.rules.Readings.{LevelReading}
 use Rattle.store.specs.rules.Readings.Output.{words}
 use Rattle.store.specs.rules.Outcomes.{told}
 use Rattle.store.proofs.MappingLaws.{reading-no, reading-yes}
-use borrow.Author.Rules.{rules}
 use Rattle.store.proofs.mappings.level_gray.Goals as goal
 
 -- `store::mappings::level_gray` meets its contract: one judgement, then one worker. Assumes nothing.

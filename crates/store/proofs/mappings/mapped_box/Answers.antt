@@ -1,5 +1,4 @@
 use Rattle.store.proofs.MappingLaws.{box-named}
-use borrow.Author.Rules.{rules}
 use Rattle.store.proofs.mappings.mapped_box.Goals as goal
 
 -- `store::mappings::mapped_box` meets its contract. Assumes nothing.

@@ -5,7 +5,6 @@ use Rattle.levelling.specs.rules.Frames.{Frame}
 use Rattle.levelling.specs.rules.Planes.{level_gray}
 use Rattle.judging.proofs.LevelLaws.{readable}
 use Rattle.store.proofs.MappingLaws.{wide_by, read-room, frame-of-code, plane-fits}
-use borrow.Author.Rules.{rules}
 use Rattle.store.proofs.mappings.put_gray.Goals as goal
 
 -- `store::mappings::put_gray` meets its contract: the frame of the two parts is the one held. Assumes nothing.

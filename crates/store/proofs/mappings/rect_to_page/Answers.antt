@@ -8,7 +8,6 @@ use Rattle.store.specs.rules.Readings.Output.{integers}
 use Rattle.store.specs.rules.Outcomes.{told}
 use Rattle.judging.proofs.LevelLaws.{readable}
 use Rattle.store.proofs.MappingLaws.{read-room, rows_inside, box-is, box-small, reading-no, reading-yes}
-use borrow.Author.Rules.{rules}
 use Rattle.store.proofs.mappings.rect_to_page.Goals as goal
 
 -- `store::mappings::rect_to_page` meets its contract: one judgement, then one worker. Assumes nothing.

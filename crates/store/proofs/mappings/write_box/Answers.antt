@@ -1,7 +1,6 @@
 use native.Mathlib.Omega.{arith}
 use lib.ListN.{length-set}
 use Rattle.store.proofs.MappingLaws.{box-put}
-use borrow.Author.Rules.{rules}
 use Rattle.store.proofs.mappings.write_box.Goals as goal
 
 -- `store::mappings::write_box` meets its contract: four numbers over the front. Assumes nothing.

@@ -1,7 +1,6 @@
 use native.Mathlib.Omega.{arith}
 use lib.ListN.{length-set}
 use Rattle.store.proofs.LineReads.{twelve}
-use borrow.Author.Rules.{rules}
 use Rattle.store.proofs.measures.put_summary.Goals as goal
 
 -- `store::measures::put_summary` meets its contract. Assumes nothing.

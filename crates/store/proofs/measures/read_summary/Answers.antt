@@ -3,7 +3,6 @@ use lib.ListN.{length}
 use Rattle.store.specs.rules.Readings.{ResultReading}
 use Rattle.store.proofs.ToldLaws.{told-refused, told-good}
 use Rattle.store.proofs.LineReads.{lines_at_lem, dots-fit, summary-done}
-use borrow.Author.Rules.{rules}
 use Rattle.store.proofs.measures.read_summary.Goals as goal
 
 -- `store::measures::read_summary` meets its contract. Assumes nothing.

@@ -1,5 +1,4 @@
 use Rattle.store.proofs.LineReads.{summary-by}
-use borrow.Author.Rules.{rules}
 use Rattle.store.proofs.measures.summary_of.Goals as goal
 
 -- `store::measures::summary_of` meets its contract. Assumes nothing.

@@ -1,8 +1,6 @@
-use native.Mathlib.Omega.{arith}
 use Rattle.store.specs.rules.Readings.{ResultReading}
 use Rattle.store.proofs.ToldLaws.{told-refused, told-good}
 use Rattle.store.proofs.LineReads.{lines_at_lem, twenty-done}
-use borrow.Author.Rules.{rules}
 use Rattle.store.proofs.measures.twenty_line_measure.Goals as goal
 
 -- `store::measures::twenty_line_measure` meets its contract. Assumes nothing.

@@ -1,6 +1,5 @@
 use native.Mathlib.Omega.{arith}
 use Rattle.store.proofs.LineReads.{lines-asked, height-found}
-use borrow.Author.Rules.{rules}
 use Rattle.store.proofs.medians.height_read.Goals as goal
 
 -- `store::medians::height_read` meets its contract. Assumes nothing.

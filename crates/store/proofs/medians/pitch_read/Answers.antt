@@ -1,6 +1,5 @@
 use native.Mathlib.Omega.{arith}
 use Rattle.store.proofs.LineReads.{lines-asked, pitch-found}
-use borrow.Author.Rules.{rules}
 use Rattle.store.proofs.medians.pitch_read.Goals as goal
 
 -- `store::medians::pitch_read` meets its contract. Assumes nothing.

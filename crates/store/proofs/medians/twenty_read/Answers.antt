@@ -1,6 +1,5 @@
 use native.Mathlib.Omega.{arith}
 use Rattle.store.proofs.LineReads.{lines-asked, twenty-found}
-use borrow.Author.Rules.{rules}
 use Rattle.store.proofs.medians.twenty_read.Goals as goal
 
 -- `store::medians::twenty_read` meets its contract. Assumes nothing.

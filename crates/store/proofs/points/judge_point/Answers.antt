@@ -1,6 +1,5 @@
 use Rattle.judging.proofs.LevelLaws.{header-passed, level-stopped, level-judged}
 use Rattle.store.proofs.MappingLaws.{point-judged}
-use borrow.Author.Rules.{rules}
 use Rattle.store.proofs.points.judge_point.Goals as goal
 
 -- `store::points::judge_point` meets its contract, test by test. Assumes nothing.

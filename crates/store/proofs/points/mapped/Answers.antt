@@ -1,5 +1,4 @@
 use Rattle.store.proofs.PointLaws.{parts-named}
-use borrow.Author.Rules.{rules}
 use Rattle.store.proofs.points.mapped.Goals as goal
 
 -- `store::points::mapped` meets its contract. Assumes nothing.

@@ -1,5 +1,4 @@
 use Rattle.store.proofs.PointLaws.{small_word, point-put}
-use borrow.Author.Rules.{rules}
 use Rattle.store.proofs.points.put_point.Goals as goal
 
 -- `store::points::put_point` meets its contract. Assumes nothing.

@@ -10,7 +10,6 @@ use Rattle.store.specs.rules.Readings.Output.{integers}
 use Rattle.store.specs.rules.Outcomes.{told}
 use Rattle.store.proofs.MappingLaws.{reading-no, reading-yes}
 use Rattle.store.proofs.PointLaws.{map-room, point-is, point-small, mappable}
-use borrow.Author.Rules.{rules}
 use Rattle.store.proofs.points.to_page.Goals as goal
 
 -- `store::points::to_page` meets its contract: one judgement, then one worker. Assumes nothing.

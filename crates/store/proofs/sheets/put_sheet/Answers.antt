@@ -2,7 +2,6 @@ use native.Mathlib.Omega.{arith}
 use lib.ListN.{length}
 use Rattle.judging.specs.rules.Header.{part}
 use Rattle.store.proofs.SheetReads.{lists-begin, lists-in, sheet-room, sheet-written}
-use borrow.Author.Rules.{rules}
 use Rattle.store.proofs.sheets.put_sheet.Goals as goal
 
 pub offset_bounds-store-at : goal.offset_bounds-store-at

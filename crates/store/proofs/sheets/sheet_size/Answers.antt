@@ -2,7 +2,6 @@ use mathlib.Core.Path.{◌∙◌, sym}
 use native.Mathlib.Omega.{arith}
 use Rattle.judging.specs.rules.Header.{part}
 use Rattle.store.proofs.SheetReads.{sheet-long, sheet-small}
-use borrow.Author.Rules.{rules}
 use Rattle.store.proofs.sheets.sheet_size.Goals as goal
 
 pub returns : goal.returns

@@ -3,7 +3,6 @@ use Rattle.store.specs.rules.Readings.{ResultReading}
 use Rattle.store.proofs.ToldLaws.{told-refused, told-good}
 use Rattle.store.proofs.TellLaws.{lists_at_lem}
 use Rattle.store.proofs.SheetReads.{sheet-short, sheet-done}
-use borrow.Author.Rules.{rules}
 use Rattle.store.proofs.sheets.write_sheet.Goals as goal
 
 pub returns-then-number-ne0 : goal.returns-then-number-ne0
