@@ -40,7 +40,9 @@ pub extern "C" fn novlizeb_cut_rulings(
 ) -> u32
     ensures { told result counts.new (length words.new) (drop (scratch_words (width * height) capacity) words.new) ≡ cut_rulings run_min thick_max width height ink.now capacity words.old counts.old }
 {
-    stages::novlizeb_cut_rulings(ink, width, height, run_min, thick_max, capacity, words, counts)
+    stages::novlizeb_cut_rulings(
+        ink, width, height, run_min, thick_max, capacity, words, counts,
+    )
 }
 
 // The least run of a thin ruling, in dots.
@@ -78,5 +80,18 @@ pub extern "C" fn novlizeb_kind_by_size(
 ) -> u32
     ensures { result ≡ kind_by_size (size_sheet glyph_min_area glyph_max_extent_frac rule_min_len_xh rule_max_thick_xh float_zero graphic_min_xh) value w h area width height }
 {
-    stages::novlizeb_kind_by_size(glyph_min_area, glyph_max_extent_frac, rule_min_len_xh, rule_max_thick_xh, graphic_min_xh, measured, value, w, h, area, width, height)
+    stages::novlizeb_kind_by_size(
+        glyph_min_area,
+        glyph_max_extent_frac,
+        rule_min_len_xh,
+        rule_max_thick_xh,
+        graphic_min_xh,
+        measured,
+        value,
+        w,
+        h,
+        area,
+        width,
+        height,
+    )
 }

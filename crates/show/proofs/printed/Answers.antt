@@ -1,5 +1,4 @@
 use mathlib.Core.Path.{◌∙◌}
-use borrow.Author.Rules.{rules}
 use Rattle.store.specs.rules.Answers.{answer_number}
 use Rattle.store.specs.rules.Readings.Output.{words}
 use Rattle.store.specs.rules.Outcomes.{told}

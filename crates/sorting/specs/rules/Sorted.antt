@@ -1,5 +1,5 @@
 -- A whole ink plane sorted (01, parts 4 to 6).
-use Rattle.std.specs.Prelude.{ℕ, ◌+◌, ◌*◌, List, [], ◌∷◌, ◌++◌, map, eqb}
+use Rattle.std.specs.Prelude.{ℕ, ◌+◌, ◌*◌, List, ◌++◌, map, eqb}
 use Rattle.memory.specs.rules.Lists.{table, keep, occurs}
 use Rattle.labelling.specs.rules.Components.{box_of}
 use Rattle.labelling.specs.rules.Labels.{Labelling, labelling}

@@ -1,4 +1,3 @@
-use borrow.Author.Rules.{rules}
 use mathlib.Core.Path.{sym, subst}
 use mir.Syntax.{w32, w64}
 use mir.Val.{SFits}

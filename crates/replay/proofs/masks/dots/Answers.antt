@@ -1,7 +1,6 @@
 use Prim.Native.Nat.{◌≤◌, ◌*◌}
 use native.Mathlib.Nat.{mul-le-mul}
 use native.Mathlib.Omega.{arith}
-use borrow.Author.Rules.{rules}
 use Rattle.replay.proofs.masks.dots.Goals as goal
 
 -- `replay::masks::dots` is safe: the product of two numbers below 2 ^ 32 is below 2 ^ 64. Assumes nothing.

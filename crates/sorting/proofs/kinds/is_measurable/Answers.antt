@@ -2,7 +2,6 @@ use Rattle.sorting.specs.rules.Units.{measurable, under_extents}
 use native.Mathlib.Omega.{arith}
 use mathlib.Core.Path.{ap}
 use Rattle.memory.specs.declared.rect.Rect.{Rect}
-use borrow.Author.Rules.{rules}
 use Rattle.sorting.proofs.kinds.is_measurable.Goals as goal
 
 pub width-width-requires : goal.width-width-requires

@@ -2,7 +2,6 @@ use mathlib.Core.Path.{sym, ap, ◌∙◌}
 use Rattle.sorting.specs.rules.Units.{unit_value}
 use Rattle.sorting.specs.rules.Kinds.{kind_by_size}
 use Rattle.sorting.specs.declared.Unit.{Unit}
-use borrow.Author.Rules.{rules}
 use Rattle.sorting.proofs.kinds.kind_by_size.Goals as goal
 
 pub returns-in-Measured : goal.returns-in-Measured

@@ -1,4 +1,3 @@
-use borrow.Author.Rules.{rules}
 use mathlib.Core.Path.{◌∙◌}
 use mathlib.Core.Bool.{cond, ◌||◌}
 use Rattle.sorting.specs.rules.Kinds.{rule_kind, graphic_kind, is_rule}

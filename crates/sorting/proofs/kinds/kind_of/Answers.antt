@@ -1,7 +1,6 @@
 use native.Mathlib.Omega.{arith}
 use mathlib.Core.Path.{ap}
 use Rattle.memory.specs.declared.rect.Rect.{Rect}
-use borrow.Author.Rules.{rules}
 use Rattle.sorting.proofs.kinds.kind_of.Goals as goal
 
 pub width-requires : goal.width-requires

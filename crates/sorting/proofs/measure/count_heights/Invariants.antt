@@ -1,13 +1,5 @@
-use native.Mathlib.Omega.{arith}
-use Prim.Native.Nat.{ℕ, ◌-◌, ◌≤◌, zero-le}
-use mathlib.Core.Path.{◌≡◌, sym, ◌∙◌, subst}
-use Rattle.sorting.specs.rules.Units.{measurable}
-use Rattle.memory.specs.rules.Rects.{height}
-use Rattle.labelling.specs.rules.Components.{box_of}
-use Rattle.memory.specs.stages.Boxes.{Inside}
-use Rattle.labelling.specs.declared.component.Component.{Component}
+use Prim.Native.Nat.{◌-◌, ◌≤◌}
 use Rattle.sorting.specs.stages.Measures.{HeightsCounted}
-use Rattle.sorting.proofs.HeightLaws.{counted_none, counted_same, counted-few, counted-more, one_at_most}
 use Rattle.sorting.proofs.measure.count_heights.Given as goal
 
 abbrev pub invariant-loop-k : goal.invariant-loop-k

@@ -1,12 +1,6 @@
-use native.Mathlib.Omega.{arith}
-use Prim.Native.Nat.{◌+◌, ◌-◌, ◌*◌, ◌≤◌, zero-le}
-use mathlib.Core.Path.{◌≡◌, refl, ap, ◌∙◌}
-use Rattle.labelling.specs.declared.component.Component.{Component}
-use lib.ListN.{length-set}
+use Prim.Native.Nat.{◌-◌, ◌*◌, ◌≤◌}
 use Rattle.memory.specs.stages.Stored.{Stored}
 use Rattle.sorting.specs.stages.Measures.{box_word}
-use Rattle.memory.proofs.StoredLaws.{stored-none, stored_more, stored-count}
-use Rattle.sorting.proofs.SizedLaws.{sized_past, box-word-first, box-word-second}
 use Rattle.sorting.proofs.measure.pack_boxes.Given as goal
 
 abbrev pub invariant-loop-k : goal.invariant-loop-k

@@ -1,5 +1,5 @@
 use native.Mathlib.Omega.{arith}
-use Prim.Native.Nat.{ℕ, ◌-◌, ◌≤◌, zero-le}
+use Prim.Native.Nat.{ℕ, zero-le}
 use mathlib.Core.Path.{◌≡◌, ap, ◌∙◌}
 use Rattle.memory.specs.rules.Lists.{table, total}
 use Rattle.sorting.specs.stages.Measures.{sized_at}

@@ -1,9 +1,7 @@
-use native.Mathlib.Omega.{arith}
-use Prim.Native.Nat.{ℕ, ◌-◌, ◌≤◌, zero-le}
-use mathlib.Core.Path.{◌≡◌, ap, ◌∙◌}
+use Prim.Native.Nat.{◌-◌, ◌≤◌}
+use mathlib.Core.Path.{◌≡◌}
 use Rattle.memory.specs.rules.Lists.{table, total}
 use Rattle.sorting.specs.stages.Measures.{sized_at}
-use Rattle.sorting.proofs.AreaLaws.{areas-none, areas-more, areas-fit}
 use Rattle.sorting.proofs.measure.total_area.Given as goal
 
 abbrev pub invariant-loop-k : goal.invariant-loop-k

@@ -1,5 +1,4 @@
 use native.Mathlib.Omega.{arith}
-use borrow.Author.Rules.{rules}
 use Rattle.sorting.proofs.HeightLaws.{unit-none, unit-some}
 use Rattle.sorting.proofs.measure.unit_from.Goals as goal
 

@@ -1,12 +1,11 @@
 use native.Mathlib.Omega.{arith}
-use Prim.Native.Nat.{◌+◌, ◌-◌, ◌≤◌, ◌<◌, zero-le}
+use Prim.Native.Nat.{◌+◌, ◌<◌, zero-le}
 use mathlib.Core.Path.{◌≡◌, refl, sym, ap, ◌∙◌, subst}
 use Rattle.labelling.specs.declared.component.Component.{Component}
 use Rattle.memory.specs.stages.Boxes.{Inside}
 use Rattle.labelling.specs.rules.Components.{box_of}
 use Rattle.sorting.specs.rules.Units.{unit_value}
 use Rattle.sorting.specs.rules.Kinds.{kind_of}
-use Rattle.memory.specs.stages.Stored.{Stored}
 use Rattle.sorting.specs.stages.Measures.{sized_at}
 use Rattle.memory.proofs.StoredLaws.{stored-none, stored_more, stored-count}
 use Rattle.sorting.proofs.SizedLaws.{sized-before}

@@ -1,10 +1,8 @@
 use native.Mathlib.Omega.{arith}
 use mathlib.Core.Path.{◌≡◌, refl, ap, ◌∙◌}
-use Prim.Native.Nat.{◌≤◌, ◌-◌}
 use lib.ListN.{length, take}
 use Rattle.memory.specs.rules.Lists.{total}
 use Rattle.sorting.proofs.Medians.{counts-median, counts-none, counts-loop}
-use Rattle.memory.specs.rules.Lists as Lists
 use Rattle.sorting.proofs.median.median_of_counts.Goals as goal
 
 pub loop-v-init : goal.loop-v-init

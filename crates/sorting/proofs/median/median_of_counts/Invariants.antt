@@ -1,9 +1,7 @@
-use native.Mathlib.Omega.{arith}
-use mathlib.Core.Path.{◌≡◌, refl, ap, ◌∙◌}
+use mathlib.Core.Path.{◌≡◌}
 use Prim.Native.Nat.{◌≤◌, ◌-◌}
 use lib.ListN.{length, take}
 use Rattle.memory.specs.rules.Lists.{total}
-use Rattle.sorting.proofs.Medians.{counts-median, counts-none, counts-loop}
 use Rattle.memory.specs.rules.Lists as Lists
 use Rattle.sorting.proofs.median.median_of_counts.Given as goal
 

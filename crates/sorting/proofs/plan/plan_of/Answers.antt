@@ -1,4 +1,3 @@
-use borrow.Author.Rules.{rules}
 use Rattle.sorting.proofs.plan.plan_of.Goals as goal
 
 pub returns : goal.returns

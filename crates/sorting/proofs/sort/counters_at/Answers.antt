@@ -3,7 +3,6 @@ use Prim.Native.Nat.{◌+◌, ◌*◌, ◌≤◌}
 use borrow.Author.Tests.{leb-true}
 use lib.Dec.{leb}
 use Rattle.memory.proofs.BoolLaws.{and_left, and_right}
-use borrow.Author.Rules.{rules}
 use Rattle.sorting.proofs.sort.counters_at.Goals as goal
 
 pub returns-then-at-w : goal.returns-then-at-w

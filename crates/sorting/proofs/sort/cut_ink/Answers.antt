@@ -1,6 +1,5 @@
 use native.Mathlib.Omega.{arith}
 use Rattle.sorting.proofs.SortLaws.{ink-cut}
-use borrow.Author.Rules.{rules}
 use Rattle.sorting.proofs.sort.cut_ink.Goals as goal
 
 pub returns : goal.returns

@@ -1,11 +1,9 @@
 use native.Mathlib.Omega.{arith}
-use borrow.Author.Tests.{not-true}
 use Prim.Native.Nat.{◌≤◌}
 use mathlib.Core.Path.{◌∙◌}
 use Rattle.sorting.specs.stages.SortSteps.{passed}
 use Rattle.sorting.proofs.PlanLaws.{plan-marked, plan-sizes, marked-at, frame-kept}
 use Rattle.sorting.proofs.SortLaws.{left-boxes, cut-none, cut-many, cut-done}
-use borrow.Author.Rules.{rules}
 use Rattle.sorting.proofs.sort.label_cut.Goals as goal
 
 pub returns-then-not-found : goal.returns-then-not-found

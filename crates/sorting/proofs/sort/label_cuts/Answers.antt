@@ -3,7 +3,6 @@ use mathlib.Core.Path.{◌∙◌}
 use Rattle.labelling.specs.declared.marked.Test.TheVariants.{Second}
 use Rattle.sorting.proofs.PlanLaws.{frame-kept}
 use Rattle.sorting.proofs.SortLaws.{cut_at, still-blank, cuts_first, cuts-second, cuts-done}
-use borrow.Author.Rules.{rules}
 use Rattle.sorting.proofs.sort.label_cuts.Goals as goal
 
 pub label_cut-horizontal-requires : goal.label_cut-horizontal-requires

@@ -1,10 +1,8 @@
 use native.Mathlib.Omega.{arith}
-use mathlib.Core.Path.{sym, ap, ◌∙◌, subst}
-use Rattle.sorting.specs.stages.Scratch.{Planned}
+use mathlib.Core.Path.{ap, ◌∙◌}
 use Rattle.sorting.specs.declared.plan.Plan.{Plan}
 use Rattle.sorting.proofs.PlanLaws.{plan-dots, plan-across, plan-down, plan-rulings, frame-kept, planned}
 use Rattle.sorting.proofs.SortLaws.{cut-marked, told-first, told-second}
-use borrow.Author.Rules.{rules}
 use Rattle.sorting.proofs.sort.label_rulings.Goals as goal
 
 pub plan_of-plan-requires : goal.plan_of-plan-requires

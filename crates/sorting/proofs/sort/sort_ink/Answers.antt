@@ -3,7 +3,6 @@ use Prim.Native.Nat.{◌≤◌}
 use mathlib.Core.Path.{◌∙◌}
 use Rattle.sorting.proofs.PlanLaws.{plan-extract, plan-sizes, plan-down, plan-dots, frame-of, frame-kept, room-kept}
 use Rattle.sorting.proofs.SortLaws.{runs-held, left-inside, left-many, left-areas, ink-few, first-held, sort-many}
-use borrow.Author.Rules.{rules}
 use Rattle.sorting.proofs.sort.sort_ink.Goals as goal
 
 pub extract_runs-runs-requires : goal.extract_runs-runs-requires

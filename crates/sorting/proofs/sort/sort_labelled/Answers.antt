@@ -10,7 +10,6 @@ use Rattle.sorting.specs.stages.SortSteps.{cuts_left}
 use Rattle.sorting.specs.declared.sort.CutAnswer.{CutAnswer}
 use Rattle.sorting.proofs.PlanLaws.{plan-across, plan-down, plan-dots, plan-rulings, frame-of, frame-kept}
 use Rattle.sorting.proofs.SortLaws.{told-first, told-second, first_runs, first_inside, first-many, first_done, first-still}
-use borrow.Author.Rules.{rules}
 use Rattle.sorting.proofs.sort.sort_labelled.Goals as goal
 
 pub counters_at-at-requires : goal.counters_at-at-requires
