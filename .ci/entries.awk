@@ -7,9 +7,7 @@ FNR == 1 { split("", stage); entry = "" }
     n = split(names, each, /, */)
     for (i = 1; i <= n; i++) stage[each[i]] = 1
 }
-/^ *pub (extern "C" )?fn / { entry = $0; promise = ""; demands = 0; next }
-entry != "" && /requires ([a-z0-9_]* )?\{/ { demands = 1 }
-entry != "" && /(ensures|requires) ([a-z0-9_]* )?\{/ { promise = promise " " $0 }
+/^ *pub (extern "C" )?fn / { entry = $0; promise = ""; demands = 0; clauses = 0; next }
 entry != "" && /^ *\{$/ {
     gsub(/[][(){}.,;]/, " ", promise)
     n = split(promise, word, / +/)
@@ -17,4 +15,8 @@ entry != "" && /^ *\{$/ {
         if (word[i] in stage) { print FILENAME ": " entry " names " word[i]; found = 1; break }
     entry = ""
 }
+entry != "" && /^ *requires ([a-z0-9_]* )?\{/ { demands = 1 }
+# a clause may go on over several lines
+entry != "" && /^ *(ensures|requires) ([a-z0-9_]* )?\{/ { clauses = 1 }
+entry != "" && clauses { promise = promise " " $0 }
 END { exit found }
