@@ -1,11 +1,13 @@
 -- The bytes of a mask: found by their greatest, and each at most 1. The sides of a mask that are not refused.
 use mathlib.Core.Path.{◌≡◌, sym, ap, ◌∙◌}
 use mathlib.Core.Bool.{true, not, ◌&&◌}
-use mathlib.Core.List.{List}
-use Prim.Native.Nat.{ℕ, ◌*◌, ◌≤◌, ◌<◌}
+use mathlib.Core.List.{List, [], ◌∷◌}
+use Prim.Native.Nat.{ℕ, max, ◌*◌, ◌≤◌, ◌<◌}
 use native.Mathlib.Nat.{le_trans}
 use borrow.Author.Tests.{leb-true, le-leb, ltb-true, ltb-false, not-false}
 use lib.Dec.{leb, ltb}
+use native.Mathlib.Omega.{arith}
+use Rattle.std.specs.List.{fold}
 use lib.ListN.{get_or, length}
 use Rattle.memory.specs.rules.Lists.{table, greatest}
 use Rattle.memory.specs.rules.Limits.{max_mask_side, max_mask_dots}
@@ -15,10 +17,16 @@ use Rattle.memory.proofs.RefusalLaws.{Passed, refusal-passed, Passes, passes_non
 use Rattle.memory.proofs.CountLaws.{list-is-table}
 use Rattle.memory.proofs.GreatestLaws.{greatest-bounds, greatest-at-most}
 
--- all bytes were read, and this is the greatest
-pub mask-by-greatest : (m : List ℕ) (most i : ℕ) → i ≡ length m → most ≡ greatest (table (λ k. get_or m k 0) i) → leb most 1 ≡ is_mask m
+-- the greatest byte, from a on
+fold_max : (a : ℕ) (m : List ℕ) → fold (λ most byte. max most byte) a m ≡ max a (greatest m)
+unfolding greatest
+fold_max a [] = omega arith
+fold_max a (b ∷ m) = fold_max (max a b) m ∙ omega arith
+
+-- the greatest of all bytes is at most 1
+pub mask-by-greatest : (m : List ℕ) (most : ℕ) → most ≡ fold (λ most byte. max most byte) 0 m → leb most 1 ≡ is_mask m
 unfolding is_mask
-mask-by-greatest m most i e f = ap (λ z. leb z 1) (f ∙ (ap (λ n. greatest (table (λ k. get_or m k 0) n)) e ∙ ap greatest (sym (list-is-table m))))
+mask-by-greatest m most e = ap (λ z. leb z 1) (e ∙ (fold_max 0 m ∙ omega arith))
 
 pub mask-ones : (m : List ℕ) → is_mask m ≡ true → (i : ℕ) → get_or m i 0 ≤ 1
 unfolding is_mask

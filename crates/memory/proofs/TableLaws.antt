@@ -8,6 +8,8 @@ use native.Mathlib.Decide.{ℕ_discrete}
 use native.Mathlib.Omega.{arith}
 use lib.ListN.{get_or, length, set, drop, length-append, get_or-append}
 use lib.Seq.{get_or_at, set_at, drop-cons, append_snoc, drop-length}
+use Rattle.std.proofs.Math.ListN.{replicate}
+use Rattle.std.proofs.lemmas.List.{replicate_more}
 use Rattle.memory.specs.rules.Lists.{table}
 use Rattle.memory.specs.rules.Words.{over}
 
@@ -56,3 +58,9 @@ table_filled f s out v i n e q t = e ∙ (ap (λ k. table f k ++ drop k s) q ∙
 -- and where there is no more than n places, the table is all
 pub table-whole : (f : ℕ → ℕ) (s out : List ℕ) (i : ℕ) → out ≡ table f i ++ drop i s → i ≡ length s → out ≡ table f (length s)
 table-whole f s out i e q = e ∙ (ap (λ k. table f k ++ drop k s) q ∙ (ap (λ (z : List ℕ). table f (length s) ++ z) (drop-length s) ∙ append-nil (table f (length s))))
+
+-- n times the same entry
+pub replicate-table : {A : Type 0} (n : ℕ) (v : A) → replicate n v ≡ table (λ _. v) n
+unfolding table
+replicate-table zero v = refl
+replicate-table {A} (suc n) v = sym (ap (λ k. replicate k v) (add-one n)) ∙ (sym (replicate_more n v) ∙ ap (λ (z : List A). z ++ (v ∷ [])) (replicate-table n v))

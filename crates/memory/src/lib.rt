@@ -15,8 +15,8 @@ pub use limits::{
     COMPONENT_WORDS, MAX_CAPACITY, MAX_EXTENT, MAX_FRAME_HEIGHT, MAX_FRAME_WIDTH, MAX_LINES,
     MAX_MASK_DOTS, MAX_MASK_SIDE, MAX_PAGE_SIDE, NO_LINE, scratch_words, store_words,
 };
-pub use masks::{is_mask, refuse_sides};
+pub use masks::{is_mask, judge_sides};
 pub use numbers::{area, max_u32, max_usize, min_u32, min_usize, wide};
 pub use rect::{Rect, box_at, put_box};
-pub use refusals::refuse_if;
+pub use refusals::Refusal;
 pub use words::{copy_bytes, copy_words, fill_bytes, fill_words, word_at};

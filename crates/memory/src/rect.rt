@@ -3,8 +3,6 @@ ghost use Rattle.std.specs.Prelude.{◌≡◌, ◌+◌, ◌≤◌, length};
 ghost use Rattle.std.proofs.lemmas.List.Edits.{sets};
 ghost use Rattle.memory.specs.rules.Rects.{width, height, union, box_words, box_at};
 
-use crate::numbers::{max_u32, min_u32};
-
 #[derive(Clone, Copy)]
 pub struct Rect {
     pub x0: u32,
@@ -32,10 +30,10 @@ impl Rect {
         ensures { result ≡ union self other }
     {
         Rect {
-            x0: min_u32(self.x0, other.x0),
-            y0: min_u32(self.y0, other.y0),
-            x1: max_u32(self.x1, other.x1),
-            y1: max_u32(self.y1, other.y1),
+            x0: self.x0.min(other.x0),
+            y0: self.y0.min(other.y0),
+            x1: self.x1.max(other.x1),
+            y1: self.y1.max(other.y1),
         }
     }
 }

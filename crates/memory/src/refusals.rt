@@ -1,11 +1,37 @@
-// Refusals: which of document 01's numbers a call is turned back with.
+// Why a call is turned back.
 ghost use Rattle.std.specs.Prelude.{◌≡◌};
-ghost use Rattle.memory.specs.rules.Refusals.{refuse_if};
+ghost use Rattle.memory.specs.rules.Refusals.{number};
 
-// The number where the test says that the call is bad, else what the later tests gave. A judge is a straight line of these,
-// the last test first, so that its proof is one step a test.
-pub fn refuse_if(bad: bool, number: u32, rest: u32) -> u32
-    ensures { result ≡ refuse_if bad number rest }
-{
-    if bad { number } else { rest }
+// The refusals of document 01, each with its number there.
+#[derive(Clone, Copy, Debug, PartialEq, Eq)]
+pub enum Refusal {
+    // A side, or the dots of a mask, outside their limits.
+    Sides = 1,
+    // A mask that has not as many bytes as its sides give.
+    MaskLength = 2,
+    // A byte of a mask above 1.
+    MaskByte = 3,
+    Skew = 4,
+    Slope = 5,
+    Sheet = 6,
+    Capacity = 7,
+    // A point, a box or a kind that the frame or the page has not.
+    Place = 8,
+    // Lent memory that is too short.
+    Lent = 9,
+    // A store or a plane that no accepted calls leave so.
+    Spoiled = 16,
+    NotEmpty = 17,
+    NotLevelled = 18,
+    NotSegmented = 19,
+    TooManyComponents = 20,
+    TooManyLines = 21,
+}
+
+impl From<Refusal> for u32 {
+    ghost from_gives = { λ refusal n. n ≡ number refusal };
+
+    fn from(refusal: Refusal) -> u32 {
+        refusal as u32
+    }
 }

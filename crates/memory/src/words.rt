@@ -15,11 +15,7 @@ pub fn copy_words(dst: &mut [u32], src: &[u32])
     requires { length src.now ≤ length dst.old }
     ensures { dst.new ≡ over src.now dst.old }
 {
-    let mut i = 0;
-    while i < src.len() {
-        dst[i] = src[i];
-        i += 1;
-    }
+    dst[..src.len()].copy_from_slice(src);
 }
 
 // The same of bytes.
@@ -27,31 +23,19 @@ pub fn copy_bytes(dst: &mut [u8], src: &[u8])
     requires { length src.now ≤ length dst.old }
     ensures { dst.new ≡ over src.now dst.old }
 {
-    let mut i = 0;
-    while i < src.len() {
-        dst[i] = src[i];
-        i += 1;
-    }
+    dst[..src.len()].copy_from_slice(src);
 }
 
 // v in every place.
 pub fn fill_bytes(dst: &mut [u8], v: u8)
     ensures { dst.new ≡ table (λ _. v) (length dst.old) }
 {
-    let mut i = 0;
-    while i < dst.len() {
-        dst[i] = v;
-        i += 1;
-    }
+    dst.fill(v);
 }
 
 // The same of words.
 pub fn fill_words(dst: &mut [u32], v: u32)
     ensures { dst.new ≡ table (λ _. v) (length dst.old) }
 {
-    let mut i = 0;
-    while i < dst.len() {
-        dst[i] = v;
-        i += 1;
-    }
+    dst.fill(v);
 }

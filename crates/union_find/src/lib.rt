@@ -5,20 +5,18 @@
 ghost use Rattle.std.specs.Prelude.{ℕ, ◌≤◌, ◌<◌, length, get_or};
 ghost use Rattle.union_find.specs.stages.Forests.{Found, United};
 
-use memory::wide;
-
 // The root of x; each second parent on the way is passed over from now on.
 pub fn find(parents: &mut [u32], x: usize) -> usize
     requires { (x < length parents.old) × ((j : ℕ) → j ≤ x → get_or parents.old j 0 ≤ j) }
     ensures { Found parents.old parents.new x result }
 {
     let mut i = x;
-    let mut parent = wide(parents[i]);
+    let mut parent = parents[i] as usize;
     while parent != i {
         let grand = parents[parent];
         parents[i] = grand;
-        i = wide(grand);
-        parent = wide(parents[i]);
+        i = grand as usize;
+        parent = parents[i] as usize;
     }
     i
 }
