@@ -11,13 +11,14 @@ use lib.Seq.{drop_at, length-take-le}
 use lib.Dec.{eqb, ltb}
 use Rattle.memory.specs.rules.Limits.{max_mask_dots, max_capacity, component_words, scratch_words}
 use Rattle.memory.specs.rules.Masks.{sides_refusal}
-use Rattle.memory.proofs.RefusalLaws.{refusal-passed, Passes, passes_none, passes-if}
+use Rattle.memory.proofs.RefusalLaws.{number_positive, refusal-passed, Passes, passes_none, passes-if}
 use Rattle.memory.proofs.MaskLaws.{sides-pass, SidesPassed, sides-passed}
 use Rattle.labelling.specs.rules.Labels.{Labelling, labelling}
-use Rattle.labelling.specs.rules.Answer.{answer_of, lent_refusal, many_refusal, refusal, label_outcome, labels_left, components_left, label_mask}
+use Rattle.labelling.specs.rules.Answer.{count_told, LabelOutcome, lent_refusal, many_refusal, refusal, label_outcome, labels_left, components_left, label_mask}
 use Rattle.labelling.specs.stages.Working.{Workable, worked}
-use Rattle.labelling.specs.declared.entry.LabelAnswer.{LabelAnswer}
-use Rattle.labelling.specs.declared.entry.LabelAnswer.TheVariants.{Refused}
+use Rattle.std.specs.Prelude.{Result, Err}
+use Rattle.memory.specs.declared.refusals.Refusal.{Refusal}
+use Rattle.memory.specs.rules.Refusals.{number, answer_value}
 
 -- The chain of tests before others
 
@@ -57,28 +58,31 @@ lent-good dots mask P labels components scratch e =
 
 -- What a call leaves
 
-refused : (n k : ℕ) (L : Labelling) (labels components : List ℕ) (len : ℕ) (beyond : List ℕ) → k ≡ n → (n ≡ 0 → ⊥)
-    → label_outcome (Refused n) labels components len beyond ≡ label_outcome (answer_of k (length L.components)) (labels_left k L labels) (components_left k L components) len beyond
-unfolding answer_of labels_left components_left
-refused n k L labels components len beyond e ne = rw (e, ne_eqb n 0 ne) refl
+-- what a call leaves, by the number that it is refused with
+abbrev outcome_by : ℕ → Labelling → List ℕ → List ℕ → ℕ → List ℕ → LabelOutcome
+outcome_by n L labels components len beyond =
+    record { number = n; count = count_told n (length L.components); labels = labels_left n L labels; components = components_left n L components; scratch = len; beyond = beyond }
+
+refused : (r : Refusal) (k : ℕ) (L : Labelling) (labels components : List ℕ) (len : ℕ) (beyond : List ℕ) → k ≡ number r
+    → label_outcome (Err r) labels components len beyond ≡ outcome_by k L labels components len beyond
+unfolding count_told labels_left components_left
+refused r k L labels components len beyond e = rw (e, ne_eqb (number r) 0 (number_positive r)) refl
 
 module _ (w h : ℕ) (m : List ℕ) (P : ℕ) (labels components scratch : List ℕ) where
   abbrev rest-by-lent : ℕ
   rest-by-lent = lent_refusal (w * h) (length m) P (length labels) (length components) (length scratch) (many_refusal (length (labelling w h m).components) P)
 
-  pub refused-sides : (n : ℕ) → n ≡ sides_refusal w h 0 → (n ≡ 0 → ⊥) → label_outcome (Refused n) labels components (length scratch) (drop (scratch_words (w * h) P) scratch) ≡ label_mask w h m P labels components scratch
-  refused-sides n e ne =
-      refused n (refusal w h m P (length labels) (length components) (length scratch)) (labelling w h m) labels components (length scratch) (drop (scratch_words (w * h) P) scratch)
-      ((sides-pass w h).stop (λ z. ne (e ∙ z)) rest-by-lent ∙ sym e)
-      ne
+  pub refused-sides : (r : Refusal) → number r ≡ sides_refusal w h 0 → label_outcome (Err r) labels components (length scratch) (drop (scratch_words (w * h) P) scratch) ≡ label_mask w h m P labels components scratch
+  refused-sides r e =
+      refused r (refusal w h m P (length labels) (length components) (length scratch)) (labelling w h m) labels components (length scratch) (drop (scratch_words (w * h) P) scratch)
+      ((sides-pass w h).stop (λ z. number_positive r (e ∙ z)) rest-by-lent ∙ sym e)
 
-  pub refused-lent : (n : ℕ) → sides_refusal w h 0 ≡ 0 → n ≡ lent_refusal (w * h) (length m) P (length labels) (length components) (length scratch) 0 → (n ≡ 0 → ⊥)
-      → label_outcome (Refused n) labels components (length scratch) (drop (scratch_words (w * h) P) scratch) ≡ label_mask w h m P labels components scratch
-  refused-lent n s e ne =
-      refused n (refusal w h m P (length labels) (length components) (length scratch)) (labelling w h m) labels components (length scratch) (drop (scratch_words (w * h) P) scratch)
+  pub refused-lent : (r : Refusal) → sides_refusal w h 0 ≡ 0 → number r ≡ lent_refusal (w * h) (length m) P (length labels) (length components) (length scratch) 0
+      → label_outcome (Err r) labels components (length scratch) (drop (scratch_words (w * h) P) scratch) ≡ label_mask w h m P labels components scratch
+  refused-lent r s e =
+      refused r (refusal w h m P (length labels) (length components) (length scratch)) (labelling w h m) labels components (length scratch) (drop (scratch_words (w * h) P) scratch)
       ((sides-pass w h).pass s rest-by-lent
-      ∙ ((lent-pass (w * h) (length m) P (length labels) (length components) (length scratch)).stop (λ z. ne (e ∙ z)) (many_refusal (length (labelling w h m).components) P) ∙ sym e))
-      ne
+      ∙ ((lent-pass (w * h) (length m) P (length labels) (length components) (length scratch)).stop (λ z. number_positive r (e ∙ z)) (many_refusal (length (labelling w h m).components) P) ∙ sym e))
 
   pub judged : sides_refusal w h 0 ≡ 0 → lent_refusal (w * h) (length m) P (length labels) (length components) (length scratch) 0 ≡ 0
       → refusal w h m P (length labels) (length components) (length scratch) ≡ many_refusal (length (labelling w h m).components) P
@@ -87,9 +91,9 @@ module _ (w h : ℕ) (m : List ℕ) (P : ℕ) (labels components scratch : List 
       ∙ (lent-pass (w * h) (length m) P (length labels) (length components) (length scratch)).pass l (many_refusal (length (labelling w h m).components) P)
 
 -- D dots and N words of scratch, as the entry reckons them
-module _ (w h : ℕ) (m : List ℕ) (P : ℕ) (labels components scratch : List ℕ) (sides : ℕ) (es : sides ≡ sides_refusal w h 0) (gs : sides ≡ 0) (D : ℕ) (e_d : D ≡ w * h) where
+module _ (w h : ℕ) (m : List ℕ) (P : ℕ) (labels components scratch : List ℕ) (es : 0 ≡ sides_refusal w h 0) (D : ℕ) (e_d : D ≡ w * h) where
   sides-good : SidesPassed w h 0
-  sides-good = sides-passed w h 0 (sym es ∙ gs)
+  sides-good = sides-passed w h 0 (sym es)
 
   pub entry-dots : D ≤ max_mask_dots
   entry-dots = let f = sides-good.few in omega arith
@@ -98,8 +102,8 @@ module _ (w h : ℕ) (m : List ℕ) (P : ℕ) (labels components scratch : List 
     lent_is : lent ≡ lent_refusal (w * h) (length m) P (length labels) (length components) (length scratch) 0
     lent_is = el ∙ ap (λ z. lent_refusal z (length m) P (length labels) (length components) (length scratch) 0) e_d
 
-    pub entry-refused : (lent ≡ 0 → ⊥) → label_outcome (Refused lent) labels components (length scratch) (drop (scratch_words (w * h) P) scratch) ≡ label_mask w h m P labels components scratch
-    entry-refused ne = refused-lent w h m P labels components scratch lent (sym es ∙ gs) lent_is ne
+    pub entry-refused : (r : Refusal) → number r ≡ lent → label_outcome (Err r) labels components (length scratch) (drop (scratch_words (w * h) P) scratch) ≡ label_mask w h m P labels components scratch
+    entry-refused r e = refused-lent w h m P labels components scratch r (sym es) (e ∙ lent_is)
 
     module _ (gl : lent ≡ 0) (N : ℕ) (e_n : N ≡ scratch_words D P) where
       words_are : N ≡ scratch_words (w * h) P
@@ -128,16 +132,16 @@ module _ (w h : ℕ) (m : List ℕ) (P : ℕ) (labels components scratch : List 
             words_room = subst (λ z. z ≤ length (take N scratch)) words_are (subst (λ z. N ≤ z) (sym (length-take-le N scratch entry-words)) (le_refl N));
           }
 
-      pub entry_done : {r : LabelAnswer} {labels' components' : List ℕ} (part : List ℕ) → worked r labels' components' w h m P labels components → length part ≡ length (take N scratch)
+      pub entry_done : {r : Result ℕ Refusal} {labels' components' : List ℕ} (part : List ℕ) → worked r labels' components' w h m P labels components → length part ≡ length (take N scratch)
           → label_outcome r labels' components' (length (part ++ drop N scratch)) (drop (scratch_words (w * h) P) (part ++ drop N scratch)) ≡ label_mask w h m P labels components scratch
       entry_done {r} {labels'} {components'} part W e =
           let n = refusal w h m P (length labels) (length components) (length scratch) in
           let l : length part ≡ N = e ∙ length-take-le N scratch entry-words in
-          let j : n ≡ many_refusal (length (labelling w h m).components) P = judged w h m P labels components scratch (sym es ∙ gs) (sym lent_is ∙ gl) in
-          let a : r ≡ answer_of n (length (labelling w h m).components) = W.answer ∙ ap (λ z. answer_of z (length (labelling w h m).components)) (sym j) in
+          let j : n ≡ many_refusal (length (labelling w h m).components) P = judged w h m P labels components scratch (sym es) (sym lent_is ∙ gl) in
+          let a : answer_value r ≡ count_told n (length (labelling w h m).components) = W.count ∙ ap (λ z. count_told z (length (labelling w h m).components)) (sym j) in
           let b : labels' ≡ labels_left n (labelling w h m) labels = W.labelled ∙ ap (λ z. labels_left z (labelling w h m) labels) (sym j) in
           let c : components' ≡ components_left n (labelling w h m) components = W.recorded ∙ ap (λ z. components_left z (labelling w h m) components) (sym j) in
           let f : length (part ++ drop N scratch) ≡ length scratch = length-append part (drop N scratch) ∙ (let q = length-drop N scratch in let g = entry-words in omega arith) in
           let d : drop (scratch_words (w * h) P) (part ++ drop N scratch) ≡ drop (scratch_words (w * h) P) scratch =
           ap (λ z. drop z (part ++ drop N scratch)) (sym words_are) ∙ (drop_at part (drop N scratch) N l ∙ ap (λ z. drop z scratch) words_are) in
-          λ i. label_outcome (a i) (b i) (c i) (f i) (d i)
+          λ i. record { number = (W.number ∙ sym j) i; count = a i; labels = b i; components = c i; scratch = f i; beyond = d i }

@@ -22,9 +22,10 @@ use Rattle.labelling.specs.stages.Numbering.{Numbered}
 use Rattle.labelling.specs.stages.Painting.{numbered, Paintable, Painted}
 use Rattle.labelling.specs.rules.RecordWords.{record_words}
 use Rattle.labelling.specs.stages.Tallying.{records, Tallyable}
-use Rattle.labelling.specs.rules.Answer.{answer_of, labels_left, components_left}
+use Rattle.labelling.specs.rules.Answer.{count_told, labels_left, components_left}
 use Rattle.labelling.specs.stages.Working.{Workable, worked}
-use Rattle.labelling.specs.declared.entry.LabelAnswer.TheVariants.{Labelled, Refused}
+use Rattle.std.specs.Prelude.{Ok, Err}
+use Rattle.memory.specs.declared.refusals.Refusal.TheVariants.{TooManyComponents}
 use Rattle.labelling.proofs.TransferLaws.{firsts-named}
 use Rattle.labelling.proofs.RunLabelLaws.{runs-low, turns-runs, paint-run, paint-gap}
 use Rattle.labelling.proofs.RunComponentLaws.{labelling-by-runs}
@@ -125,9 +126,9 @@ module _ {w h : ℕ} {m : List ℕ} {P : ℕ} {labels comps s₀ : List ℕ} (W 
       count_is : count ≡ min (length (labelling w h m).components) (P + 1)
       count_is = N.count rep (first-low w c t) K.forest ∙ ap (λ z. min z (P + 1)) (sym lab-count)
 
-      pub stage-many : P < count → worked (Refused 20) labels comps w h m P labels comps
-      unfolding refuse_if answer_of labels_left components_left
-      stage-many l = let e = count_is in rw (lt-ltb P (length (labelling w h m).components) (omega arith)) (record { answer = refl; labelled = refl; recorded = refl })
+      pub stage-many : P < count → worked (Err TooManyComponents) labels comps w h m P labels comps
+      unfolding refuse_if count_told labels_left components_left
+      stage-many l = let e = count_is in rw (lt-ltb P (length (labelling w h m).components) (omega arith)) (record { number = refl; count = refl; labelled = refl; recorded = refl })
 
       module _ (fits : count ≤ P) where
         turns-long : 2 * c ≤ length s₁
@@ -191,13 +192,14 @@ module _ {w h : ℕ} {m : List ℕ} {P : ℕ} {labels comps s₀ : List ℕ} (W 
         pub stage-done : {labels' comps' : List ℕ}
             → Painted (numbered c (put_mid q (length s₁ - q) s₁ p) (drop q (put_mid q (length s₁ - q) s₁ p))) c labels labels' (w * h)
             → comps' ≡ over (records w c (numbered c (put_mid q (length s₁ - q) s₁ p) (drop q (put_mid q (length s₁ - q) s₁ p))) c) comps
-            → worked (Labelled count) labels' comps' w h m P labels comps
-        unfolding refuse_if answer_of labels_left components_left
+            → worked (Ok count) labels' comps' w h m P labels comps
+        unfolding refuse_if count_told labels_left components_left
         stage-done {labels'} {comps'} X e =
             let q = count_is in
             rw (le-ltb P (length (labelling w h m).components) (omega arith))
             (record {
-              answer = ap Labelled (let x : count ≡ length (labelling w h m).components = omega arith in x);
+              number = refl;
+              count = let x : count ≡ length (labelling w h m).components = omega arith in x;
               labelled = painted-is (subst (λ z. Painted z c labels labels' (w * h)) put_is X);
               recorded = recorded-is (e ∙ ap (λ z. over (records w c z c) comps) put_is);
             })

@@ -1,20 +1,14 @@
 // Labelling called by itself (components.rs, label_8): the entry, what it refuses, and its stages in their order.
 ghost use Rattle.std.specs.Prelude.{◌≡◌, ◌*◌, ◌≤◌, length, drop};
 ghost use Rattle.memory.specs.rules.Limits.{max_mask_dots, scratch_words};
+ghost use Rattle.memory.specs.rules.Refusals.{answer_number};
 ghost use Rattle.labelling.specs.rules.Answer.{lent_refusal, label_outcome, label_mask};
 ghost use Rattle.labelling.specs.stages.Working.{Workable, worked};
 
 use crate::number::number_runs;
 use crate::paint::paint_runs;
 use crate::row_by_row::extract_linked;
-use memory::{COMPONENT_WORDS, MAX_CAPACITY, area, refuse_if, refuse_sides, scratch_words};
-
-// The count of components, or the number that the call is refused with.
-#[derive(Clone, Copy)]
-pub enum LabelAnswer {
-    Labelled(u32),
-    Refused(u32),
-}
+use memory::{COMPONENT_WORDS, MAX_CAPACITY, Refusal, area, judge_sides, scratch_words};
 
 // Labels the 8-connected components of a mask, numbered by first dot, and writes their records, nine words each.
 pub fn label(
@@ -25,25 +19,19 @@ pub fn label(
     labels: &mut [u32],
     components: &mut [u32],
     scratch: &mut [u32],
-) -> LabelAnswer
+) -> Result<u32, Refusal>
     ensures { label_outcome result labels.new components.new (length scratch.new) (drop (scratch_words (width * height) capacity) scratch.new) ≡ label_mask width height mask.now capacity labels.old components.old scratch.old }
 {
-    let sides = refuse_sides(width, height, 0);
-    if sides != 0 {
-        return LabelAnswer::Refused(sides);
-    }
+    judge_sides(width, height)?;
     let dots = area(width, height);
-    let lent = judge_lent(
+    judge_lent(
         dots,
         mask.len(),
         capacity,
         labels.len(),
         components.len(),
         scratch.len(),
-    );
-    if lent != 0 {
-        return LabelAnswer::Refused(lent);
-    }
+    )?;
     let words = scratch_words(dots, capacity);
     label_runs(
         mask,
@@ -56,7 +44,8 @@ pub fn label(
     )
 }
 
-// 2, 7 or 9 where the mask's length, the capacity or the memory lent is not as it must be, else 0.
+// Whether the mask's length, the capacity and the memory lent are as they must be.
+#[tactic(auto, unfolding(crate::specs::rules::Answer::lent_refusal, memory::specs::rules::Refusals::refuse_if))]
 fn judge_lent(
     dots: usize,
     mask: usize,
@@ -64,20 +53,29 @@ fn judge_lent(
     labels: usize,
     components: usize,
     scratch: usize,
-) -> u32
+) -> Result<(), Refusal>
     requires { dots ≤ max_mask_dots }
-    ensures { result ≡ lent_refusal dots mask capacity labels components scratch 0 }
+    ensures { answer_number result ≡ lent_refusal dots mask capacity labels components scratch 0 }
 {
-    let by_scratch = refuse_if(scratch < scratch_words(dots, capacity), 9, 0);
-    let records = COMPONENT_WORDS * (capacity as usize);
-    let by_records = refuse_if(components < records, 9, by_scratch);
-    let by_labels = refuse_if(labels < dots, 9, by_records);
-    let by_capacity = refuse_if(
-        capacity == 0,
-        7,
-        refuse_if(MAX_CAPACITY < capacity, 7, by_labels),
-    );
-    refuse_if(mask != dots, 2, by_capacity)
+    if mask != dots {
+        return Err(Refusal::MaskLength);
+    }
+    if capacity == 0 {
+        return Err(Refusal::Capacity);
+    }
+    if MAX_CAPACITY < capacity {
+        return Err(Refusal::Capacity);
+    }
+    if labels < dots {
+        return Err(Refusal::Lent);
+    }
+    if components < COMPONENT_WORDS * (capacity as usize) {
+        return Err(Refusal::Lent);
+    }
+    if scratch < scratch_words(dots, capacity) {
+        return Err(Refusal::Lent);
+    }
+    Ok(())
 }
 
 // The stages: runs with their parents, their numbers; then, unless there are too many components, labels and records. A plane of d dots
@@ -91,7 +89,7 @@ fn label_runs(
     labels: &mut [u32],
     components: &mut [u32],
     words: &mut [u32],
-) -> LabelAnswer
+) -> Result<u32, Refusal>
     requires { Workable w h mask.now capacity labels.old components.old words.old }
     ensures { worked result labels.new components.new w h mask.now capacity labels.old components.old }
 {
@@ -99,8 +97,8 @@ fn label_runs(
     let runs = extract_linked(mask, w, h, words, parents);
     let count = number_runs(&mut words[parents..], runs, capacity);
     if capacity < count {
-        return LabelAnswer::Refused(20);
+        return Err(Refusal::TooManyComponents);
     }
     paint_runs(&words[..], parents, runs, w, h, labels, components);
-    LabelAnswer::Labelled(count as u32)
+    Ok(count as u32)
 }

@@ -16,7 +16,7 @@ mod span;
 mod tally;
 
 pub use component::Component;
-pub use entry::{LabelAnswer, label};
+pub use entry::label;
 pub use link::link_runs;
 pub use marked::{Test, extract_marked};
 pub use number::number_runs;

@@ -3,7 +3,27 @@ use mathlib.Core.Path.{◌≡◌, refl}
 use mathlib.Core.Bool.{Bool, true, false}
 use Prim.Native.Nat.{ℕ, suc}
 use native.Mathlib.Omega.{arith}
-use Rattle.memory.specs.rules.Refusals.{refuse_if}
+use Rattle.memory.specs.rules.Refusals.{refuse_if, number}
+use Rattle.memory.specs.declared.refusals.Refusal.{Refusal}
+use Rattle.memory.specs.declared.refusals.Refusal.TheVariants as refusals
+
+-- a refusal's number is none that accepts
+pub number_positive : (r : Refusal) → number r ≡ 0 → ⊥
+number_positive refusals.Sides e = absurd (omega arith)
+number_positive refusals.MaskLength e = absurd (omega arith)
+number_positive refusals.MaskByte e = absurd (omega arith)
+number_positive refusals.Skew e = absurd (omega arith)
+number_positive refusals.Slope e = absurd (omega arith)
+number_positive refusals.Sheet e = absurd (omega arith)
+number_positive refusals.Capacity e = absurd (omega arith)
+number_positive refusals.Place e = absurd (omega arith)
+number_positive refusals.Lent e = absurd (omega arith)
+number_positive refusals.Spoiled e = absurd (omega arith)
+number_positive refusals.NotEmpty e = absurd (omega arith)
+number_positive refusals.NotLevelled e = absurd (omega arith)
+number_positive refusals.NotSegmented e = absurd (omega arith)
+number_positive refusals.TooManyComponents e = absurd (omega arith)
+number_positive refusals.TooManyLines e = absurd (omega arith)
 
 -- the first test says that the call is not bad, and the later ones give 0
 pub record Passed (bad : Bool) (rest : ℕ) : Type 0 where

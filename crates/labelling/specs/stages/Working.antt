@@ -1,9 +1,10 @@
 -- What the stages of labelling called by itself ask and leave, once only 20 can refuse.
-use Rattle.std.specs.Prelude.{◌≡◌, List, ℕ, ◌*◌, ◌≤◌, ◌<◌, length}
+use Rattle.std.specs.Prelude.{◌≡◌, List, ℕ, ◌*◌, ◌≤◌, ◌<◌, length, Result}
 use Rattle.memory.specs.rules.Limits.{max_mask_side, max_mask_dots, max_capacity, component_words, scratch_words}
 use Rattle.labelling.specs.rules.Labels.{Labelling, labelling}
-use Rattle.labelling.specs.declared.entry.LabelAnswer.{LabelAnswer}
-use Rattle.labelling.specs.rules.Answer.{answer_of, many_refusal, labels_left, components_left}
+use Rattle.memory.specs.declared.refusals.Refusal.{Refusal}
+use Rattle.memory.specs.rules.Refusals.{answer_number, answer_value}
+use Rattle.labelling.specs.rules.Answer.{count_told, many_refusal, labels_left, components_left}
 
 -- a call that only 20 can refuse
 pub record Workable (w h : ℕ) (m : List ℕ) (P : ℕ) (labels components s : List ℕ) : Type 0 where
@@ -19,12 +20,13 @@ pub record Workable (w h : ℕ) (m : List ℕ) (P : ℕ) (labels components s : 
   pub words_room : scratch_words (w * h) P ≤ length s
 
 -- what the stages leave
-pub record Worked (r : LabelAnswer) (labels' components' : List ℕ) (n : ℕ) (L : Labelling) (labels components : List ℕ) : Type 0 where
-  pub answer : r ≡ answer_of n (length L.components)
+pub record Worked (r : Result ℕ Refusal) (labels' components' : List ℕ) (n : ℕ) (L : Labelling) (labels components : List ℕ) : Type 0 where
+  pub number : answer_number r ≡ n
+  pub count : answer_value r ≡ count_told n (length L.components)
   pub labelled : labels' ≡ labels_left n L labels
   pub recorded : components' ≡ components_left n L components
 
 -- the same where only 20 can refuse
-abbrev pub worked : LabelAnswer → List ℕ → List ℕ → ℕ → ℕ → List ℕ → ℕ → List ℕ → List ℕ → Type 0
+abbrev pub worked : Result ℕ Refusal → List ℕ → List ℕ → ℕ → ℕ → List ℕ → ℕ → List ℕ → List ℕ → Type 0
 worked r labels' components' w h m P labels components =
     Worked r labels' components' (many_refusal (length (labelling w h m).components) P) (labelling w h m) labels components
