@@ -1,5 +1,5 @@
 -- Run extents called by themselves: refused, or done.
-use mathlib.Core.Path.{◌≡◌, sym, ◌∙◌}
+use mathlib.Core.Path.{◌≡◌, sym}
 use mathlib.Core.Bool.{not}
 use mathlib.Core.List.{List}
 use Prim.Native.Nat.{ℕ, ◌*◌}
@@ -7,27 +7,29 @@ use borrow.Author.Tests.{ltb-false, eqb-true, not-false, ne_eqb}
 use lib.ListN.{length}
 use lib.Dec.{eqb, ltb}
 use Rattle.memory.specs.rules.Words.{over}
-use Rattle.memory.proofs.RefusalLaws.{Passed, refusal-passed}
+use Rattle.memory.proofs.RefusalLaws.{number_positive, Passed, refusal-passed}
 use Rattle.memory.proofs.MaskLaws.{sides-passed}
-use Rattle.extents.specs.rules.Answers.{extents_refusal, extents_along, extents_outcome, run_extents}
+use Rattle.extents.specs.rules.Answers.{extents_refusal, extents_along, run_extents}
 use Rattle.extents.specs.stages.Scans.{MaskFits}
 use Rattle.extents.specs.declared.entry.Along.{Along}
-use Rattle.extents.specs.declared.entry.ExtentsAnswer.TheVariants.{Done, Refused}
+use Rattle.std.specs.Prelude.{true, false}
+use Rattle.memory.specs.declared.refusals.Refusal.{Refusal}
+use Rattle.memory.specs.rules.Refusals.{number}
 
-pub extents-refused : (m s : List ℕ) (w h n : ℕ) (along : Along) → n ≡ extents_refusal (length m) w h (length s) → (n ≡ 0 → ⊥)
-    → extents_outcome (Refused n) s ≡ run_extents m w h along s
+pub extents-refused : (m s : List ℕ) (w h : ℕ) (r : Refusal) (along : Along) → number r ≡ extents_refusal (length m) w h (length s)
+    → record { refused = true; number = number r; extents = s } ≡ run_extents m w h along s
 unfolding run_extents
-extents-refused m s w h n along e z = rw (← e) (rw (ne_eqb n 0 z))
+extents-refused m s w h r along e = rw (← e) (rw (ne_eqb (number r) 0 (number_positive r)))
 
-pub extents-done : (m s t : List ℕ) (w h n : ℕ) (along : Along) → n ≡ extents_refusal (length m) w h (length s) → n ≡ 0 → t ≡ over (extents_along along w h m) s
-    → extents_outcome Done t ≡ run_extents m w h along s
+pub extents-done : (m s t : List ℕ) (w h : ℕ) (along : Along) → 0 ≡ extents_refusal (length m) w h (length s) → t ≡ over (extents_along along w h m) s
+    → record { refused = false; number = 0; extents = t } ≡ run_extents m w h along s
 unfolding run_extents
-extents-done m s t w h n along e z q = rw (← e) (rw (z, q))
+extents-done m s t w h along e q = rw (← e) (rw q)
 
-pub extents-fit : (mask_length w h words n : ℕ) → n ≡ extents_refusal mask_length w h words → n ≡ 0 → MaskFits w h mask_length words
+pub extents-fit : (mask_length w h words : ℕ) → 0 ≡ extents_refusal mask_length w h words → MaskFits w h mask_length words
 unfolding extents_refusal
-extents-fit mask_length w h words n e z =
-    let a = sides-passed w h _ (sym e ∙ z) in
+extents-fit mask_length w h words e =
+    let a = sides-passed w h _ (sym e) in
     let c : Passed (not (eqb mask_length (w * h))) _ = refusal-passed (not (eqb mask_length (w * h))) 1 _ a.later in
     let d : Passed (ltb words (w * h)) 0 = refusal-passed (ltb words (w * h)) 8 0 c.later in
     record {

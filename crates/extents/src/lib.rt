@@ -7,5 +7,5 @@ mod entry;
 mod lengths;
 mod rows;
 
-pub use entry::{Along, ExtentsAnswer, run_extents};
+pub use entry::{Along, run_extents};
 pub use lengths::{capped, chunk_end};

@@ -1,13 +1,12 @@
 -- Run extents called by themselves: the number that a call is refused with, and what it gives (01, Limits, part 4 and "Turned back").
-use Rattle.std.specs.Prelude.{ℕ, ◌*◌, Bool, true, false, cond, not, List, length, eqb, ltb}
+use Rattle.std.specs.Prelude.{ℕ, ◌*◌, Bool, true, false, cond, not, List, length, eqb, ltb, Result, Ok, Err}
 use Rattle.memory.specs.rules.Words.{over}
-use Rattle.memory.specs.rules.Refusals.{refuse_if}
+use Rattle.memory.specs.rules.Refusals.{refuse_if, number}
+use Rattle.memory.specs.declared.refusals.Refusal.{Refusal}
 use Rattle.memory.specs.rules.Masks.{sides_refusal}
 use Rattle.extents.specs.rules.Extents.{row_extents, column_extents}
 use Rattle.extents.specs.declared.entry.Along.{Along}
 use Rattle.extents.specs.declared.entry.Along.TheVariants.{Rows, Columns}
-use Rattle.extents.specs.declared.entry.ExtentsAnswer.{ExtentsAnswer}
-use Rattle.extents.specs.declared.entry.ExtentsAnswer.TheVariants.{Done, Refused}
 
 -- the number that a call is refused with, 0 where it is accepted, by the mask's length, its sides and the length of what is lent
 unfoldable pub extents_refusal : ℕ → ℕ → ℕ → ℕ → ℕ
@@ -26,9 +25,9 @@ pub record ExtentsOutcome : Type 0 where
   pub extents : List ℕ
 
 -- the outcome of each case of the answer, with what the lent words then hold
-abbrev pub extents_outcome : ExtentsAnswer → List ℕ → ExtentsOutcome
-extents_outcome Done s = record { refused = false; number = 0; extents = s }
-extents_outcome (Refused n) s = record { refused = true; number = n; extents = s }
+abbrev pub extents_outcome : {A : Type 0} → Result A Refusal → List ℕ → ExtentsOutcome
+extents_outcome (Ok done) s = record { refused = false; number = 0; extents = s }
+extents_outcome (Err r) s = record { refused = true; number = number r; extents = s }
 
 -- the outcome that the rules give: the extents over the front of the lent words; refused, the words as they were
 unfoldable pub run_extents : List ℕ → ℕ → ℕ → Along → List ℕ → ExtentsOutcome
