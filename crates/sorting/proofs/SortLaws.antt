@@ -39,8 +39,7 @@ use Rattle.rulings.specs.declared.scanlines.Found.{Found}
 use Rattle.rulings.proofs.RulingMasks.{after_cut-nothing}
 use Rattle.sorting.specs.declared.sort.Cuts.{Cuts}
 use Rattle.sorting.specs.declared.sort.SortCounts.{SortCounts}
-use Rattle.sorting.specs.declared.sort.SortAnswer.{SortAnswer}
-use Rattle.sorting.specs.declared.sort.SortAnswer.TheVariants.{Sorted, TooMany}
+use Rattle.std.specs.Prelude.{Option, Some, None}
 use Rattle.memory.specs.stages.Stored.{Within, Stored}
 use Rattle.sorting.specs.stages.Measures.{sized_at, sized_from, SizesInside, box_word}
 use Rattle.sorting.specs.stages.SortSteps.{sort_left, FrameRoom, passed, CutLabelled, CutMarked, InkCut, FirstHeld, CutsHeld, RestHeld, rest_left}
@@ -349,10 +348,10 @@ module _ (p : LayoutParams) (w h : ℕ) (m : List ℕ) (P : ℕ) where
       held : CutsHeld (run_min p first_unit) (thick_max p first_unit) w h m P s f
       held = subst (λ (k : ℕ). CutsHeld (run_min p first_unit) k w h m P s f) et (subst (λ (k : ℕ). CutsHeld k thick w h m P s f) er C)
 
-      sort-by : (r : SortAnswer) → rest_left r p w h (ink_after_cut p w h m) P ink f s s' → sort_left r p w h m P s'
+      sort-by : (r : Option SortCounts) → rest_left r p w h (ink_after_cut p w h m) P ink f s s' → sort_left r p w h m P s'
       unfolding sorted greatest ink_after_cut
-      sort-by TooMany z = omega arith
-      sort-by (Sorted g) R =
+      sort-by None z = omega arith
+      sort-by (Some g) R =
           let a = components_of w h (cut_horizontal (run_min p first_unit) (thick_max p first_unit) w h m) in
           let b = components_of w h (cut_vertical (run_min p first_unit) (thick_max p first_unit) w h m) in
           let x = held.few in
@@ -376,10 +375,10 @@ module _ (p : LayoutParams) (w h : ℕ) (m : List ℕ) (P : ℕ) where
           }
 
       -- where nothing is cut the ink after the cut is the ink
-      pub sort-still : (r : SortAnswer) → ink_after_cut p w h m ≡ m → rest_left r p w h m P ink f s s' → sort_left r p w h m P s'
+      pub sort-still : (r : Option SortCounts) → ink_after_cut p w h m ≡ m → rest_left r p w h m P ink f s s' → sort_left r p w h m P s'
       sort-still r z R = sort-by r (subst (λ (k : List ℕ). rest_left r p w h k P ink f s s') (sym z) R)
 
-      pub sort-done : (r : SortAnswer) → rest_left r p w h (passed Neither w h m s) P ink f s s' → sort_left r p w h m P s'
+      pub sort-done : (r : Option SortCounts) → rest_left r p w h (passed Neither w h m s) P ink f s s' → sort_left r p w h m P s'
       unfolding ink_after_cut
       sort-done r R = sort-by r (subst (λ (z : List ℕ). rest_left r p w h z P ink f s s') held.rest R)
 
@@ -427,14 +426,14 @@ module _ (p : LayoutParams) {w h P : ℕ} {m s : List ℕ} {f : SortCounts} (R :
     first-many = sort-cuts-many p w h m P (run_min p u) (thick_max p u) (ap (run_min p) value) (ap (thick_max p) value)
 
     -- what was cut is labelled, and the rest anew
-    pub first_done : {s₂ : List ℕ} (cuts : Cuts) → CutsHeld (run_min p u) (thick_max p u) w h m P s₂ cuts → (s₃ : List ℕ) → length s₃ ≡ length s₂ → (r : SortAnswer)
+    pub first_done : {s₂ : List ℕ} (cuts : Cuts) → CutsHeld (run_min p u) (thick_max p u) w h m P s₂ cuts → (s₃ : List ℕ) → length s₃ ≡ length s₂ → (r : Option SortCounts)
         → rest_left r p w h (passed Neither w h m s₂) P f.ink cuts s₂ s₃ → sort_left r p w h m P s₃
     first_done {s₂} cuts K s₃ len r X =
         sort-done p w h m P (run_min p u) (thick_max p u) (ap (run_min p) value) (ap (thick_max p) value) cuts s₂ K f.ink s₃ len (let a = H.few in let b = H.components_is in omega arith) H.ink_is r X
 
     -- nothing is cut, and the first labelling stands
     pub first-still : {s₂ : List ℕ} {at₀ kinds : ℕ} → at₀ ≡ sizes_at (w * h) P → kinds ≡ kinds_at (w * h) P → 3 * f.runs ≤ at → found.horizontal ≡ false → found.vertical ≡ false
-        → Stored (λ k. kind_of p (unit_value f.unit) w h (sized_at s₁ at₀ k)) kinds f.component_count s₁ s₂ → sort_left (Sorted f) p w h m P s₂
+        → Stored (λ k. kind_of p (unit_value f.unit) w h (sized_at s₁ at₀ k)) kinds f.component_count s₁ s₂ → sort_left (Some f) p w h m P s₂
     unfolding ink_after_cut
     first-still {s₂} sizes_is kinds_is behind none-h none-v S =
         let F = frame-kept (frame-of R) C.within.len in
@@ -445,5 +444,5 @@ module _ (p : LayoutParams) {w h P : ℕ} {m s : List ℕ} {f : SortCounts} (R :
         (after_cut-nothing w h _ _ m R.wide R.whole R.ones (T.no_horizontal none-h) (T.no_vertical none-v)) in
         let q = R.room in
         let x = C.within.len in
-        sort-still p w h m P (run_min p u) (thick_max p u) (ap (run_min p) value) (ap (thick_max p) value) _ s₁ K f.ink s₂ S.within.len (let a = H.few in let b = H.components_is in omega arith) H.ink_is (Sorted f) z
+        sort-still p w h m P (run_min p u) (thick_max p u) (ap (run_min p) value) (ap (thick_max p) value) _ s₁ K f.ink s₂ S.within.len (let a = H.few in let b = H.components_is in omega arith) H.ink_is (Some f) z
         (rest-held p f (omega arith) (numbers-kept H.numbered C.within behind) first_runs first-sizes H.components_is H.few f.ink _ H.unit_is refl H.horizontal_is H.vertical_is (λ i a b. refl) (kinds-at p w h P f.unit s₁ s₂ f.component_count sizes_is kinds_is S))

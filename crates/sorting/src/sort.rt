@@ -16,7 +16,7 @@ use params::LayoutParams;
 use rulings::{Found, mark_rulings, thin_rulings};
 
 // The unit, the dots of ink before the cut, how many cuts of each kind, and the runs and components after the cut.
-#[derive(Clone, Copy)]
+#[derive(Clone, Copy, Debug, PartialEq)]
 pub struct SortCounts {
     pub unit: Unit,
     pub ink: u32,
@@ -27,28 +27,15 @@ pub struct SortCounts {
 }
 
 // How many cuts of each kind.
-#[derive(Clone, Copy)]
+#[derive(Clone, Copy, Debug, PartialEq, Eq)]
 pub struct Cuts {
     pub horizontal: usize,
     pub vertical: usize,
 }
 
-// Cut, or one kind of cuts has more components than the capacity.
-#[derive(Clone, Copy)]
-pub enum CutAnswer {
-    Cut(Cuts),
-    TooMany,
-}
-
-// Sorted, or a labelling has more components than the capacity.
-#[derive(Clone, Copy)]
-pub enum SortAnswer {
-    Sorted(SortCounts),
-    TooMany,
-}
-
-// Sorts an ink plane of bytes 0 and 1; what scratch then holds is laid out in specs/Scratch.
-pub fn sort_ink(ink: &[u8], plan: Plan, sheet: LayoutParams, words: &mut [u32]) -> SortAnswer
+// Sorts an ink plane of bytes 0 and 1; what scratch then holds is laid out in specs/Scratch. None where a labelling has more components than
+// the capacity.
+pub fn sort_ink(ink: &[u8], plan: Plan, sheet: LayoutParams, words: &mut [u32]) -> Option<SortCounts>
     requires { (SortRoom sheet plan.width plan.height ink.now plan.capacity words.old) × (Planned plan) }
     ensures { (length words.new ≡ length words.old) × (sort_left result sheet plan.width plan.height ink.now plan.capacity words.new) }
 {
@@ -59,7 +46,7 @@ pub fn sort_ink(ink: &[u8], plan: Plan, sheet: LayoutParams, words: &mut [u32]) 
     let runs = extract_runs(ink, w, h, words);
     let count = label_sizes(words, runs, w, h, capacity, sizes);
     if capacity < count {
-        return SortAnswer::TooMany;
+        return None;
     }
     let total = total_area(&words[..], sizes, count);
     let heights = 3 * plan.dots;
@@ -83,7 +70,7 @@ fn sort_labelled(
     sheet: LayoutParams,
     first: SortCounts,
     words: &mut [u32],
-) -> SortAnswer
+) -> Option<SortCounts>
     requires { (SortRoom sheet plan.width plan.height ink.now plan.capacity words.old) × (FirstHeld sheet plan.width plan.height ink.now plan.capacity words.old first) × (Planned plan) }
     ensures { (length words.new ≡ length words.old) × (sort_left result sheet plan.width plan.height ink.now plan.capacity words.new) }
 {
@@ -94,12 +81,10 @@ fn sort_labelled(
     let found = cut_ink(ink, plan, sheet, unit.value(), at, words);
     if (at == 3 * runs) & !found.horizontal & !found.vertical {
         write_kinds(words, plan, first.component_count, sheet, unit);
-        return SortAnswer::Sorted(first);
+        return Some(first);
     }
-    match label_cuts(ink, plan, found, words) {
-        CutAnswer::TooMany => SortAnswer::TooMany,
-        CutAnswer::Cut(cuts) => sort_rest(ink, plan, sheet, total, cuts, words),
-    }
+    let cuts = label_cuts(ink, plan, found, words)?;
+    sort_rest(ink, plan, sheet, total, cuts, words)
 }
 
 // Where the counters of thin rulings stand: behind the runs and their numbers, or at 0 where they do not fit there before the marks.
@@ -143,7 +128,7 @@ pub fn cut_ink(
     )
 }
 
-// The thin rulings of an ink plane by their two lengths, cut and labelled.
+// The thin rulings of an ink plane by their two lengths, cut and labelled; none where one kind of cuts has more components than the capacity.
 pub fn label_rulings(
     ink: &[u8],
     width: u32,
@@ -152,7 +137,7 @@ pub fn label_rulings(
     thick_max: u32,
     capacity: usize,
     words: &mut [u32],
-) -> CutAnswer
+) -> Option<Cuts>
     requires { (FrameRoom width height ink.now capacity words.old) × (2 ≤ run_min) }
     ensures { (length words.new ≡ length words.old) × (cuts_left result run_min thick_max width height ink.now capacity words.new) }
 {
@@ -161,8 +146,8 @@ pub fn label_rulings(
     label_cuts(ink, plan, found, words)
 }
 
-// Either kind of cuts labelled, by the marks.
-fn label_cuts(ink: &[u8], plan: Plan, found: Found, words: &mut [u32]) -> CutAnswer
+// Either kind of cuts labelled, by the marks; the same.
+fn label_cuts(ink: &[u8], plan: Plan, found: Found, words: &mut [u32]) -> Option<Cuts>
     requires { (FrameRoom plan.width plan.height ink.now plan.capacity words.old) × (found.horizontal ≡ false → Blank (passed First plan.width plan.height ink.now words.old) (plan.width * plan.height))
         × (found.vertical ≡ false → Blank (passed Second plan.width plan.height ink.now words.old) (plan.width * plan.height)) × (Planned plan) }
     ensures { (length words.new ≡ length words.old)
@@ -173,13 +158,13 @@ fn label_cuts(ink: &[u8], plan: Plan, found: Found, words: &mut [u32]) -> CutAns
     let down = found.vertical;
     let horizontal = label_cut(ink, plan, Test::First, across, plan.horizontal, words);
     if capacity < horizontal {
-        return CutAnswer::TooMany;
+        return None;
     }
     let vertical = label_cut(ink, plan, Test::Second, down, plan.vertical, words);
     if capacity < vertical {
-        return CutAnswer::TooMany;
+        return None;
     }
-    CutAnswer::Cut(Cuts {
+    Some(Cuts {
         horizontal,
         vertical,
     })
@@ -208,7 +193,7 @@ fn label_cut(ink: &[u8], plan: Plan, test: Test, found: bool, to: usize, words: 
     count
 }
 
-// The ink after the cut: labelled, measured, and the kind of each component written.
+// The ink after the cut: labelled, measured, and the kind of each component written; none where it has more components than the capacity.
 fn sort_rest(
     ink: &[u8],
     plan: Plan,
@@ -216,7 +201,7 @@ fn sort_rest(
     total: u32,
     cuts: Cuts,
     words: &mut [u32],
-) -> SortAnswer
+) -> Option<SortCounts>
     requires { (FrameRoom plan.width plan.height ink.now plan.capacity words.old) × (Planned plan) }
     ensures { (length words.new ≡ length words.old)
         × (rest_left result sheet plan.width plan.height (passed Neither plan.width plan.height ink.now words.old) plan.capacity total cuts words.old words.new) }
@@ -228,12 +213,12 @@ fn sort_rest(
     let runs = extract_marked(ink, w, h, words, plan.marks, Test::Neither);
     let count = label_sizes(words, runs, w, h, capacity, sizes);
     if capacity < count {
-        return SortAnswer::TooMany;
+        return None;
     }
     let heights = 3 * plan.dots;
     let unit = measure_unit(words, sizes, count, heights, sheet, plan.width, plan.height);
     write_kinds(words, plan, count, sheet, unit);
-    SortAnswer::Sorted(SortCounts {
+    Some(SortCounts {
         unit,
         ink: total,
         horizontal: cuts.horizontal,

@@ -1,5 +1,5 @@
 -- What sorting an ink plane answers and leaves in scratch, whole and stage by stage.
-use Rattle.std.specs.Prelude.{◌≡◌, false, List, map, ℕ, ◌+◌, ◌*◌, ◌≤◌, ◌<◌, min, get_or, length, take, drop}
+use Rattle.std.specs.Prelude.{◌≡◌, false, List, map, ℕ, ◌+◌, ◌*◌, ◌≤◌, ◌<◌, min, get_or, length, take, drop, Option, Some, None}
 use Rattle.memory.specs.rules.Lists.{occurs}
 use Rattle.memory.specs.rules.Records.{encoded}
 use Rattle.memory.specs.rules.Limits.{max_frame_width, max_frame_height, max_capacity, scratch_words}
@@ -19,11 +19,7 @@ use Rattle.sorting.specs.stages.Scratch.{marks_at, horizontal_at, vertical_at, s
 use Rattle.memory.specs.stages.Stored.{Within}
 use Rattle.sorting.specs.rules.Capacity.{most_components, components_of, most_cuts}
 use Rattle.sorting.specs.declared.sort.Cuts.{Cuts}
-use Rattle.sorting.specs.declared.sort.CutAnswer.{CutAnswer}
-use Rattle.sorting.specs.declared.sort.CutAnswer.TheVariants as cut_answer
 use Rattle.sorting.specs.declared.sort.SortCounts.{SortCounts}
-use Rattle.sorting.specs.declared.sort.SortAnswer.{SortAnswer}
-use Rattle.sorting.specs.declared.sort.SortAnswer.TheVariants.{Sorted, TooMany}
 
 -- no labelling has more than P components; scratch holds the plane sorted, and the answer its figures
 pub record SortHeld (p : LayoutParams) (w h : ℕ) (m : List ℕ) (P : ℕ) (s : List ℕ) (f : SortCounts) : Type 0 where
@@ -31,10 +27,10 @@ pub record SortHeld (p : LayoutParams) (w h : ℕ) (m : List ℕ) (P : ℕ) (s :
   pub held : HoldsSorted p w h m P s f.runs
   pub figures : SortedFigures p w h m f.unit f.ink f.horizontal f.vertical f.component_count
 
--- what each answer says of the plane m and of the words s that are left: too many where a labelling has more than P components
-abbrev pub sort_left : SortAnswer → LayoutParams → ℕ → ℕ → List ℕ → ℕ → List ℕ → Type 0
-sort_left (Sorted f) p w h m P s = SortHeld p w h m P s f
-sort_left TooMany p w h m P s = P < most_components (sorted p w h m)
+-- what each answer says of the plane m and of the words s that are left: none where a labelling has more than P components
+abbrev pub sort_left : Option SortCounts → LayoutParams → ℕ → ℕ → List ℕ → ℕ → List ℕ → Type 0
+sort_left (Some f) p w h m P s = SortHeld p w h m P s f
+sort_left None p w h m P s = P < most_components (sorted p w h m)
 
 -- an ink plane within the limits of a frame, and scratch for it
 pub record FrameRoom (w h : ℕ) (m : List ℕ) (P : ℕ) (s : List ℕ) : Type 0 where
@@ -88,10 +84,10 @@ pub record CutsHeld (run_min thick_max w h : ℕ) (m : List ℕ) (P : ℕ) (s : 
   pub horizontal_is : f.horizontal ≡ length (components_of w h (cut_horizontal run_min thick_max w h m))
   pub vertical_is : f.vertical ≡ length (components_of w h (cut_vertical run_min thick_max w h m))
 
--- the same by the answer: too many where a cut mask has more than P components
-abbrev pub cuts_left : CutAnswer → ℕ → ℕ → ℕ → ℕ → List ℕ → ℕ → List ℕ → Type 0
-cuts_left (cut_answer.Cut f) run_min thick_max w h m P s = CutsHeld run_min thick_max w h m P s f
-cuts_left cut_answer.TooMany run_min thick_max w h m P s = P < most_cuts run_min thick_max w h m
+-- the same by the answer: none where a cut mask has more than P components
+abbrev pub cuts_left : Option Cuts → ℕ → ℕ → ℕ → ℕ → List ℕ → ℕ → List ℕ → Type 0
+cuts_left (Some f) run_min thick_max w h m P s = CutsHeld run_min thick_max w h m P s f
+cuts_left None run_min thick_max w h m P s = P < most_cuts run_min thick_max w h m
 
 -- the ink after the cut, `rest`, labelled, measured and its kinds written; boxes of cuts are as they were
 pub record RestHeld (p : LayoutParams) (w h : ℕ) (rest : List ℕ) (P ink : ℕ) (cuts : Cuts) (s s' : List ℕ) (f : SortCounts) : Type 0 where
@@ -107,6 +103,6 @@ pub record RestHeld (p : LayoutParams) (w h : ℕ) (rest : List ℕ) (P ink : �
   pub components_is : f.component_count ≡ length (components_of w h rest)
 
 -- the same by the answer
-abbrev pub rest_left : SortAnswer → LayoutParams → ℕ → ℕ → List ℕ → ℕ → ℕ → Cuts → List ℕ → List ℕ → Type 0
-rest_left (Sorted f) p w h rest P ink cuts s s' = RestHeld p w h rest P ink cuts s s' f
-rest_left TooMany p w h rest P ink cuts s s' = P < length (components_of w h rest)
+abbrev pub rest_left : Option SortCounts → LayoutParams → ℕ → ℕ → List ℕ → ℕ → ℕ → Cuts → List ℕ → List ℕ → Type 0
+rest_left (Some f) p w h rest P ink cuts s s' = RestHeld p w h rest P ink cuts s s' f
+rest_left None p w h rest P ink cuts s s' = P < length (components_of w h rest)

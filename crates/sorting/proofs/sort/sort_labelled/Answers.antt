@@ -7,7 +7,8 @@ use lib.Dec.{eqb}
 use Rattle.memory.proofs.BoolLaws.{and_left, and_right}
 use Rattle.rulings.specs.rules.Rulings.{run_min, thick_max}
 use Rattle.sorting.specs.stages.SortSteps.{cuts_left}
-use Rattle.sorting.specs.declared.sort.CutAnswer.{CutAnswer}
+use Rattle.std.specs.Prelude.{Option}
+use Rattle.sorting.specs.declared.sort.Cuts.{Cuts}
 use Rattle.sorting.proofs.PlanLaws.{plan-across, plan-down, plan-dots, plan-rulings, frame-of, frame-kept}
 use Rattle.sorting.proofs.SortLaws.{told-first, told-second, first_runs, first_inside, first-many, first_done, first-still}
 use Rattle.sorting.proofs.sort.sort_labelled.Goals as goal
@@ -71,21 +72,17 @@ label_cuts-requires c =
 pub sort_rest-requires : goal.sort_rest-requires
 sort_rest-requires c = (frame-kept (frame-of c.requires.0) (c.label_cuts.ensures.0 ∙ c.cut_ink-found.ensures.within.len), c.requires.2)
 
-pub returns-in-TooMany : goal.returns-in-TooMany
-returns-in-TooMany c =
+pub returns-in_err-cuts : goal.returns-in_err-cuts
+returns-in_err-cuts c =
     let a = c.args in
     let C = c.cut_ink-found.ensures in
-    let K = c.label_cuts.ensures in
-    let s = c.label_cuts.new.words in
-    let T = subst (λ (r : CutAnswer). cuts_left r (run_min a.sheet c.value.result) (thick_max a.sheet c.value.result) a.plan.width a.plan.height a.ink.now a.plan.capacity s) c.in-TooMany.is (K.1 _ _ C.marked) in
-    (K.0 ∙ C.within.len, first-many a.sheet c.requires.0 c.requires.1 c.value.result c.value.ensures C T)
+    let K = c.in_err-cuts.ensures in
+    rw c.from_residual.ensures (K.0 ∙ C.within.len, first-many a.sheet c.requires.0 c.requires.1 c.value.result c.value.ensures C (K.1 _ _ C.marked))
 
-pub returns-in-Cut : goal.returns-in-Cut
-returns-in-Cut c =
+pub returns : goal.returns
+returns c =
     let a = c.args in
     let C = c.cut_ink-found.ensures in
-    let K = c.label_cuts.ensures in
+    let K = c.in_ok-cuts.ensures in
     let X = c.sort_rest.ensures in
-    let s = c.label_cuts.new.words in
-    let T = subst (λ (r : CutAnswer). cuts_left r (run_min a.sheet c.value.result) (thick_max a.sheet c.value.result) a.plan.width a.plan.height a.ink.now a.plan.capacity s) c.in-Cut.is (K.1 _ _ C.marked) in
-    (X.0 ∙ (K.0 ∙ C.within.len), first_done a.sheet c.requires.0 c.requires.1 c.value.result c.value.ensures C c.in-Cut.cuts T _ X.0 c.sort_rest.result X.1)
+    (X.0 ∙ (K.0 ∙ C.within.len), first_done a.sheet c.requires.0 c.requires.1 c.value.result c.value.ensures C _ (K.1 _ _ C.marked) _ X.0 c.sort_rest.result X.1)
