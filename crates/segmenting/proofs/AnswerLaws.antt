@@ -1,6 +1,7 @@
 -- The answer of a whole segmentation: which number a page is refused with, and what it leaves.
 use mathlib.Core.Path.{◌≡◌, refl, sym, ap, ◌∙◌}
 use mathlib.Core.List.{List}
+use mathlib.Core.Logic.{inl, inr}
 use Prim.Native.Nat.{ℕ, ◌≤◌, ◌<◌, max}
 use native.Mathlib.Omega.{arith}
 use borrow.Author.Tests.{lt-ltb, le-ltb}
@@ -22,10 +23,13 @@ use Rattle.segmenting.specs.rules.Layouts.{layout, greatest_count, layout_refusa
 use Rattle.segmenting.specs.rules.Answers.{segment_outcome, segment_outcome_by, segment_plane}
 use Rattle.segmenting.specs.stages.Rooms.{SegmentRoom, SortedRoom}
 use Rattle.segmenting.specs.rules.Results.{results_left}
-use Rattle.smoothing.specs.stages.Segments.{smears_of, glyphs_in, lines_in, SmearsHeld, SortedPage}
+use Rattle.smoothing.specs.stages.Segments.{smears_of, glyphs_in, lines_in, SmearsHeld, SmearsRefused, SortedPage}
 use Rattle.segmenting.specs.rules.Figures.{figures_of}
 use Rattle.segmenting.specs.stages.Writing.{boxes_of_lines, ResultsRoom}
-use Rattle.segmenting.specs.declared.page.SegmentAnswer.TheVariants.{Segmented, Refused}
+use Rattle.std.specs.Prelude.{Ok, Err, Option, Some, None}
+use Rattle.std.specs.Option.{ok_or}
+use Rattle.memory.specs.declared.refusals.Refusal.{Refusal}
+use Rattle.memory.specs.declared.refusals.Refusal.TheVariants.{TooManyComponents, TooManyLines}
 use Rattle.segmenting.specs.declared.results.Segmentation.{Segmentation}
 use Rattle.smoothing.specs.declared.smears.Smears.{Smears}
 
@@ -81,30 +85,34 @@ module _ (p : LayoutParams) (w h : ℕ) (m : List ℕ) (P : ℕ) where
     unfolding segment_plane
     by_number n e = ap (λ k. segment_outcome_by k w P (layout p w h m) results kinds) (sym e)
 
-    left-many : P < most → segment_outcome (Refused 20) results kinds ≡ segment_plane p w h m P results kinds
+    left-many : P < most → segment_outcome (Err TooManyComponents) results kinds ≡ segment_plane p w h m P results kinds
     unfolding segment_outcome_by
     left-many l = by_number 20 (refused-many l)
 
     -- more than P components in a labelling of sorting
-    pub sorted-many : P < most_components (sorted p w h m) → segment_outcome (Refused 20) results kinds ≡ segment_plane p w h m P results kinds
+    pub sorted-many : P < most_components (sorted p w h m) → segment_outcome (Err TooManyComponents) results kinds ≡ segment_plane p w h m P results kinds
     sorted-many l = left-many (let a = most-sorted in omega arith)
 
     -- more than P smoothed components
-    pub smears-refused : P < length (smears_of p w h m).components → segment_outcome (Refused 20) results kinds ≡ segment_plane p w h m P results kinds
+    pub smears-refused : P < length (smears_of p w h m).components → segment_outcome (Err TooManyComponents) results kinds ≡ segment_plane p w h m P results kinds
     smears-refused l = left-many (let a = most-smears in omega arith)
 
     -- more lines than a page may have
     pub lines-refused : most_components (sorted p w h m) ≤ P → length (smears_of p w h m).components ≤ P → max_lines < length (lines_in p w h m)
-        → segment_outcome (Refused 21) results kinds ≡ segment_plane p w h m P results kinds
+        → segment_outcome (Err TooManyLines) results kinds ≡ segment_plane p w h m P results kinds
     unfolding segment_outcome_by
     lines-refused a b d = by_number 21 (refused-lines (most-few a b) d)
+
+    pub page-refused : most_components (sorted p w h m) ≤ P → (r : Refusal) → SmearsRefused r p w h m P → segment_outcome (Err r) results kinds ≡ segment_plane p w h m P results kinds
+    page-refused a r (inl (e, l)) = ap (λ z. segment_outcome (Err z) results kinds) e ∙ smears-refused l
+    page-refused a r (inr (e, b, l)) = ap (λ z. segment_outcome (Err z) results kinds) e ∙ lines-refused a b l
 
     -- none of these
     pub page-segmented : most_components (sorted p w h m) ≤ P → length (smears_of p w h m).components ≤ P → length (lines_in p w h m) ≤ max_lines
         → (f : Segmentation) (results' kinds' : List ℕ) → f ≡ figures_of (layout p w h m) → results' ≡ results_left w P (layout p w h m) results
-        → kinds' ≡ over (layout p w h m).plane kinds → segment_outcome (Segmented f) results' kinds' ≡ segment_plane p w h m P results kinds
+        → kinds' ≡ over (layout p w h m).plane kinds → segment_outcome (Ok f) results' kinds' ≡ segment_plane p w h m P results kinds
     unfolding segment_outcome_by
-    page-segmented a b d f results' kinds' e₁ e₂ e₃ = (λ i. segment_outcome (Segmented (e₁ i)) (e₂ i) (e₃ i)) ∙ by_number 0 (not-refused (most-few a b) d)
+    page-segmented a b d f results' kinds' e₁ e₂ e₃ = (λ i. record { number = 0; figures = Some (e₁ i); results = e₂ i; plane = e₃ i }) ∙ by_number 0 (not-refused (most-few a b) d)
 
 -- What the stages ask
 
@@ -142,3 +150,13 @@ module _ {p : LayoutParams} {w h : ℕ} {m : List ℕ} {P : ℕ} {s : List ℕ} 
 pub sorted-ask : {p : LayoutParams} {w h : ℕ} {m : List ℕ} {P : ℕ} {s : List ℕ} {results kinds : ℕ} → SegmentRoom p w h m P s results kinds
     → (s' : List ℕ) (found : SortCounts) → length s' ≡ length s → SortHeld p w h m P s' found → SortedRoom p w h m P s' found results kinds
 sorted-ask R s' found e H = record { room = record { plane = room-kept R.plane e; results_room = R.results_room; kinds_room = R.kinds_room }; held = H }
+
+-- the sorted plane, or none, as a result
+
+pub sorted-found : (o : Option SortCounts) (f : SortCounts) → Ok f ≡ ok_or o TooManyComponents → o ≡ Some f
+sorted-found None f e = absurd cc
+sorted-found (Some g) f e = cc
+
+pub sorted-refused : (o : Option SortCounts) (r : Refusal) → Err r ≡ ok_or o TooManyComponents → (o ≡ None) × (r ≡ TooManyComponents)
+sorted-refused None r e = (refl, cc)
+sorted-refused (Some g) r e = absurd cc

@@ -14,6 +14,6 @@ mod text;
 
 pub use boxes::BOX_WORDS;
 pub use figures::{measured_word, write_figures};
-pub use page::{SegmentAnswer, segment};
+pub use page::segment;
 pub use places::{COLUMN_WORDS, ResultPlaces, result_places, result_words};
 pub use results::Segmentation;

@@ -9,4 +9,4 @@ mod smooth;
 
 pub use glyphs::{GLYPH_WORDS, write_glyphs};
 pub use lines::{LINE_WORDS, LinePlaces, number_labels, order_lines, write_lines};
-pub use smears::{Smears, SmearsAnswer, find_smears};
+pub use smears::{Smears, find_smears};

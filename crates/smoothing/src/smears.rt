@@ -10,28 +10,20 @@ use crate::glyphs::{count_glyphs, label_glyphs};
 use crate::lines::count_lines;
 use crate::smooth::smooth_runs;
 use labelling::label_sizes;
-use memory::MAX_LINES;
+use memory::{MAX_LINES, Refusal};
 use params::LayoutParams;
 use rounding::round_to_u32;
 use sorting::Plan;
 
 // How many smoothed components and lines there are.
-#[derive(Clone, Copy)]
+#[derive(Clone, Copy, Debug, PartialEq, Eq)]
 pub struct Smears {
     pub smears: usize,
     pub lines: usize,
 }
 
-// Found; or more smoothed components than the capacity; or more lines than a page may have.
-#[derive(Clone, Copy)]
-pub enum SmearsAnswer {
-    Found(Smears),
-    TooMany,
-    TooManyLines,
-}
-
 // How many smoothed runs there are, and how many components they have.
-#[derive(Clone, Copy)]
+#[derive(Clone, Copy, Debug, PartialEq, Eq)]
 pub struct SmearLabels {
     pub runs: usize,
     pub smears: usize,
@@ -45,7 +37,7 @@ pub fn find_smears(
     runs: usize,
     component_count: usize,
     words: &mut [u32],
-) -> SmearsAnswer
+) -> Result<Smears, Refusal>
     requires { (m : List ℕ) × SortedPage sheet plan.width plan.height m plan.capacity words.old unit runs × (component_count ≡ length (sorted sheet plan.width plan.height m).rest.components) × Planned plan }
     ensures { (m : List ℕ) → SortedPage sheet plan.width plan.height m plan.capacity words.old unit runs → component_count ≡ length (sorted sheet plan.width plan.height m).rest.components
         → (length words.new ≡ length words.old) × smears_left result sheet plan.width plan.height m plan.capacity words.new runs }
@@ -53,16 +45,16 @@ pub fn find_smears(
     let found = label_smears(plan, sheet, unit, runs, words);
     let smears = found.smears;
     if plan.capacity < smears {
-        return SmearsAnswer::TooMany;
+        return Err(Refusal::TooManyComponents);
     }
     let numbers = 3 * runs + 2 * found.runs;
     label_glyphs(words, plan.kinds, component_count, plan.glyphs, numbers);
     count_glyphs(words, plan.kinds, component_count, plan.glyphs, smears);
     let lines = count_lines(&words[..], plan.smears, plan.glyphs, smears, sheet, unit);
     if (MAX_LINES as usize) < lines {
-        return SmearsAnswer::TooManyLines;
+        return Err(Refusal::TooManyLines);
     }
-    SmearsAnswer::Found(Smears { smears, lines })
+    Ok(Smears { smears, lines })
 }
 
 // Smooths the glyphs along rows and labels the smoothed runs, which stand behind the runs and their numbers; answers how many smoothed

@@ -1,38 +1,39 @@
 -- What a whole segmentation answers and leaves (01, parts 4 to 8, "Turned back": 20 and 21).
-use Rattle.std.specs.Prelude.{Bool, true, false, cond, List, ℕ, eqb}
+use Rattle.std.specs.Prelude.{cond, List, ℕ, eqb, Option, Some, None, Result, Ok, Err}
+use Rattle.memory.specs.declared.refusals.Refusal.{Refusal}
+use Rattle.memory.specs.rules.Refusals.{answer_number}
 use Rattle.memory.specs.rules.Words.{over}
 use Rattle.params.specs.declared.LayoutParams.{LayoutParams}
 use Rattle.segmenting.specs.rules.Layouts.{Layout, layout, layout_refusal}
 use Rattle.segmenting.specs.rules.Results.{results_left}
 use Rattle.segmenting.specs.rules.Figures.{figures_of}
-use Rattle.segmenting.specs.declared.page.SegmentAnswer.{SegmentAnswer}
-use Rattle.segmenting.specs.declared.page.SegmentAnswer.TheVariants.{Segmented, Refused}
+use Rattle.segmenting.specs.declared.results.Segmentation.{Segmentation}
 
--- 01's number of an answer: 0 where the page is segmented
-abbrev pub segment_number : SegmentAnswer → ℕ
-segment_number (Segmented f) = 0
-segment_number (Refused n) = n
+-- the figures that an answer has: none where the page is refused
+abbrev pub figures_told : Result Segmentation Refusal → Option Segmentation
+figures_told (Ok f) = Some f
+figures_told (Err r) = None
 
--- an answer, its number, and what the words of results and the plane of kinds then hold
+-- 01's number of an answer, 0 where the page is segmented, and its figures; what the words of results and the plane of kinds then hold
 pub record SegmentOutcome : Type 0 where
-  pub answer : SegmentAnswer
   pub number : ℕ
+  pub figures : Option Segmentation
   pub results : List ℕ
   pub plane : List ℕ
 
 -- what a segmentation with the answer r leaves
-abbrev pub segment_outcome : SegmentAnswer → List ℕ → List ℕ → SegmentOutcome
-segment_outcome r results plane = record { answer = r; number = segment_number r; results = results; plane = plane }
-
--- one answer or the other
-abbrev pub pick_segment : Bool → SegmentAnswer → SegmentAnswer → SegmentAnswer
-pick_segment true a b = a
-pick_segment false a b = b
+abbrev pub segment_outcome : Result Segmentation Refusal → List ℕ → List ℕ → SegmentOutcome
+segment_outcome r results plane = record { number = answer_number r; figures = figures_told r; results = results; plane = plane }
 
 -- the layout l, refused with n: all is as it was; with 0: its figures, its lists in their places, its plane of kinds over the front
 unfoldable pub segment_outcome_by : ℕ → ℕ → ℕ → Layout → List ℕ → List ℕ → SegmentOutcome
 segment_outcome_by n w P l results plane =
-    segment_outcome (pick_segment (eqb n 0) (Segmented (figures_of l)) (Refused n)) (cond (eqb n 0) (results_left w P l results) results) (cond (eqb n 0) (over l.plane plane) plane)
+    record {
+      number = n;
+      figures = cond (eqb n 0) (Some (figures_of l)) None;
+      results = cond (eqb n 0) (results_left w P l results) results;
+      plane = cond (eqb n 0) (over l.plane plane) plane;
+    }
 
 -- what the segmentation of an ink plane w wide and h high by a sheet leaves
 unfoldable pub segment_plane : LayoutParams → ℕ → ℕ → List ℕ → ℕ → List ℕ → List ℕ → SegmentOutcome

@@ -1,5 +1,5 @@
 -- A whole segmentation of an ink plane: what its stages leave in scratch (01, parts 4 to 8; 20 and 21).
-use Rattle.std.specs.Prelude.{◌≡◌, List, map, ℕ, suc, ◌+◌, ◌*◌, ◌≤◌, ◌<◌, min, Float, get_or, length, take, drop}
+use Rattle.std.specs.Prelude.{◌≡◌, List, map, ℕ, suc, ◌+◌, ◌*◌, ◌≤◌, ◌<◌, min, Float, get_or, length, take, drop, Result, Ok, Err, ◌⊎◌}
 use Rattle.memory.specs.rules.Records.{encoded}
 use Rattle.memory.specs.rules.Limits.{max_lines}
 use Rattle.labelling.specs.rules.Components.{box_of}
@@ -16,8 +16,8 @@ use Rattle.smoothing.specs.rules.Lines.{first_dot, LabelledGlyph, labelled_glyph
 use Rattle.smoothing.specs.stages.LineWords.{first_number, HoldsGlyphs, HoldsSmears}
 use Rattle.smoothing.specs.declared.smears.Smears.{Smears}
 use Rattle.smoothing.specs.declared.smears.SmearLabels.{SmearLabels}
-use Rattle.smoothing.specs.declared.smears.SmearsAnswer.{SmearsAnswer}
-use Rattle.smoothing.specs.declared.smears.SmearsAnswer.TheVariants.{Found, TooMany, TooManyLines}
+use Rattle.memory.specs.declared.refusals.Refusal.{Refusal}
+use Rattle.memory.specs.declared.refusals.Refusal.TheVariants.{TooManyComponents, TooManyLines}
 
 -- the labelling of the smoothed glyphs
 unfoldable pub smears_of : LayoutParams → ℕ → ℕ → List ℕ → Labelling
@@ -76,8 +76,13 @@ pub record SmearsHeld (p : LayoutParams) (w h : ℕ) (m : List ℕ) (P : ℕ) (s
   pub smears_is : f.smears ≡ length (smears_of p w h m).components
   pub lines_is : f.lines ≡ length (lines_in p w h m)
 
+-- more than P smoothed components, or else more lines than a page may have
+abbrev pub SmearsRefused : Refusal → LayoutParams → ℕ → ℕ → List ℕ → ℕ → Type 0
+SmearsRefused r p w h m P =
+    ((r ≡ TooManyComponents) × (P < length (smears_of p w h m).components))
+    ⊎ ((r ≡ TooManyLines) × (length (smears_of p w h m).components ≤ P) × (max_lines < length (lines_in p w h m)))
+
 -- what each answer says of the plane m and of the words s that are left
-abbrev pub smears_left : SmearsAnswer → LayoutParams → ℕ → ℕ → List ℕ → ℕ → List ℕ → ℕ → Type 0
-smears_left (Found f) p w h m P s runs = SmearsHeld p w h m P s runs f
-smears_left TooMany p w h m P s runs = P < length (smears_of p w h m).components
-smears_left TooManyLines p w h m P s runs = (length (smears_of p w h m).components ≤ P) × (max_lines < length (lines_in p w h m))
+abbrev pub smears_left : Result Smears Refusal → LayoutParams → ℕ → ℕ → List ℕ → ℕ → List ℕ → ℕ → Type 0
+smears_left (Ok f) p w h m P s runs = SmearsHeld p w h m P s runs f
+smears_left (Err r) p w h m P s runs = SmearsRefused r p w h m P
