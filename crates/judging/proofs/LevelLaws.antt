@@ -66,11 +66,8 @@ module _ (s : List ℕ) (w h : ℕ) (ew : w ≡ (frame_held (held s)).w) (eh : h
   pub frame-room : n ≤ length s → 64 + (get_or s 1 0 + h) ≤ length s
   frame-room l = omega arith
 
-  pub frame-judged : (lacking bad d : Bool) (r x y : ℕ) → n ≤ length s → r ≡ refuse_if lacking 9 x → x ≡ refuse_if d 16 y → d ≡ frame_spoiled s → y ≡ refuse_if bad 8 0 → r ≡ frame_judged s lacking bad
-  frame-judged lacking bad d r x y l er ex ed ey =
-      er
-      ∙ (ap (refuse_if lacking 9) (ex ∙ (λ i. refuse_if (ed i) 16 (ey i)))
-      ∙ sym (no-refusal _ 9 _ (le-ltb (length s) (store_held (held s)) (let e = words-by in omega arith))))
+  pub frame-judged : (lacking bad : Bool) (r : ℕ) → n ≤ length s → r ≡ refuse_if lacking 9 (refuse_if (frame_spoiled s) 16 (refuse_if bad 8 0)) → r ≡ frame_judged s lacking bad
+  frame-judged lacking bad r l e = e ∙ sym (no-refusal _ 9 _ (le-ltb (length s) (store_held (held s)) (let e = words-by in omega arith)))
 
 -- ---- an accepted reading
 

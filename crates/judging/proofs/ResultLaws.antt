@@ -19,7 +19,7 @@ use Rattle.params.specs.rules.Valid as Valid
 use Rattle.params.specs.rules.Valid.{float_one, ten_thousand, length_ok}
 use Rattle.memory.proofs.GreatestLaws.{greatest-more}
 use Rattle.memory.specs.rules.Masks.{is_mask}
-use Rattle.memory.proofs.MaskLaws.{mask-by-greatest}
+use Rattle.memory.proofs.MaskLaws.{mask-by-table}
 use Rattle.judging.specs.rules.Header.{part}
 use Rattle.memory.specs.rules.Floats.{float_at}
 use Rattle.memory.specs.rules.Limits.{max_lines, no_line}
@@ -122,7 +122,7 @@ mask-every m (suc n) =
 mask_is : (m : List ℕ) (n : ℕ) → n ≤ length m → every (λ k. leb (get_or m k 0) 1) n ≡ is_mask (take n m)
 mask_is m n h =
     every-same _ _ n (λ i l. ap (λ z. leb z 1) (sym (get_or-take n m i 0 l)))
-    ∙ (sym (mask-every (take n m) n) ∙ mask-by-greatest (take n m) _ n (sym (length-take-le n m h)) refl)
+    ∙ (sym (mask-every (take n m) n) ∙ mask-by-table (take n m) _ n (sym (length-take-le n m h)) refl)
 
 kinds_is : (ink kinds : List ℕ) (n : ℕ) → every (λ i. kind_ok (get_or ink i 0) (get_or kinds i 0)) n ≡ kinds_ok (take n ink) (take n kinds) n
 unfolding kinds_ok

@@ -23,6 +23,11 @@ unfolding greatest
 fold_max a [] = omega arith
 fold_max a (b ∷ m) = fold_max (max a b) m ∙ omega arith
 
+-- the greatest of the first i bytes, and these are all
+pub mask-by-table : (m : List ℕ) (most i : ℕ) → i ≡ length m → most ≡ greatest (table (λ k. get_or m k 0) i) → leb most 1 ≡ is_mask m
+unfolding is_mask
+mask-by-table m most i e f = ap (λ z. leb z 1) (f ∙ (ap (λ n. greatest (table (λ k. get_or m k 0) n)) e ∙ ap greatest (sym (list-is-table m))))
+
 -- the greatest of all bytes is at most 1
 pub mask-by-greatest : (m : List ℕ) (most : ℕ) → most ≡ fold (λ most byte. max most byte) 0 m → leb most 1 ≡ is_mask m
 unfolding is_mask

@@ -1,3 +1,5 @@
+use mathlib.Core.Path.{refl}
+use Rattle.memory.specs.rules.Refusals.{refuse_if}
 use native.Mathlib.Omega.{arith}
 use Rattle.judging.proofs.LimitLaws.{point-sides, point-within, point-few, point-held}
 use Rattle.judging.proofs.SpoiledLaws.{rest-lacking, rest-room, rest-judged}
@@ -26,5 +28,10 @@ planes_ok-agree-requires c =
     let r = rest-room c.args.store.now c.args.ink.now c.args.kinds.now c.args.lacking c.float_at-slope.result c.float_at-slope.ensures c.frame_size-size.result.w c.frame_size-size.result.h c.frame_size-size.ensures.sides.0 c.frame_size-size.ensures.sides.1 c.area-dots.result c.area-dots.ensures c.store_words-words.result c.store_words-words.ensures c.if-store-words.false in
     (r.1, r.2)
 
+pub returns-then-moved-right : goal.returns-then-moved-right
+unfolding refuse_if
+returns-then-moved-right c = rest-judged c.args.store.now c.args.ink.now c.args.kinds.now c.args.lacking c.float_at-slope.result c.float_at-slope.ensures c.frame_size-size.result.w c.frame_size-size.result.h c.frame_size-size.ensures.sides.0 c.frame_size-size.ensures.sides.1 c.area-dots.result c.area-dots.ensures c.store_words-words.result c.store_words-words.ensures c.if-store-words.false _ c.frame_differs-moved.result c.words_ok-right.result c.planes_ok-agree.result (rw c.if-moved-right.true refl) c.frame_differs-moved.ensures c.words_ok-right.ensures c.planes_ok-agree.ensures
+
 pub returns : goal.returns
-returns c = rest-judged c.args.store.now c.args.ink.now c.args.kinds.now c.args.lacking c.float_at-slope.result c.float_at-slope.ensures c.frame_size-size.result.w c.frame_size-size.result.h c.frame_size-size.ensures.sides.0 c.frame_size-size.ensures.sides.1 c.area-dots.result c.area-dots.ensures c.store_words-words.result c.store_words-words.ensures c.if-store-words.false c.refuse_if.result c.frame_differs-moved.result c.words_ok-right.result c.planes_ok-agree.result c.refuse_if.ensures c.frame_differs-moved.ensures c.words_ok-right.ensures c.planes_ok-agree.ensures
+unfolding refuse_if
+returns c = rest-judged c.args.store.now c.args.ink.now c.args.kinds.now c.args.lacking c.float_at-slope.result c.float_at-slope.ensures c.frame_size-size.result.w c.frame_size-size.result.h c.frame_size-size.ensures.sides.0 c.frame_size-size.ensures.sides.1 c.area-dots.result c.area-dots.ensures c.store_words-words.result c.store_words-words.ensures c.if-store-words.false _ c.frame_differs-moved.result c.words_ok-right.result c.planes_ok-agree.result (rw c.if-moved-right.false refl) c.frame_differs-moved.ensures c.words_ok-right.ensures c.planes_ok-agree.ensures
