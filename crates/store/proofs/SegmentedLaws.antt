@@ -21,12 +21,13 @@ use Rattle.memory.proofs.MaskLaws.{mask-ones}
 use Rattle.segmenting.specs.rules.Layouts.{Layout, layout, layout_refusal}
 use Rattle.segmenting.specs.rules.Answers as Answers
 use Rattle.segmenting.specs.stages.Rooms.{SegmentRoom}
-use Rattle.segmenting.specs.rules.Answers.{segment_plane, segment_outcome_by, segment_number, pick_segment}
+use Rattle.segmenting.specs.rules.Answers.{segment_plane, segment_outcome_by, figures_found}
 use Rattle.segmenting.proofs.PutLaws.{part_length}
 use Rattle.segmenting.specs.rules.Results.{result_words, results_left}
 use Rattle.segmenting.specs.rules.Figures.{figures_of}
-use Rattle.segmenting.specs.declared.page.SegmentAnswer.{SegmentAnswer}
-use Rattle.segmenting.specs.declared.page.SegmentAnswer.TheVariants.{Segmented, Refused}
+use Rattle.std.specs.Prelude.{Result, Option, Some, None}
+use Rattle.memory.specs.declared.refusals.Refusal.{Refusal}
+use Rattle.memory.specs.rules.Refusals.{answer_number}
 use Rattle.segmenting.specs.declared.results.Segmentation.{Segmentation}
 use Rattle.judging.specs.rules.Header.{held, frame_held, dots_held, lists_at, part, scratch_held}
 use Rattle.judging.specs.rules.Spoiled.{frame_spoiled, ink_spoiled}
@@ -147,24 +148,20 @@ judged-yes sheet s ink kinds scratch e =
     ap (λ n. settled n s kinds (store_segmented g.page_w (frame_held g).w (frame_held g).h g.capacity l s) (over l.plane kinds))
     (sym ((segment-passes sheet (length s) (length ink) (length kinds) scratch g (frame_spoiled s || ink_spoiled (dots_held g) ink)).pass e (layout_refusal g.capacity l)))
 
-number_of : (k : ℕ) (f : Segmentation) → segment_number (pick_segment (eqb k 0) (Segmented f) (Refused k)) ≡ k
-number_of zero f = refl
-number_of (suc k) f = rw (ne_eqb (suc k) 0 (λ (e : suc k ≡ 0). omega arith))
-
 -- the lists written, then the header, or nothing
-page-left : (pw w h P : ℕ) (l : Layout) (s kinds : List ℕ) (r : SegmentAnswer) (k : ℕ) (s' kinds' : List ℕ) → lists_at pw h ≤ length s → take (lists_at pw h) s' ≡ take (lists_at pw h) s
+page-left : (pw w h P : ℕ) (l : Layout) (s kinds : List ℕ) (r : Result Segmentation Refusal) (k : ℕ) (s' kinds' : List ℕ) → lists_at pw h ≤ length s → take (lists_at pw h) s' ≡ take (lists_at pw h) s
     → Answers.segment_outcome r (drop (lists_at pw h) s') kinds' ≡ segment_outcome_by k w P l (drop (lists_at pw h) s) kinds
-    → left (segment_number r) (head_left r s') kinds' ≡ settled k s kinds (store_segmented pw w h P l s) (over l.plane kinds)
+    → left (answer_number r) (head_left (figures_found r) s') kinds' ≡ settled k s kinds (store_segmented pw w h P l s) (over l.plane kinds)
 unfolding segment_outcome_by settled
 page-left pw w h P l s kinds r k s' kinds' room t e =
     let at = lists_at pw h in
     let b = eqb k 0 in
     let s'-is : s' ≡ take at s ++ cond b (results_left w P l (drop at s)) (drop at s) =
     sym (take-append-drop at s') ∙ (λ i. t i ++ (e i).results) in
-    (λ i. left (e i).number (head_left (e i).answer (s'-is i)) (e i).plane)
-    ∙ (λ i. left (number_of k (figures_of l) i) (go b i) (cond b (over l.plane kinds) kinds))
+    (λ i. left (e i).number (head_left (e i).figures (s'-is i)) (e i).plane)
+    ∙ (λ i. left k (go b i) (cond b (over l.plane kinds) kinds))
   where
-    go : (b : Bool) → head_left (pick_segment b (Segmented (figures_of l)) (Refused k)) (take (lists_at pw h) s ++ cond b (results_left w P l (drop (lists_at pw h) s)) (drop (lists_at pw h) s))
+    go : (b : Bool) → head_left (cond b (Some (figures_of l)) None) (take (lists_at pw h) s ++ cond b (results_left w P l (drop (lists_at pw h) s)) (drop (lists_at pw h) s))
         ≡ cond b (store_segmented pw w h P l s) s
     go true = lists-then-head pw w h P l s room
     go false = take-append-drop (lists_at pw h) s
@@ -174,9 +171,9 @@ module _ (sheet : LayoutParams) (s ink kinds : List ℕ) (scratch : ℕ) (J : se
   abbrev ok : Segmentable sheet s ink (length kinds) scratch
   ok = segmentable sheet s ink (length kinds) scratch J
 
-  pub page-done : (r : SegmentAnswer) (n : ℕ) (s' kinds' s'' : List ℕ) → take at s' ≡ take at s
+  pub page-done : (r : Result Segmentation Refusal) (n : ℕ) (s' kinds' s'' : List ℕ) → take at s' ≡ take at s
       → Answers.segment_outcome r (drop at s') kinds' ≡ segment_plane sheet w h (take (w * h) ink) P (drop at s) kinds
-      → n ≡ segment_number r → s'' ≡ head_left r s' → left n s'' kinds' ≡ segment_left sheet s ink kinds scratch
+      → n ≡ answer_number r → s'' ≡ head_left (figures_found r) s' → left n s'' kinds' ≡ segment_left sheet s ink kinds scratch
   unfolding segment_plane
   page-done r n s' kinds' s'' t e en es =
       let g = held s in
@@ -209,7 +206,7 @@ module _ (sheet : LayoutParams) (w h d P n start : ℕ) (s ink scratch : List �
       (subst (λ z. SegmentRoom sheet w h (take z ink) P (take (scratch_words z P) scratch) (length (take (length s - start) (drop start s))) k) (sym ed)
       (subst (λ z. SegmentRoom sheet w h (take (w * h) ink) P (take (scratch_words (w * h) P) scratch) z k) (sym (part_length start s)) r))
 
-  pub parts-done : (kinds : List ℕ) (r : SegmentAnswer) (part kinds' work : List ℕ) → start ≤ length s
+  pub parts-done : (kinds : List ℕ) (r : Result Segmentation Refusal) (part kinds' work : List ℕ) → start ≤ length s
       → scratch_words (w * h) P ≤ length scratch → length work ≡ length (take n scratch)
       → Answers.segment_outcome r part kinds' ≡ segment_plane sheet w h (take d ink) P (take (length s - start) (drop start s)) kinds
       → (take start (put_mid start (length s - start) s part) ≡ take start s)

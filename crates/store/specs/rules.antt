@@ -3,7 +3,6 @@ pub mod Written
 -- what levelling is handed
 pub mod Handed
 -- the number and value of an answer
-pub mod Answers
 -- what each reading asks and answers
 pub mod Readings
 -- what each call answers and leaves

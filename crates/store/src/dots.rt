@@ -7,12 +7,11 @@ ghost use Rattle.store.specs.stages.Areas.{words_frame, words_kinds, FrameHere};
 ghost use Rattle.store.specs.rules.Readings.{ResultReading};
 ghost use Rattle.store.specs.rules.Readings.Output.{none, words};
 ghost use Rattle.store.specs.rules.Outcomes.{told, result_told};
-ghost use Rattle.store.specs.rules.Answers.{answer_number, answer_value};
+ghost use Rattle.memory.specs.rules.Refusals.{answer_number, answer_value};
 
-use crate::answers::Answer;
 use judging::{FRAME_HEIGHT, FRAME_WIDTH, HEADER, PAGE_HEIGHT, PAGE_WIDTH, judge_reading};
 use levelling::Sides;
-use memory::Rect;
+use memory::{Rect, Refusal};
 
 // A kind outside 1 to 5, or a box with a corner outside the frame or reversed.
 fn bad_dots(kind: u32, r: Rect, w: u32, h: u32) -> bool
@@ -79,22 +78,19 @@ fn written(store: &[u32], kinds: &[u8], kind: u8, r: Rect, out: &mut [u32])
     );
 }
 
-// Counts them: the number of a refusal, or 0 and how many there are.
-pub fn count_dots(store: &[u32], ink: &[u8], kinds: &[u8], kind: u32, r: Rect) -> Answer
+// Counts them: the refusal, or how many there are.
+pub fn count_dots(store: &[u32], ink: &[u8], kinds: &[u8], kind: u32, r: Rect) -> Result<u32, Refusal>
     ensures { told (answer_number result) (answer_value result) none ≡ result_told (ResultReading.count_dots kind r) store.now ink.now kinds.now }
 {
-    let number = judge_reading(store, ink, kinds, false);
-    if number != 0 {
-        return Answer::Refused(number);
-    }
+    judge_reading(store, ink, kinds, false)?;
     if bad_dots(kind, r, store[FRAME_WIDTH], store[FRAME_HEIGHT]) {
-        return Answer::Refused(8);
+        return Err(Refusal::Place);
     }
     let n = counted(store, kinds, kind as u8, r);
-    Answer::Told(n)
+    Ok(n)
 }
 
-// Reads them: the number of a refusal, or 0, how many there are, and column and row of each over the front of the words lent.
+// Reads them: how many there are, and column and row of each over the front of the words lent.
 pub fn read_dots(
     store: &[u32],
     ink: &[u8],
@@ -102,21 +98,18 @@ pub fn read_dots(
     kind: u32,
     r: Rect,
     out: &mut [u32],
-) -> Answer
+) -> Result<u32, Refusal>
     ensures { told (answer_number result) (answer_value result) (words out.new) ≡ result_told (ResultReading.dots kind r out.old) store.now ink.now kinds.now }
 {
-    let number = judge_reading(store, ink, kinds, false);
-    if number != 0 {
-        return Answer::Refused(number);
-    }
+    judge_reading(store, ink, kinds, false)?;
     if bad_dots(kind, r, store[FRAME_WIDTH], store[FRAME_HEIGHT]) {
-        return Answer::Refused(8);
+        return Err(Refusal::Place);
     }
     let k = kind as u8;
     let n = counted(store, kinds, k, r);
     if out.len() < 2 * (n as usize) {
-        return Answer::Refused(9);
+        return Err(Refusal::Lent);
     }
     written(store, kinds, k, r, out);
-    Answer::Told(n)
+    Ok(n)
 }

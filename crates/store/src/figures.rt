@@ -6,11 +6,10 @@ ghost use Rattle.judging.specs.rules.Header.{header_words, part, figures_at};
 ghost use Rattle.store.specs.rules.Readings.{figures_told, ResultReading};
 ghost use Rattle.store.specs.rules.Readings.Output.{words};
 ghost use Rattle.store.specs.rules.Outcomes.{told, result_told};
-ghost use Rattle.store.specs.rules.Answers.{outcome_number};
+ghost use Rattle.memory.specs.rules.Refusals.{answer_number};
 
-use crate::answers::Outcome;
 use judging::{FIGURES, FIGURES_END, FIGURES_LENGTH, judge_reading};
-use memory::copy_words;
+use memory::{Refusal, copy_words};
 
 // The words 10 to 24 over the front of the words lent, the first as 0 or 1.
 fn put_figures(store: &[u32], out: &mut [u32])
@@ -23,14 +22,11 @@ fn put_figures(store: &[u32], out: &mut [u32])
     }
 }
 
-// Reads the figures: the number of a refusal, or 0 and fifteen words.
-pub fn read_figures(store: &[u32], ink: &[u8], kinds: &[u8], out: &mut [u32]) -> Outcome
-    ensures { told (outcome_number result) 0 (words out.new) ≡ result_told (ResultReading.figures out.old) store.now ink.now kinds.now }
+// Reads the figures: the refusal, or fifteen words.
+pub fn read_figures(store: &[u32], ink: &[u8], kinds: &[u8], out: &mut [u32]) -> Result<(), Refusal>
+    ensures { told (answer_number result) 0 (words out.new) ≡ result_told (ResultReading.figures out.old) store.now ink.now kinds.now }
 {
-    let number = judge_reading(store, ink, kinds, out.len() < FIGURES_LENGTH);
-    if number != 0 {
-        return Outcome::Refused(number);
-    }
+    judge_reading(store, ink, kinds, out.len() < FIGURES_LENGTH)?;
     put_figures(store, out);
-    Outcome::Done
+    Ok(())
 }

@@ -3,30 +3,26 @@ ghost use Rattle.std.specs.Prelude.{false, ◌≡◌, ◌≤◌, ltb, length};
 ghost use Rattle.memory.specs.rules.Words.{over};
 ghost use Rattle.judging.specs.rules.Header.{header_words};
 ghost use Rattle.judging.specs.stages.Judged.{level_judged};
-ghost use Rattle.store.specs.rules.Answers.{outcome_number};
+ghost use Rattle.memory.specs.rules.Refusals.{answer_number};
 ghost use Rattle.store.specs.rules.Readings.{LevelReading, frame_length};
 ghost use Rattle.store.specs.rules.Readings.Output.{words};
 ghost use Rattle.store.specs.rules.Outcomes.{told, level_told};
 ghost use Rattle.store.specs.stages.Areas.{frame_put};
 
-use crate::answers::Outcome;
 use judging::{
     FRAME_HEIGHT, FRAME_WIDTH, PAGE_HEIGHT, PAGE_WIDTH, SKEW, SLOPE, frame_held, judge_frame,
     level_head,
 };
-use memory::{float_at, put_float};
+use memory::{Refusal, float_at, put_float};
 
 // How many words they take.
 const FRAME_LENGTH: usize = 8;
 
-// All that can refuse the call: the number, or 0.
-fn judge_figures(store: &[u32], out: usize) -> u32
-    ensures { result ≡ level_judged store.now (ltb out frame_length) false }
+// All that can refuse the call.
+fn judge_figures(store: &[u32], out: usize) -> Result<(), Refusal>
+    ensures { answer_number result ≡ level_judged store.now (ltb out frame_length) false }
 {
-    let head = level_head(store);
-    if head != 0 {
-        return head;
-    }
+    level_head(store)?;
     let size = frame_held(store);
     judge_frame(store, size.w, size.h, out < FRAME_LENGTH, false)
 }
@@ -46,14 +42,11 @@ fn put_frame(store: &[u32], out: &mut [u32])
     put_float(out, 6, slope);
 }
 
-// Reads the frame's figures: eight words, or the number of a refusal.
-pub fn read_frame(store: &[u32], out: &mut [u32]) -> Outcome
-    ensures { told (outcome_number result) 0 (words out.new) ≡ level_told (LevelReading.frame_figures out.old) store.now }
+// Reads the frame's figures: eight words, or the refusal.
+pub fn read_frame(store: &[u32], out: &mut [u32]) -> Result<(), Refusal>
+    ensures { told (answer_number result) 0 (words out.new) ≡ level_told (LevelReading.frame_figures out.old) store.now }
 {
-    let number = judge_figures(store, out.len());
-    if number != 0 {
-        return Outcome::Refused(number);
-    }
+    judge_figures(store, out.len())?;
     put_frame(store, out);
-    Outcome::Done
+    Ok(())
 }

@@ -8,14 +8,13 @@ ghost use Rattle.judging.specs.rules.Header.{header_words, figures_at};
 ghost use Rattle.store.specs.rules.Written.{head_words};
 ghost use Rattle.store.specs.rules.Handed.{leaf_handed};
 ghost use Rattle.store.specs.rules.Outcomes.{left, level_left};
-ghost use Rattle.store.specs.rules.Answers.{outcome_number};
+ghost use Rattle.memory.specs.rules.Refusals.{answer_number};
 
-use crate::answers::Outcome;
 use judging::{
     CAPACITY, FRAME_HEIGHT, FRAME_WIDTH, HEADER, LEVELLED, PAGE_HEIGHT, PAGE_WIDTH, STATE,
     judge_leaf, judge_place,
 };
-use memory::{bits_of, copy_words};
+use memory::{Refusal, bits_of, copy_words};
 use params::LayoutParams;
 
 // What levelling is handed beside mask and sheet (01, part 3).
@@ -121,27 +120,21 @@ fn write_leaf(mask: &[u8], a: Head, store: &mut [u32], ink: &mut [u8])
     move_mask(mask, a, store, ink);
 }
 
-// Levels a mask: the number of a refusal, or 0 and the leaf in the store and the ink plane.
+// Levels a mask: the refusal, or the leaf in the store and the ink plane.
 pub fn level(
     mask: &[u8],
     a: Handed,
     sheet: LayoutParams,
     store: &mut [u32],
     ink: &mut [u8],
-) -> Outcome
-    ensures { left (outcome_number result) store.new ink.new ≡ level_left (leaf_handed mask.now a sheet) store.old ink.old }
+) -> Result<(), Refusal>
+    ensures { left (answer_number result) store.new ink.new ≡ level_left (leaf_handed mask.now a sheet) store.old ink.old }
 {
-    let handed = judge_leaf(mask, a.width, a.height, a.skew, a.slope, sheet, a.capacity);
-    if handed != 0 {
-        return Outcome::Refused(handed);
-    }
+    judge_leaf(mask, a.width, a.height, a.skew, a.slope, sheet, a.capacity)?;
     let skew = levelling::applied(sheet, a.skew, a.skew);
     let slope = levelling::applied(sheet, a.skew, a.slope);
     let size = levelling::frame_size(a.width, a.height, slope);
-    let lent = judge_place(a.width, size.w, size.h, a.capacity, store, ink.len());
-    if lent != 0 {
-        return Outcome::Refused(lent);
-    }
+    judge_place(a.width, size.w, size.h, a.capacity, store, ink.len())?;
     let head = Head {
         page_w: a.width,
         page_h: a.height,
@@ -152,5 +145,5 @@ pub fn level(
         slope,
     };
     write_leaf(mask, head, store, ink);
-    Outcome::Done
+    Ok(())
 }

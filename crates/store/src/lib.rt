@@ -1,7 +1,6 @@
 // The store: its entries and readings. What each answers and leaves is in specs/rules/Outcomes.
 #![tactic(auto)]
 
-mod answers;
 mod clearing;
 mod dots;
 mod figures;
@@ -15,7 +14,6 @@ mod medians;
 mod points;
 mod sheets;
 
-pub use answers::{Answer, Outcome};
 pub use clearing::clear;
 pub use dots::{count_dots, read_dots};
 pub use figures::read_figures;

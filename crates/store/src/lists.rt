@@ -4,15 +4,14 @@ ghost use Rattle.store.specs.stages.Areas.{which_of, record_words, list_start, l
 ghost use Rattle.store.specs.rules.Readings.{ResultReading, Which};
 ghost use Rattle.store.specs.rules.Readings.Output.{words};
 ghost use Rattle.store.specs.rules.Outcomes.{told, result_told};
-ghost use Rattle.store.specs.rules.Answers.{answer_number, answer_value};
+ghost use Rattle.memory.specs.rules.Refusals.{answer_number, answer_value};
 
-use crate::answers::Answer;
 use grouping::BLOCK_WORDS;
 use judging::{
     BLOCKS, CAPACITY, COLUMNS, FRAME_HEIGHT, FRAME_WIDTH, GLYPHS, GRAPHICS, LINES, PAGE_WIDTH,
     RULES, judge_reading, lists_at,
 };
-use memory::{copy_words, wide};
+use memory::{Refusal, copy_words, wide};
 use segmenting::{BOX_WORDS, COLUMN_WORDS, result_places};
 use smoothing::{GLYPH_WORDS, LINE_WORDS};
 
@@ -88,53 +87,50 @@ pub fn list_of(store: &[u32], which: u32) -> &[u32]
     &store[at..end]
 }
 
-// Reads a list by its number: the number of a refusal, or 0, how many records, and their words over the front of the words lent.
-fn read_list(store: &[u32], ink: &[u8], kinds: &[u8], which: u32, out: &mut [u32]) -> Answer
+// Reads a list by its number: how many records, and their words over the front of the words lent.
+fn read_list(store: &[u32], ink: &[u8], kinds: &[u8], which: u32, out: &mut [u32]) -> Result<u32, Refusal>
     ensures { told (answer_number result) (answer_value result) (words out.new) ≡ result_told (ResultReading.list (which_of which) out.old) store.now ink.now kinds.now }
 {
-    let number = judge_reading(store, ink, kinds, false);
-    if number != 0 {
-        return Answer::Refused(number);
-    }
+    judge_reading(store, ink, kinds, false)?;
     let list = list_of(store, which);
     if out.len() < list.len() {
-        return Answer::Refused(9);
+        return Err(Refusal::Lent);
     }
     copy_words(out, list);
-    Answer::Told(count_of(store, which))
+    Ok(count_of(store, which))
 }
 
-pub fn read_columns(store: &[u32], ink: &[u8], kinds: &[u8], out: &mut [u32]) -> Answer
+pub fn read_columns(store: &[u32], ink: &[u8], kinds: &[u8], out: &mut [u32]) -> Result<u32, Refusal>
     ensures { told (answer_number result) (answer_value result) (words out.new) ≡ result_told (ResultReading.list Which.columns out.old) store.now ink.now kinds.now }
 {
     read_list(store, ink, kinds, COLUMNS_LIST, out)
 }
 
-pub fn read_rules(store: &[u32], ink: &[u8], kinds: &[u8], out: &mut [u32]) -> Answer
+pub fn read_rules(store: &[u32], ink: &[u8], kinds: &[u8], out: &mut [u32]) -> Result<u32, Refusal>
     ensures { told (answer_number result) (answer_value result) (words out.new) ≡ result_told (ResultReading.list Which.rules out.old) store.now ink.now kinds.now }
 {
     read_list(store, ink, kinds, RULES_LIST, out)
 }
 
-pub fn read_graphics(store: &[u32], ink: &[u8], kinds: &[u8], out: &mut [u32]) -> Answer
+pub fn read_graphics(store: &[u32], ink: &[u8], kinds: &[u8], out: &mut [u32]) -> Result<u32, Refusal>
     ensures { told (answer_number result) (answer_value result) (words out.new) ≡ result_told (ResultReading.list Which.graphics out.old) store.now ink.now kinds.now }
 {
     read_list(store, ink, kinds, GRAPHICS_LIST, out)
 }
 
-pub fn read_glyphs(store: &[u32], ink: &[u8], kinds: &[u8], out: &mut [u32]) -> Answer
+pub fn read_glyphs(store: &[u32], ink: &[u8], kinds: &[u8], out: &mut [u32]) -> Result<u32, Refusal>
     ensures { told (answer_number result) (answer_value result) (words out.new) ≡ result_told (ResultReading.list Which.glyphs out.old) store.now ink.now kinds.now }
 {
     read_list(store, ink, kinds, GLYPHS_LIST, out)
 }
 
-pub fn read_lines(store: &[u32], ink: &[u8], kinds: &[u8], out: &mut [u32]) -> Answer
+pub fn read_lines(store: &[u32], ink: &[u8], kinds: &[u8], out: &mut [u32]) -> Result<u32, Refusal>
     ensures { told (answer_number result) (answer_value result) (words out.new) ≡ result_told (ResultReading.list Which.lines out.old) store.now ink.now kinds.now }
 {
     read_list(store, ink, kinds, LINES_LIST, out)
 }
 
-pub fn read_blocks(store: &[u32], ink: &[u8], kinds: &[u8], out: &mut [u32]) -> Answer
+pub fn read_blocks(store: &[u32], ink: &[u8], kinds: &[u8], out: &mut [u32]) -> Result<u32, Refusal>
     ensures { told (answer_number result) (answer_value result) (words out.new) ≡ result_told (ResultReading.list Which.blocks out.old) store.now ink.now kinds.now }
 {
     read_list(store, ink, kinds, BLOCKS_LIST, out)

@@ -9,22 +9,18 @@ ghost use Rattle.judging.specs.stages.Judged.{level_judged};
 ghost use Rattle.store.specs.rules.Readings.{LevelReading, box_inside, filled, rect_numbers};
 ghost use Rattle.store.specs.rules.Readings.Output.{words, integers};
 ghost use Rattle.store.specs.rules.Outcomes.{told, level_told};
-ghost use Rattle.store.specs.rules.Answers.{outcome_number};
+ghost use Rattle.memory.specs.rules.Refusals.{answer_number};
 
-use crate::answers::Outcome;
 use judging::{
     FRAME_HEIGHT, FRAME_WIDTH, HEADER, PAGE_HEIGHT, PAGE_WIDTH, frame_held, judge_frame, level_head,
 };
-use memory::{Rect, area, word_at};
+use memory::{Rect, Refusal, area, word_at};
 
-// All that can refuse a gray plane of so many bytes: the number, or 0.
-fn judge_gray(store: &[u32], gray: usize, out: usize) -> u32
-    ensures { result ≡ level_judged store.now (not (eqb gray ((held store.now).page_w * (held store.now).page_h)) || ltb out (dots_held (held store.now))) false }
+// All that can refuse a gray plane of so many bytes.
+fn judge_gray(store: &[u32], gray: usize, out: usize) -> Result<(), Refusal>
+    ensures { answer_number result ≡ level_judged store.now (not (eqb gray ((held store.now).page_w * (held store.now).page_h)) || ltb out (dots_held (held store.now))) false }
 {
-    let head = level_head(store);
-    if head != 0 {
-        return head;
-    }
+    level_head(store)?;
     let size = frame_held(store);
     let w = size.w;
     let h = size.h;
@@ -60,29 +56,23 @@ fn put_gray(store: &[u32], gray: &[u8], out: &mut [u8])
     );
 }
 
-// Moves a gray plane of the page into the frame: the number of a refusal, or 0 and the plane; dots that the frame adds are 255.
-pub fn level_gray(store: &[u32], gray: &[u8], out: &mut [u8]) -> Outcome
-    ensures { told (outcome_number result) 0 (words out.new) ≡ level_told (LevelReading.gray gray.now out.old) store.now }
+// Moves a gray plane of the page into the frame: the refusal, or the plane; dots that the frame adds are 255.
+pub fn level_gray(store: &[u32], gray: &[u8], out: &mut [u8]) -> Result<(), Refusal>
+    ensures { told (answer_number result) 0 (words out.new) ≡ level_told (LevelReading.gray gray.now out.old) store.now }
 {
-    let number = judge_gray(store, gray.len(), out.len());
-    if number != 0 {
-        return Outcome::Refused(number);
-    }
+    judge_gray(store, gray.len(), out.len())?;
     put_gray(store, gray, out);
-    Outcome::Done
+    Ok(())
 }
 
 // How many numbers a box takes.
 const RECT_LENGTH: usize = 4;
 
-// All that can refuse a box: the number, or 0.
-fn judge_box(store: &[u32], r: Rect, out: usize) -> u32
-    ensures { result ≡ level_judged store.now (ltb out 4) (not (box_inside (frame_held (held store.now)) r)) }
+// All that can refuse a box.
+fn judge_box(store: &[u32], r: Rect, out: usize) -> Result<(), Refusal>
+    ensures { answer_number result ≡ level_judged store.now (ltb out 4) (not (box_inside (frame_held (held store.now)) r)) }
 {
-    let head = level_head(store);
-    if head != 0 {
-        return head;
-    }
+    level_head(store)?;
     let size = frame_held(store);
     let w = size.w;
     let h = size.h;
@@ -111,17 +101,14 @@ fn write_box(b: Rect, rect: &mut [i32])
     rect[3] = b.y1 as i32;
 }
 
-// Maps a frame box: the number of a refusal, or 0 and the page box, its upper left and its lower right corner.
-pub fn rect_to_page(store: &[u32], r: Rect, rect: &mut [i32]) -> Outcome
-    ensures { told (outcome_number result) 0 (integers rect.new) ≡ level_told (LevelReading.box r rect.old) store.now }
+// Maps a frame box: the refusal, or the page box, its upper left and its lower right corner.
+pub fn rect_to_page(store: &[u32], r: Rect, rect: &mut [i32]) -> Result<(), Refusal>
+    ensures { told (answer_number result) 0 (integers rect.new) ≡ level_told (LevelReading.box r rect.old) store.now }
 {
-    let number = judge_box(store, r, rect.len());
-    if number != 0 {
-        return Outcome::Refused(number);
-    }
+    judge_box(store, r, rect.len())?;
     let page_w = word_at(store, PAGE_WIDTH);
     let page_h = word_at(store, PAGE_HEIGHT);
     let h = word_at(store, FRAME_HEIGHT);
     write_box(mapped_box(store, page_w, page_h, h, r), rect);
-    Outcome::Done
+    Ok(())
 }

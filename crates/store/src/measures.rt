@@ -5,29 +5,25 @@ ghost use Rattle.store.specs.stages.Areas.{LinesAt, summary_words};
 ghost use Rattle.store.specs.rules.Readings.{ResultReading, filled};
 ghost use Rattle.store.specs.rules.Readings.Output.{none, floats};
 ghost use Rattle.store.specs.rules.Outcomes.{told, result_told};
-ghost use Rattle.store.specs.rules.Answers.{outcome_number, answer_number, answer_value};
+ghost use Rattle.memory.specs.rules.Refusals.{answer_number, answer_value};
 
-use crate::answers::{Answer, Outcome};
 use crate::medians::{height_read, pitch_read, twenty_read};
 use grouping::{Summary, Totals};
 use judging::{
     BLOCKS, COLUMNS, FRAME_HEIGHT, FRAME_WIDTH, GLYPH_DOTS, GLYPHS, GRAPHICS, INK_DOTS, LINES,
     RULES, SKEW, UNIT, judge_reading,
 };
-use memory::float_at;
+use memory::{Refusal, float_at};
 
 // How many numbers `summarize` gives.
 const SUMMARY_LENGTH: usize = 12;
 
 // The twenty-line measure: ten times the median pitch, 0 without any.
-pub fn twenty_line_measure(store: &[u32], ink: &[u8], kinds: &[u8]) -> Answer
+pub fn twenty_line_measure(store: &[u32], ink: &[u8], kinds: &[u8]) -> Result<u32, Refusal>
     ensures { told (answer_number result) (answer_value result) none ≡ result_told ResultReading.twenty_lines store.now ink.now kinds.now }
 {
-    let number = judge_reading(store, ink, kinds, false);
-    if number != 0 {
-        return Answer::Refused(number);
-    }
-    Answer::Told(twenty_read(store))
+    judge_reading(store, ink, kinds, false)?;
+    Ok(twenty_read(store))
 }
 
 // The summary of what the words say.
@@ -80,14 +76,11 @@ fn put_summary(s: Summary, out: &mut [f64])
     out[11] = s.median_glyph_height_xh;
 }
 
-// Reads the summary: the number of a refusal, or 0 and twelve numbers.
-pub fn read_summary(store: &[u32], ink: &[u8], kinds: &[u8], out: &mut [f64]) -> Outcome
-    ensures { told (outcome_number result) 0 (floats out.new) ≡ result_told (ResultReading.summary out.old) store.now ink.now kinds.now }
+// Reads the summary: the refusal, or twelve numbers.
+pub fn read_summary(store: &[u32], ink: &[u8], kinds: &[u8], out: &mut [f64]) -> Result<(), Refusal>
+    ensures { told (answer_number result) 0 (floats out.new) ≡ result_told (ResultReading.summary out.old) store.now ink.now kinds.now }
 {
-    let number = judge_reading(store, ink, kinds, out.len() < SUMMARY_LENGTH);
-    if number != 0 {
-        return Outcome::Refused(number);
-    }
+    judge_reading(store, ink, kinds, out.len() < SUMMARY_LENGTH)?;
     put_summary(summary_of(store), out);
-    Outcome::Done
+    Ok(())
 }

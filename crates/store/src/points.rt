@@ -7,25 +7,21 @@ ghost use Rattle.store.specs.rules.Readings.{filled, point_numbers, point_length
 ghost use Rattle.judging.specs.stages.Judged.{level_judged};
 ghost use Rattle.store.specs.rules.Readings.Output.{integers};
 ghost use Rattle.store.specs.rules.Outcomes.{told, level_told};
-ghost use Rattle.store.specs.rules.Answers.{outcome_number};
+ghost use Rattle.memory.specs.rules.Refusals.{answer_number};
 ghost use Rattle.store.specs.stages.Points.{Coordinate};
 
-use crate::answers::Outcome;
 use judging::{FRAME_HEIGHT, HEADER, PAGE_WIDTH, frame_held, judge_frame, level_head};
 use levelling::Point;
-use memory::word_at;
+use memory::{Refusal, word_at};
 
 // How many numbers a point takes.
 const POINT_LENGTH: usize = 2;
 
-// All that can refuse a point: the number, or 0.
-fn judge_point(store: &[u32], x: u32, y: u32, out: usize) -> u32
-    ensures { result ≡ level_judged store.now (ltb out point_length) (not (ltb x (frame_held (held store.now)).w && ltb y (frame_held (held store.now)).h)) }
+// All that can refuse a point.
+fn judge_point(store: &[u32], x: u32, y: u32, out: usize) -> Result<(), Refusal>
+    ensures { answer_number result ≡ level_judged store.now (ltb out point_length) (not (ltb x (frame_held (held store.now)).w && ltb y (frame_held (held store.now)).h)) }
 {
-    let head = level_head(store);
-    if head != 0 {
-        return head;
-    }
+    level_head(store)?;
     let size = frame_held(store);
     let w = size.w;
     let h = size.h;
@@ -51,16 +47,13 @@ fn mapped(store: &[u32], page_w: u32, h: u32, x: u32, y: u32) -> Point
     levelling::to_page(&store[HEADER..start], &store[start..end], page_w, x, y)
 }
 
-// Maps a frame point: the number of a refusal, or 0 and the page's column and row, which may lie outside the page.
-pub fn to_page(store: &[u32], x: u32, y: u32, point: &mut [i32]) -> Outcome
-    ensures { told (outcome_number result) 0 (integers point.new) ≡ level_told (LevelReading.point x y point.old) store.now }
+// Maps a frame point: the refusal, or the page's column and row, which may lie outside the page.
+pub fn to_page(store: &[u32], x: u32, y: u32, point: &mut [i32]) -> Result<(), Refusal>
+    ensures { told (answer_number result) 0 (integers point.new) ≡ level_told (LevelReading.point x y point.old) store.now }
 {
-    let number = judge_point(store, x, y, point.len());
-    if number != 0 {
-        return Outcome::Refused(number);
-    }
+    judge_point(store, x, y, point.len())?;
     let page_w = word_at(store, PAGE_WIDTH);
     let h = word_at(store, FRAME_HEIGHT);
     put_point(mapped(store, page_w, h, x, y), point);
-    Outcome::Done
+    Ok(())
 }

@@ -4,16 +4,15 @@ ghost use Rattle.memory.specs.rules.Words.{over};
 ghost use Rattle.store.specs.rules.Readings.{ResultReading};
 ghost use Rattle.store.specs.rules.Readings.Output.{words};
 ghost use Rattle.store.specs.rules.Outcomes.{told, result_told};
-ghost use Rattle.store.specs.rules.Answers.{answer_number, answer_value};
+ghost use Rattle.memory.specs.rules.Refusals.{answer_number, answer_value};
 ghost use Rattle.store.specs.stages.Areas.{ListsAt, sheet_read};
 
-use crate::answers::Answer;
 use judging::{
     CAPACITY, FIGURES, FIGURES_END, FRAME_HEIGHT, FRAME_WIDTH, PAGE_HEIGHT, PAGE_WIDTH,
     judge_reading, lists_at,
 };
 use listing::{SheetSides, sheet_length, write_sheet_text};
-use memory::wide;
+use memory::{Refusal, wide};
 use segmenting::result_places;
 
 // How long the sheet is.
@@ -51,18 +50,15 @@ fn put_sheet(store: &[u32], out: &mut [u8])
     );
 }
 
-// Writes the sheet: the number of a refusal, or 0, how many bytes it has, and these over the front of the bytes lent.
-pub fn write_sheet(store: &[u32], ink: &[u8], kinds: &[u8], out: &mut [u8]) -> Answer
+// Writes the sheet: how many bytes it has, and these over the front of the bytes lent.
+pub fn write_sheet(store: &[u32], ink: &[u8], kinds: &[u8], out: &mut [u8]) -> Result<u32, Refusal>
     ensures { told (answer_number result) (answer_value result) (words out.new) ≡ result_told (ResultReading.listing out.old) store.now ink.now kinds.now }
 {
-    let number = judge_reading(store, ink, kinds, false);
-    if number != 0 {
-        return Answer::Refused(number);
-    }
+    judge_reading(store, ink, kinds, false)?;
     let size = sheet_size(store);
     if out.len() < size {
-        return Answer::Refused(9);
+        return Err(Refusal::Lent);
     }
     put_sheet(store, out);
-    Answer::Told(size as u32)
+    Ok(size as u32)
 }

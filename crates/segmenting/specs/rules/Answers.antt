@@ -10,9 +10,9 @@ use Rattle.segmenting.specs.rules.Figures.{figures_of}
 use Rattle.segmenting.specs.declared.results.Segmentation.{Segmentation}
 
 -- the figures that an answer has: none where the page is refused
-abbrev pub figures_told : Result Segmentation Refusal → Option Segmentation
-figures_told (Ok f) = Some f
-figures_told (Err r) = None
+abbrev pub figures_found : Result Segmentation Refusal → Option Segmentation
+figures_found (Ok f) = Some f
+figures_found (Err r) = None
 
 -- 01's number of an answer, 0 where the page is segmented, and its figures; what the words of results and the plane of kinds then hold
 pub record SegmentOutcome : Type 0 where
@@ -23,7 +23,7 @@ pub record SegmentOutcome : Type 0 where
 
 -- what a segmentation with the answer r leaves
 abbrev pub segment_outcome : Result Segmentation Refusal → List ℕ → List ℕ → SegmentOutcome
-segment_outcome r results plane = record { number = answer_number r; figures = figures_told r; results = results; plane = plane }
+segment_outcome r results plane = record { number = answer_number r; figures = figures_found r; results = results; plane = plane }
 
 -- the layout l, refused with n: all is as it was; with 0: its figures, its lists in their places, its plane of kinds over the front
 unfoldable pub segment_outcome_by : ℕ → ℕ → ℕ → Layout → List ℕ → List ℕ → SegmentOutcome

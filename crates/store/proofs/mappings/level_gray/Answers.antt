@@ -1,3 +1,6 @@
+use Rattle.std.proofs.lemmas.Result.{err_from_is_err_and}
+use Rattle.memory.proofs.RefusalLaws.{number_positive}
+use mathlib.Core.Path.{refl}
 use mathlib.Core.Path.{ap, ◌∙◌}
 use mathlib.Core.List.{List}
 use Prim.Native.Nat.{ℕ}
@@ -9,10 +12,12 @@ use Rattle.store.proofs.mappings.level_gray.Goals as goal
 
 -- `store::mappings::level_gray` meets its contract: one judgement, then one worker. Assumes nothing.
 
-pub returns-then-number-ne0 : goal.returns-then-number-ne0
-returns-then-number-ne0 c = reading-no (LevelReading.gray c.args.gray.now c.args.out.now) c.args.store.now _ c.judge_gray-number.ensures c.if-number-ne0.true
+pub returns-in_err-judge_gray : goal.returns-in_err-judge_gray
+returns-in_err-judge_gray c =
+    let p = err_from_is_err_and c.from_residual.result c.from_residual.ensures.1 in
+    rw (p.1, p.2) (reading-no (LevelReading.gray c.args.gray.now c.args.out.now) c.args.store.now _ c.in_err-judge_gray.ensures (number_positive c.in_err-judge_gray.field-0.0))
 
 pub returns : goal.returns
 returns c =
     ap (λ (z : List ℕ). told 0 0 (words z)) c.put_gray.ensures
-    ∙ reading-yes (LevelReading.gray c.args.gray.now c.args.out.now) c.args.store.now _ c.judge_gray-number.ensures c.if-number-ne0.false
+    ∙ reading-yes (LevelReading.gray c.args.gray.now c.args.out.now) c.args.store.now _ c.in_ok-judge_gray.ensures refl

@@ -1,3 +1,6 @@
+use Rattle.std.proofs.lemmas.Result.{err_from_is_err_and}
+use Rattle.memory.proofs.RefusalLaws.{number_positive}
+use mathlib.Core.Path.{refl}
 use mathlib.Core.Path.{sym, ap, ◌∙◌}
 use mathlib.Core.List.{List}
 use native.Mathlib.Omega.{arith}
@@ -14,26 +17,28 @@ use Rattle.store.proofs.points.to_page.Goals as goal
 
 -- `store::points::to_page` meets its contract: one judgement, then one worker. Assumes nothing.
 
-pub returns-then-number-ne0 : goal.returns-then-number-ne0
-returns-then-number-ne0 c = reading-no (LevelReading.point c.args.x c.args.y c.args.point.now) c.args.store.now _ c.judge_point-number.ensures c.if-number-ne0.true
+pub returns-in_err-judge_point : goal.returns-in_err-judge_point
+returns-in_err-judge_point c =
+    let p = err_from_is_err_and c.from_residual.result c.from_residual.ensures.1 in
+    rw (p.1, p.2) (reading-no (LevelReading.point c.args.x c.args.y c.args.point.now) c.args.store.now _ c.in_err-judge_point.ensures (number_positive c.in_err-judge_point.field-0.0))
 
 pub mapped-requires : goal.mapped-requires
 mapped-requires c =
-    let m = map-room c.args.store.now c.args.y (mappable c.args.store.now _ c.args.x c.args.y (readable c.args.store.now _ _ (sym c.judge_point-number.ensures ∙ c.if-number-ne0.false))).0 in
+    let m = map-room c.args.store.now c.args.y (mappable c.args.store.now _ c.args.x c.args.y (readable c.args.store.now _ _ (sym c.in_ok-judge_point.ensures))).0 in
     let a = c.word_at-page_w.ensures in
     let b = c.word_at-h.ensures in
     (omega (arith, m.1, a), omega (arith, m.2, b), omega (arith, m.0, a, b))
 
 pub put_point-requires : goal.put_point-requires
 put_point-requires c =
-    let R = (readable c.args.store.now _ _ (sym c.judge_point-number.ensures ∙ c.if-number-ne0.false)) in
-    let z = mappable c.args.store.now _ c.args.x c.args.y (readable c.args.store.now _ _ (sym c.judge_point-number.ensures ∙ c.if-number-ne0.false)) in
+    let R = (readable c.args.store.now _ _ (sym c.in_ok-judge_point.ensures)) in
+    let z = mappable c.args.store.now _ c.args.x c.args.y (readable c.args.store.now _ _ (sym c.in_ok-judge_point.ensures)) in
     let p = point-small c.args.store.now c.args.x c.args.y z.0 z.1 _ _ c.word_at-page_w.ensures c.word_at-h.ensures _ c.mapped.ensures in
     (ltb-false _ _ R.enough, p.0, p.1)
 
 pub returns : goal.returns
 returns c =
-    let z = mappable c.args.store.now _ c.args.x c.args.y (readable c.args.store.now _ _ (sym c.judge_point-number.ensures ∙ c.if-number-ne0.false)) in
+    let z = mappable c.args.store.now _ c.args.x c.args.y (readable c.args.store.now _ _ (sym c.in_ok-judge_point.ensures)) in
     ap (λ (z : List ℤ). told 0 0 (integers z)) c.put_point.ensures
     ∙ (ap (λ (p : Point). told 0 0 (integers (filled (point_numbers p) c.args.point.now))) (point-is c.args.store.now c.args.x c.args.y z.0 z.1 _ _ c.word_at-page_w.ensures c.word_at-h.ensures _ c.mapped.ensures)
-    ∙ reading-yes (LevelReading.point c.args.x c.args.y c.args.point.now) c.args.store.now _ c.judge_point-number.ensures c.if-number-ne0.false)
+    ∙ reading-yes (LevelReading.point c.args.x c.args.y c.args.point.now) c.args.store.now _ c.in_ok-judge_point.ensures refl)
