@@ -18,5 +18,5 @@ pub use limits::{
 pub use masks::{is_mask, judge_sides};
 pub use numbers::{area, max_u32, max_usize, min_u32, min_usize, wide};
 pub use rect::{Rect, box_at, put_box};
-pub use refusals::Refusal;
+pub use refusals::{Refusal, number_of, word_of};
 pub use words::{copy_bytes, copy_words, fill_bytes, fill_words, word_at};

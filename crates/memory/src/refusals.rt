@@ -1,6 +1,6 @@
 // Why a call is turned back.
 ghost use Rattle.std.specs.Prelude.{◌≡◌};
-ghost use Rattle.memory.specs.rules.Refusals.{number};
+ghost use Rattle.memory.specs.rules.Refusals.{answer_number, answer_word, number};
 
 // The refusals of document 01, each with its number there.
 #[derive(Clone, Copy, Debug, PartialEq, Eq)]
@@ -33,5 +33,25 @@ impl From<Refusal> for u32 {
 
     fn from(refusal: Refusal) -> u32 {
         refusal as u32
+    }
+}
+
+// The number of an answer: 0 where the call is accepted.
+pub fn number_of<T: Drop>(answer: Result<T, Refusal>) -> u32
+    ensures { result ≡ answer_number answer }
+{
+    match answer {
+        Ok(_) => 0,
+        Err(refusal) => u32::from(refusal),
+    }
+}
+
+// An answer as one word, as C has it: the number of a refusal in the high half, or else the value.
+pub fn word_of(answer: Result<u32, Refusal>) -> u64
+    ensures { result ≡ answer_word answer }
+{
+    match answer {
+        Ok(value) => value as u64,
+        Err(refusal) => (u32::from(refusal) as u64) * 4294967296,
     }
 }

@@ -23,7 +23,10 @@ use Rattle.segmenting.specs.rules.Answers as Answers
 use Rattle.segmenting.specs.stages.Rooms.{SegmentRoom}
 use Rattle.segmenting.specs.rules.Figures.{figures_length}
 use Rattle.segmenting.specs.rules.Results.{result_words}
-use Rattle.segmenting.specs.declared.page.SegmentAnswer.{SegmentAnswer}
+use Rattle.std.specs.Prelude.{Result}
+use Rattle.memory.specs.declared.refusals.Refusal.{Refusal}
+use Rattle.memory.specs.rules.Refusals.{answer_number}
+use Rattle.segmenting.specs.declared.results.Segmentation.{Segmentation}
 use Rattle.stages.proofs.FrameLaws.{frame-pass, room-pass, frame-good, room-good}
 use Rattle.stages.specs.rules.Pages.{plane_refusal, lent_refusal, figures_left, left, left_with, paged}
 
@@ -144,10 +147,10 @@ module _ (p : LayoutParams) (w h : ℕ) (m : List ℕ) (P : ℕ) (words results 
               kinds_room = L.kinds_room;
             }
 
-        pub page-done : (n : ℕ) (r : SegmentAnswer) (results' kinds' figures' part : List ℕ) → length part ≡ length (take (scratch_words (w * h) P) words)
+        pub page-done : (n : ℕ) (r : Result Segmentation Refusal) (results' kinds' figures' part : List ℕ) → length part ≡ length (take (scratch_words (w * h) P) words)
             → Answers.segment_outcome r results' kinds' ≡ Answers.segment_plane p w h m P results kinds
-            → n ≡ Answers.segment_number r
-            → figures' ≡ figures_left r figures
+            → n ≡ answer_number r
+            → figures' ≡ figures_left (Answers.figures_found r) figures
             → left n results' kinds' figures' (length (part ++ drop (scratch_words (w * h) P) words)) (drop (scratch_words (w * h) P) (part ++ drop (scratch_words (w * h) P) words))
             ≡ paged p w h m P words results kinds figures
         unfolding Answers.segment_plane

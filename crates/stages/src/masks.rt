@@ -4,20 +4,11 @@ ghost use Rattle.std.specs.Prelude.{◌≡◌, ◌*◌, length, drop};
 ghost use Rattle.memory.specs.rules.Limits.{scratch_words};
 ghost use Rattle.labelling.specs.rules.Answer.{label_mask};
 ghost use Rattle.extents.specs.rules.Answers.{run_extents};
-ghost use Rattle.stages.specs.rules.LabelAnswers.{label_word, LabelTold};
-ghost use Rattle.stages.specs.rules.ExtentAnswers.{along_of, extents_word, ExtentsTold};
+ghost use Rattle.stages.specs.rules.LabelAnswers.{LabelTold};
+ghost use Rattle.stages.specs.rules.ExtentAnswers.{along_of, ExtentsTold};
 
-use extents::{Along, ExtentsAnswer};
-use labelling::LabelAnswer;
-
-fn label_word(answer: LabelAnswer) -> u64
-    ensures { result ≡ label_word answer }
-{
-    match answer {
-        LabelAnswer::Labelled(count) => count as u64,
-        LabelAnswer::Refused(number) => number as u64 * 4294967296,
-    }
-}
+use extents::Along;
+use memory::{number_of, word_of};
 
 // The 8-connected components of a mask, numbered by first dot: a label a dot, nine words a component.
 // The value is their count.
@@ -32,22 +23,15 @@ pub fn novlizeb_label(
 ) -> u64
     ensures { LabelTold (label_mask width height mask.now capacity labels.old components.old scratch.old) result labels.new components.new (length scratch.new) (drop (scratch_words (width * height) capacity) scratch.new) }
 {
-    label_word(labelling::label(mask, width, height, capacity, labels, components, scratch))
+    word_of(labelling::label(
+        mask, width, height, capacity, labels, components, scratch,
+    ))
 }
 
 fn along_of(columns: bool) -> Along
     ensures { result ≡ along_of columns }
 {
     if columns { Along::Columns } else { Along::Rows }
-}
-
-fn extents_word(answer: ExtentsAnswer) -> u64
-    ensures { result ≡ extents_word answer }
-{
-    match answer {
-        ExtentsAnswer::Done => 0,
-        ExtentsAnswer::Refused(number) => number as u64 * 4294967296,
-    }
 }
 
 // The run extents of a mask, along its columns or else along its rows, a word a dot. The value is 0.
@@ -61,5 +45,6 @@ pub fn novlizeb_run_extents(
     ensures { ExtentsTold (run_extents mask.now width height (along_of columns) extents.old) result extents.new }
 {
     let along = along_of(columns);
-    extents_word(extents::run_extents(mask, width, height, along, extents))
+    let number = number_of(extents::run_extents(mask, width, height, along, extents));
+    number as u64 * 4294967296
 }

@@ -3,6 +3,7 @@
 // with 20.
 ghost use Rattle.std.specs.Prelude.{◌≡◌, ◌*◌, ◌≤◌, length, drop};
 ghost use Rattle.memory.specs.rules.Limits.{max_frame_width, max_frame_height, scratch_words};
+ghost use Rattle.memory.specs.rules.Refusals.{answer_number};
 ghost use Rattle.memory.specs.rules.Words.{over};
 ghost use Rattle.sorting.specs.stages.Scratch.{SortRoom};
 ghost use Rattle.sorting.specs.stages.SortSteps.{sort_left};
@@ -11,27 +12,33 @@ ghost use Rattle.stages.specs.rules.SortedPages.{sort_figures, sort_lent, sort_w
 
 use crate::frames::judge_room;
 use crate::pages::judge_plane;
-use memory::{put_float, refuse_if, scratch_words};
+use memory::{Refusal, number_of, put_float, scratch_words};
 use params::LayoutParams;
 use segmenting::measured_word;
-use sorting::{SortAnswer, SortCounts, plan_of, sort_ink};
+use sorting::{SortCounts, plan_of, sort_ink};
 
 const SORT_FIGURES: usize = 7;
 
-// 6, 7 or 9 where the sheet, the capacity or the memory lent is not as it must be, else 0.
+// Whether the sheet, the capacity and the memory lent are as they must be.
+#[tactic(auto, unfolding(crate::specs::rules::SortedPages::sort_lent, crate::specs::rules::Frames::room_refusal, memory::specs::rules::Refusals::refuse_if))]
 fn judge_sort(
     sheet: LayoutParams,
     dots: usize,
     capacity: usize,
     words: usize,
     figures: usize,
-) -> u32
+) -> Result<(), Refusal>
     requires { (dots ≤ max_frame_width * max_frame_height) × (capacity ≤ 4294967295) }
-    ensures { result ≡ sort_lent sheet dots capacity words figures 0 }
+    ensures { answer_number result ≡ sort_lent sheet dots capacity words figures 0 }
 {
-    let by_figures = refuse_if(figures < SORT_FIGURES, 9, 0);
-    let by_room = judge_room(dots, capacity, words, by_figures);
-    refuse_if(!sheet.validate(), 6, by_room)
+    if !sheet.validate() {
+        return Err(Refusal::Sheet);
+    }
+    judge_room(dots, capacity, words)?;
+    if figures < SORT_FIGURES {
+        return Err(Refusal::Lent);
+    }
+    Ok(())
 }
 
 // The figures over the front of the words lent for them.
@@ -56,7 +63,7 @@ fn sort_by_plan(
     sheet: LayoutParams,
     capacity: usize,
     words: &mut [u32],
-) -> SortAnswer
+) -> Option<SortCounts>
     requires { SortRoom sheet w h ink.now capacity words.old }
     ensures { (length words.new ≡ length words.old) × (sort_left result sheet w h ink.now capacity words.new) }
 {
@@ -64,8 +71,32 @@ fn sort_by_plan(
     sort_ink(ink, plan, sheet, words)
 }
 
+// The sorting; what can refuse it is judged before anything is written, but for too many components.
+fn sort_plane(
+    ink: &[u8],
+    w: u32,
+    h: u32,
+    sheet: LayoutParams,
+    capacity: u32,
+    words: &mut [u32],
+    figures: &mut [u32],
+) -> Result<(), Refusal>
+    ensures { told (answer_number result) figures.new (length words.new) (drop (scratch_words (w * h) capacity) words.new) ≡ sorted_page sheet w h ink.now capacity words.old figures.old }
+{
+    judge_plane(ink, w, h)?;
+    let dots = (w as usize) * (h as usize);
+    let p = capacity as usize;
+    judge_sort(sheet, dots, p, words.len(), figures.len())?;
+    let need = scratch_words(dots, capacity);
+    let Some(found) = sort_by_plan(ink, w, h, sheet, p, &mut words[..need]) else {
+        return Err(Refusal::TooManyComponents);
+    };
+    write_sorting(found, figures);
+    Ok(())
+}
+
 // Sorts an ink plane of bytes 0 and 1: the first seven words of figures tell the unit, the dots of ink, the cuts and the components
-// (specs/rules/SortedPages). The words are worked in. What can refuse the call is judged before anything is written, but for too many components.
+// (specs/rules/SortedPages). The words are worked in. The answer is a number, as C has it.
 pub fn novlizeb_sort(
     ink: &[u8],
     w: u32,
@@ -77,22 +108,5 @@ pub fn novlizeb_sort(
 ) -> u32
     ensures { told result figures.new (length words.new) (drop (scratch_words (w * h) capacity) words.new) ≡ sorted_page sheet w h ink.now capacity words.old figures.old }
 {
-    let plane = judge_plane(ink, w, h);
-    if plane != 0 {
-        return plane;
-    }
-    let dots = (w as usize) * (h as usize);
-    let p = capacity as usize;
-    let lent = judge_sort(sheet, dots, p, words.len(), figures.len());
-    if lent != 0 {
-        return lent;
-    }
-    let need = scratch_words(dots, capacity);
-    match sort_by_plan(ink, w, h, sheet, p, &mut words[..need]) {
-        SortAnswer::TooMany => 20,
-        SortAnswer::Sorted(found) => {
-            write_sorting(found, figures);
-            0
-        }
-    }
+    number_of(sort_plane(ink, w, h, sheet, capacity, words, figures))
 }

@@ -1,18 +1,19 @@
 // Thin rulings, the dots and the cuts of an ink plane, and the kind of a component by its size.
-ghost use Rattle.std.specs.Prelude.{◌≡◌, true, [], ◌∷◌, ◌*◌, ◌-◌, ◌≤◌, max, length, drop};
-ghost use Rattle.memory.specs.rules.Limits.{scratch_words};
+ghost use Rattle.std.specs.Prelude.{◌≡◌, true, [], ◌∷◌, ◌*◌, ◌-◌, ◌≤◌, length, ltb, drop};
+ghost use Rattle.memory.specs.rules.Limits.{max_frame_width, max_frame_height, scratch_words};
+ghost use Rattle.memory.specs.rules.Refusals.{refuse_if, answer_number};
 ghost use Rattle.memory.specs.rules.Masks.{is_mask_side};
 ghost use Rattle.memory.specs.rules.Words.{over};
 ghost use Rattle.params.specs.rules.Valid.{float_zero};
 ghost use Rattle.sorting.specs.rules.Kinds.{kind_by_size};
 ghost use Rattle.rulings.specs.rules.Rulings.{run_min, thick_max};
-ghost use Rattle.stages.specs.rules.Frames.{told};
+ghost use Rattle.stages.specs.rules.Frames.{room_refusal, told};
 ghost use Rattle.stages.specs.rules.Sorting.{rulings_fit, RulingsTold, cut_rulings, unit_for, size_sheet};
 
 use crate::frames::{judge_frame, judge_room};
-use memory::{MAX_MASK_DOTS, MAX_MASK_SIDE, area, refuse_if, scratch_words};
+use memory::{MAX_MASK_DOTS, MAX_MASK_SIDE, Refusal, area, number_of, scratch_words};
 use params::LayoutParams;
-use sorting::{CutAnswer, Cuts, Unit, label_rulings};
+use sorting::{Cuts, Unit, label_rulings};
 
 fn is_mask_side(n: u32) -> bool
     ensures { result ≡ is_mask_side n }
@@ -72,12 +73,6 @@ pub fn novlizeb_thin_rulings(
     true
 }
 
-fn at_least_two(n: u32) -> u32
-    ensures { result ≡ max 2 n }
-{
-    if n < 2 { 2 } else { n }
-}
-
 // Both counts over the front of the words lent for them.
 fn write_counts(cuts: Cuts, counts: &mut [u32])
     requires { (2 ≤ length counts.old) × (cuts.horizontal ≤ 4294967295) × (cuts.vertical ≤ 4294967295) }
@@ -87,9 +82,48 @@ fn write_counts(cuts: Cuts, counts: &mut [u32])
     counts[1] = cuts.vertical as u32;
 }
 
+// Whether the capacity and the memory lent are as they must be.
+#[tactic(auto, unfolding(crate::specs::rules::Frames::room_refusal, memory::specs::rules::Refusals::refuse_if))]
+fn judge_cuts(dots: usize, capacity: usize, words: usize, counts: usize) -> Result<(), Refusal>
+    requires { (dots ≤ max_frame_width * max_frame_height) × (capacity ≤ 4294967295) }
+    ensures { answer_number result ≡ room_refusal dots capacity words (refuse_if (ltb counts 2) 9 0) }
+{
+    judge_room(dots, capacity, words)?;
+    if counts < 2 {
+        return Err(Refusal::Lent);
+    }
+    Ok(())
+}
+
+// The cuts; what can refuse them is judged before anything is written, but for too many components.
+fn cut_plane(
+    ink: &[u8],
+    width: u32,
+    height: u32,
+    run_min: u32,
+    thick_max: u32,
+    capacity: u32,
+    words: &mut [u32],
+    counts: &mut [u32],
+) -> Result<(), Refusal>
+    ensures { told (answer_number result) counts.new (length words.new) (drop (scratch_words (width * height) capacity) words.new) ≡ cut_rulings run_min thick_max width height ink.now capacity words.old counts.old }
+{
+    judge_frame(width, height, ink.len())?;
+    let dots = (width as usize) * (height as usize);
+    let p = capacity as usize;
+    judge_cuts(dots, p, words.len(), counts.len())?;
+    let need = scratch_words(dots, capacity);
+    let run = run_min.max(2);
+    let Some(cuts) = label_rulings(ink, width, height, run, thick_max, p, &mut words[..need]) else {
+        return Err(Refusal::TooManyComponents);
+    };
+    write_counts(cuts, counts);
+    Ok(())
+}
+
 // The thin rulings of an ink plane, cut and labelled: counts then holds how many components the horizontal cut mask has, and the
 // vertical one. Any byte but 0 is ink, and a least run below 2 counts as 2. The words are worked in. The answer is 0, or document
-// 01's number of a refusal, which writes nothing but scratch, and that only with 20.
+// 01's number of a refusal, as C has it; a refused call writes nothing but scratch, and that only with 20.
 pub fn novlizeb_cut_rulings(
     ink: &[u8],
     width: u32,
@@ -102,26 +136,9 @@ pub fn novlizeb_cut_rulings(
 ) -> u32
     ensures { told result counts.new (length words.new) (drop (scratch_words (width * height) capacity) words.new) ≡ cut_rulings run_min thick_max width height ink.now capacity words.old counts.old }
 {
-    let frame = judge_frame(width, height, ink.len(), 0);
-    if frame != 0 {
-        return frame;
-    }
-    let dots = (width as usize) * (height as usize);
-    let p = capacity as usize;
-    let by_counts = refuse_if(counts.len() < 2, 9, 0);
-    let room = judge_room(dots, p, words.len(), by_counts);
-    if room != 0 {
-        return room;
-    }
-    let need = scratch_words(dots, capacity);
-    let run = at_least_two(run_min);
-    match label_rulings(ink, width, height, run, thick_max, p, &mut words[..need]) {
-        CutAnswer::TooMany => 20,
-        CutAnswer::Cut(cuts) => {
-            write_counts(cuts, counts);
-            0
-        }
-    }
+    number_of(cut_plane(
+        ink, width, height, run_min, thick_max, capacity, words, counts,
+    ))
 }
 
 fn unit_for(measured: bool, value: f64) -> Unit

@@ -1,5 +1,5 @@
 -- Refusals by number (01, "Turned back"): a chain of tests, of which the first that fails gives the number, and 0 where none does.
-use Rattle.std.specs.Prelude.{ℕ, Bool, cond, Result, Ok, Err}
+use Rattle.std.specs.Prelude.{ℕ, ◌+◌, ◌*◌, ◌^◌, Bool, cond, Result, Ok, Err}
 use Rattle.memory.specs.declared.refusals.Refusal.{Refusal}
 use Rattle.memory.specs.declared.refusals.Refusal.TheVariants as refusals
 
@@ -34,3 +34,7 @@ answer_number (Err r) = number r
 abbrev pub answer_value : Result ℕ Refusal → ℕ
 answer_value (Ok n) = n
 answer_value (Err r) = 0
+
+-- both as one word, the number in the high half
+abbrev pub answer_word : Result ℕ Refusal → ℕ
+answer_word a = answer_number a * 2 ^ 32 + answer_value a

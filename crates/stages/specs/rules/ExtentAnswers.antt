@@ -3,19 +3,12 @@ use Rattle.std.specs.Prelude.{◌≡◌, Bool, true, false, List, ℕ}
 use Rattle.extents.specs.rules.Answers.{ExtentsOutcome}
 use Rattle.extents.specs.declared.entry.Along.{Along}
 use Rattle.extents.specs.declared.entry.Along.TheVariants.{Rows, Columns}
-use Rattle.extents.specs.declared.entry.ExtentsAnswer.{ExtentsAnswer}
-use Rattle.extents.specs.declared.entry.ExtentsAnswer.TheVariants.{Done, Refused}
 use Rattle.stages.specs.rules.Answers.{refusal_word}
 
 -- along the columns, or along the rows
 abbrev pub along_of : Bool → Along
 along_of true = Columns
 along_of false = Rows
-
--- the word of each case: there is no value
-abbrev pub extents_word : ExtentsAnswer → ℕ
-extents_word Done = 0
-extents_word (Refused n) = refusal_word n
 
 -- the word, and the lent words, are those of an outcome
 pub record ExtentsTold (o : ExtentsOutcome) (r : ℕ) (s : List ℕ) : Type 0 where

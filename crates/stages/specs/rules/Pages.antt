@@ -1,5 +1,5 @@
 -- What a whole segmentation answers at the stages, and what it leaves in the memory lent to it (01, Limits, "Turned back"). Assumes nothing.
-use Rattle.std.specs.Prelude.{not, List, ℕ, ◌*◌, ltb, length, drop}
+use Rattle.std.specs.Prelude.{not, List, ℕ, ◌*◌, ltb, length, drop, Option, Some, None}
 use Rattle.memory.specs.rules.Limits.{scratch_words}
 use Rattle.memory.specs.rules.Masks.{is_mask}
 use Rattle.memory.specs.rules.Refusals.{refuse_if}
@@ -10,8 +10,7 @@ use Rattle.segmenting.specs.rules.Layouts.{layout, layout_refusal}
 use Rattle.segmenting.specs.rules.Answers as Answers
 use Rattle.segmenting.specs.rules.Figures.{figures_length, figure_words}
 use Rattle.segmenting.specs.rules.Results.{result_words}
-use Rattle.segmenting.specs.declared.page.SegmentAnswer.{SegmentAnswer}
-use Rattle.segmenting.specs.declared.page.SegmentAnswer.TheVariants.{Segmented, Refused}
+use Rattle.segmenting.specs.declared.results.Segmentation.{Segmentation}
 use Rattle.stages.specs.rules.Frames.{frame_refusal, room_refusal}
 
 -- 1: a side outside its limit; 2: ink length; 3: a byte above 1
@@ -28,10 +27,10 @@ lent_refusal p w dots P words results kinds figures rest =
 abbrev pub page_refusal : LayoutParams → ℕ → ℕ → List ℕ → ℕ → ℕ → ℕ → ℕ → ℕ → ℕ → ℕ
 page_refusal p w h m P words results kinds figures rest = plane_refusal w h m (lent_refusal p w (w * h) P words results kinds figures rest)
 
--- the figures of an answer over the front; as it was where the page is refused
-abbrev pub figures_left : SegmentAnswer → List ℕ → List ℕ
-figures_left (Segmented f) figures = over (figure_words f) figures
-figures_left (Refused n) figures = figures
+-- the figures found over the front; as it was where the page is refused
+abbrev pub figures_left : Option Segmentation → List ℕ → List ℕ
+figures_left (Some f) figures = over (figure_words f) figures
+figures_left None figures = figures
 
 -- the number, results, kinds and figures, the length of the words, and what lies in them past those needed
 pub record Left : Type 0 where
@@ -49,7 +48,7 @@ left r results kinds figures words beyond =
 
 -- what it leaves where the segmentation leaves s
 abbrev pub left_with : Answers.SegmentOutcome → List ℕ → ℕ → List ℕ → Left
-left_with s figures words beyond = left s.number s.results s.plane (figures_left s.answer figures) words beyond
+left_with s figures words beyond = left s.number s.results s.plane (figures_left s.figures figures) words beyond
 
 -- what `novlizeb_segment_plane` leaves: the layout of 01, unless the call is refused
 abbrev pub paged : LayoutParams → ℕ → ℕ → List ℕ → ℕ → List ℕ → List ℕ → List ℕ → List ℕ → Left

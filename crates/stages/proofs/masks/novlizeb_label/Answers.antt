@@ -5,4 +5,4 @@ use Rattle.stages.proofs.masks.novlizeb_label.Goals as goal
 
 pub returns : goal.returns
 returns c =
-    label-told c.label.result _ _ _ _ _ _ c.label.ensures c.label_word.ensures
+    label-told c.label.result _ _ _ _ _ _ c.label.ensures c.word_of.ensures

@@ -1,3 +1,4 @@
+use mathlib.Core.Path.{refl}
 use Rattle.stages.proofs.ExtentAnswerLaws.{extents-told}
 use Rattle.stages.proofs.masks.novlizeb_run_extents.Goals as goal
 
@@ -9,6 +10,8 @@ returns c =
     c.args.columns
     c.run_extents.result
     _
+    _
     c.run_extents.ensures
     c.along_of-along.ensures
-    c.extents_word.ensures
+    c.number_of-number.ensures
+    refl
