@@ -47,7 +47,7 @@ use Rattle.store.proofs.write_sheet.Reads as write-sheet-reads
 use Rattle.store.specs.rules.Handed.{leaf_handed}
 use Rattle.store.specs.rules.Readings.{LevelReading, ResultReading, Which}
 use Rattle.store.specs.rules.Readings.Output.{words, integers, none, floats}
-use Rattle.store.specs.rules.Answers.{outcome_number, answer_number, answer_value}
+use Rattle.memory.specs.rules.Refusals.{answer_number, answer_value}
 use Rattle.store.specs.rules.Outcomes.{Left, Told, told}
 use Rattle.account.specs.rules.Calls.{Act, World, world, leaves, tells, numbered}
 
@@ -59,21 +59,21 @@ pub record Did (act : Act) (u : World) (r : Told) (u' : World) : Type 0 where
 pub level-tied : (κs : Lfts 3) (a : ArgsD level.signature κs) (r : ResD level.signature κs) (s : AtExit level.ended κs) (kinds : List ℕ)
     → level-reads.Post κs a r s
     → Did (Act.level (leaf_handed a.0.now a.1.0 a.1.1.0))
-    (world a.1.1.1.0.now a.1.1.1.1.0.now kinds) (numbered (outcome_number r)) (world s.1.1.1.0.now s.1.1.1.1.0.now kinds)
+    (world a.1.1.1.0.now a.1.1.1.1.0.now kinds) (numbered (answer_number r)) (world s.1.1.1.0.now s.1.1.1.1.0.now kinds)
 level-tied κs a r s kinds h = record { left = ap (λ (y : Left). world y.store y.plane kinds) h; said = ap (λ (y : Left). numbered y.number) h }
 
 pub clear-tied : (κs : Lfts 1) (a : ArgsD clear.signature κs) (r : ResD clear.signature κs) (s : AtExit clear.ended κs) (ink kinds : List ℕ)
-    → clear_reads.Post κs a r s → Did Act.clear (world a.0.now ink kinds) (numbered (outcome_number r)) (world s.0.now ink kinds)
+    → clear_reads.Post κs a r s → Did Act.clear (world a.0.now ink kinds) (numbered (answer_number r)) (world s.0.now ink kinds)
 clear-tied κs a r s ink kinds h = record { left = ap (λ (y : Left). world y.store ink kinds) h; said = ap (λ (y : Left). numbered y.number) h }
 
 -- a reading takes the store as `&`: it writes nothing there
 pub to-page-tied : (κs : Lfts 2) (a : ArgsD to-page.signature κs) (r : ResD to-page.signature κs) (s : AtExit to-page.ended κs) (ink kinds : List ℕ) → to-page-reads.Post κs a r s
-    → Did (Act.read_level (LevelReading.point a.1.0 a.1.1.0 a.1.1.1.0.now)) (world a.0.now ink kinds) (told (outcome_number r) 0 (integers s.1.1.1.0.now)) (world a.0.now ink kinds)
+    → Did (Act.read_level (LevelReading.point a.1.0 a.1.1.0 a.1.1.1.0.now)) (world a.0.now ink kinds) (told (answer_number r) 0 (integers s.1.1.1.0.now)) (world a.0.now ink kinds)
 to-page-tied κs a r s ink kinds h = record { left = refl; said = h }
 
 -- of scratch the machine knows the length alone
 pub segment-tied : (κs : Lfts 4) (a : ArgsD segment.signature κs) (r : ResD segment.signature κs) (s : AtExit segment.ended κs) → segment-Reads.Post κs a r s
-    → Did (Act.segment a.0 (length a.1.1.1.1.0.now)) (world a.1.0.now a.1.1.0.now a.1.1.1.0.now) (numbered (outcome_number r)) (world s.1.0.now a.1.1.0.now s.1.1.1.0.now)
+    → Did (Act.segment a.0 (length a.1.1.1.1.0.now)) (world a.1.0.now a.1.1.0.now a.1.1.1.0.now) (numbered (answer_number r)) (world s.1.0.now a.1.1.0.now s.1.1.1.0.now)
 segment-tied κs a r s h =
     record {
       left = ap (λ (y : Left). world y.store a.1.1.0.now y.plane) h.0;
@@ -81,21 +81,21 @@ segment-tied κs a r s h =
     }
 
 pub level-gray-tied : (κs : Lfts 3) (a : ArgsD level-gray.signature κs) (r : ResD level-gray.signature κs) (s : AtExit level-gray.ended κs) (ink kinds : List ℕ) → level-gray-reads.Post κs a r s
-    → Did (Act.read_level (LevelReading.gray a.1.0.now a.1.1.0.now)) (world a.0.now ink kinds) (told (outcome_number r) 0 (words s.1.1.0.now)) (world a.0.now ink kinds)
+    → Did (Act.read_level (LevelReading.gray a.1.0.now a.1.1.0.now)) (world a.0.now ink kinds) (told (answer_number r) 0 (words s.1.1.0.now)) (world a.0.now ink kinds)
 level-gray-tied κs a r s ink kinds h = record { left = refl; said = h }
 
 pub rect-to-page-tied : (κs : Lfts 2) (a : ArgsD rect-to-page.signature κs) (r : ResD rect-to-page.signature κs) (s : AtExit rect-to-page.ended κs) (ink kinds : List ℕ)
     → rect-to-page-reads.Post κs a r s
-    → Did (Act.read_level (LevelReading.box a.1.0 a.1.1.0.now)) (world a.0.now ink kinds) (told (outcome_number r) 0 (integers s.1.1.0.now)) (world a.0.now ink kinds)
+    → Did (Act.read_level (LevelReading.box a.1.0 a.1.1.0.now)) (world a.0.now ink kinds) (told (answer_number r) 0 (integers s.1.1.0.now)) (world a.0.now ink kinds)
 rect-to-page-tied κs a r s ink kinds h = record { left = refl; said = h }
 
 pub read-frame-tied : (κs : Lfts 2) (a : ArgsD read-frame.signature κs) (r : ResD read-frame.signature κs) (s : AtExit read-frame.ended κs) (ink kinds : List ℕ) → read-frame-reads.Post κs a r s
-    → Did (Act.read_level (LevelReading.frame_figures a.1.0.now)) (world a.0.now ink kinds) (told (outcome_number r) 0 (words s.1.0.now)) (world a.0.now ink kinds)
+    → Did (Act.read_level (LevelReading.frame_figures a.1.0.now)) (world a.0.now ink kinds) (told (answer_number r) 0 (words s.1.0.now)) (world a.0.now ink kinds)
 read-frame-tied κs a r s ink kinds h = record { left = refl; said = h }
 
 -- readings of results
 pub read-figures-tied : (κs : Lfts 4) (a : ArgsD read-figures.signature κs) (r : ResD read-figures.signature κs) (s : AtExit read-figures.ended κs) → read-figures-reads.Post κs a r s
-    → Did (Act.read_result (ResultReading.figures a.1.1.1.0.now)) (world a.0.now a.1.0.now a.1.1.0.now) (told (outcome_number r) 0 (words s.1.1.1.0.now)) (world a.0.now a.1.0.now a.1.1.0.now)
+    → Did (Act.read_result (ResultReading.figures a.1.1.1.0.now)) (world a.0.now a.1.0.now a.1.1.0.now) (told (answer_number r) 0 (words s.1.1.1.0.now)) (world a.0.now a.1.0.now a.1.1.0.now)
 read-figures-tied κs a r s h = record { left = refl; said = h }
 
 pub read-columns-tied : (κs : Lfts 4) (a : ArgsD read-columns.signature κs) (r : ResD read-columns.signature κs) (s : AtExit read-columns.ended κs) → read-columns-reads.Post κs a r s
@@ -135,7 +135,7 @@ pub twenty-line-measure-tied : (κs : Lfts 3) (a : ArgsD twenty-line-measure.sig
 twenty-line-measure-tied κs a r s h = record { left = refl; said = h }
 
 pub read-summary-tied : (κs : Lfts 4) (a : ArgsD read-summary.signature κs) (r : ResD read-summary.signature κs) (s : AtExit read-summary.ended κs) → read-summary-reads.Post κs a r s
-    → Did (Act.read_result (ResultReading.summary a.1.1.1.0.now)) (world a.0.now a.1.0.now a.1.1.0.now) (told (outcome_number r) 0 (floats s.1.1.1.0.now)) (world a.0.now a.1.0.now a.1.1.0.now)
+    → Did (Act.read_result (ResultReading.summary a.1.1.1.0.now)) (world a.0.now a.1.0.now a.1.1.0.now) (told (answer_number r) 0 (floats s.1.1.1.0.now)) (world a.0.now a.1.0.now a.1.1.0.now)
 read-summary-tied κs a r s h = record { left = refl; said = h }
 
 pub write-sheet-tied : (κs : Lfts 4) (a : ArgsD write-sheet.signature κs) (r : ResD write-sheet.signature κs) (s : AtExit write-sheet.ended κs) → write-sheet-reads.Post κs a r s

@@ -14,11 +14,12 @@ use Rattle.rounding.specs.rules.Drift.{WithinOne}
 use Rattle.rounding.proofs.Tests.{yes}
 use Rattle.levelling.specs.rules.Frames.{PageSides, frame}
 use Rattle.judging.specs.rules.Spoiled.{side_ok, slope_ok}
-use Rattle.store.specs.rules.Answers.{answer_number, answer_value}
+use Rattle.std.specs.Prelude.{Result}
+use Rattle.memory.specs.declared.refusals.Refusal.{Refusal}
+use Rattle.memory.specs.rules.Refusals.{answer_number, answer_value, answer_word}
 use Rattle.store.specs.rules.Outcomes.{Left, left, Told, told}
 use Rattle.store.specs.rules.Readings.{Output}
-use Rattle.store.specs.declared.answers.Answer.{Answer}
-use Rattle.novlizeb.specs.rules.Answers.{word_of, answer_word, told_word}
+use Rattle.novlizeb.specs.rules.Answers.{word_of, told_word}
 use Rattle.novlizeb.specs.rules.Frames.{frame_size}
 
 pub left-number : (n m : ℕ) (s p : List ℕ) (u : Left) → n ≡ m → left m s p ≡ u → left n s p ≡ u
@@ -27,10 +28,10 @@ left-number n m s p u e h = ap (λ (z : ℕ). left z s p) e ∙ h
 pub told-number : (n m : ℕ) (o : Output) (t : Told) → n ≡ m → told m 0 o ≡ t → told n 0 o ≡ t
 told-number n m o t e h = ap (λ (z : ℕ). told z 0 o) e ∙ h
 
-pub told-word : (r : ℕ) (a : Answer) (o : Output) (t : Told) → r ≡ answer_word a → told (answer_number a) (answer_value a) o ≡ t → r ≡ told_word t
+pub told-word : (r : ℕ) (a : Result ℕ Refusal) (o : Output) (t : Told) → r ≡ answer_word a → told (answer_number a) (answer_value a) o ≡ t → r ≡ told_word t
 told-word r a o t e h = e ∙ ap told_word h
 
-pub told-output : (a : Answer) (o : Output) (t : Told) → told (answer_number a) (answer_value a) o ≡ t → o ≡ t.output
+pub told-output : (a : Result ℕ Refusal) (o : Output) (t : Told) → told (answer_number a) (answer_value a) o ≡ t → o ≡ t.output
 told-output a o t h = ap (λ (z : Told). z.output) h
 
 pub page-limits : (w h : ℕ) (slope : Float) (b : Bool) → b ≡ (side_ok w && side_ok h && slope_ok slope) → not b ≡ false → PageSides w h × WithinOne slope

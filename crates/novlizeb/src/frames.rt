@@ -6,8 +6,7 @@ ghost use Rattle.store.specs.rules.Readings.Output.{words, integers};
 ghost use Rattle.novlizeb.specs.rules.Boxes.{rect_of};
 ghost use Rattle.novlizeb.specs.rules.Frames.{frame_size};
 
-use crate::answers::number_of;
-use memory::Rect;
+use memory::{Rect, number_of};
 
 // The page's column and row of a frame point: two numbers.
 #[unsafe(no_mangle)]

@@ -3,7 +3,6 @@
 // No function asks anything else of its caller.
 #![tactic(auto)]
 
-mod answers;
 mod frames;
 mod pages;
 mod results;

@@ -7,8 +7,7 @@ ghost use Rattle.store.specs.rules.Readings.Output.{words, floats};
 ghost use Rattle.novlizeb.specs.rules.Answers.{told_word};
 ghost use Rattle.novlizeb.specs.rules.Boxes.{rect_of};
 
-use crate::answers::{number_of, word_of};
-use memory::Rect;
+use memory::{Rect, number_of, word_of};
 
 // The unit and its case, how long each list is, the dots of ink and of each kind: fifteen words.
 #[unsafe(no_mangle)]

@@ -1,16 +1,10 @@
 -- An answer as one number: 01's number times 2^32, and the value.
 use Rattle.std.specs.Prelude.{ℕ, ◌+◌, ◌*◌, ◌^◌}
-use Rattle.store.specs.rules.Answers.{answer_number, answer_value}
 use Rattle.store.specs.rules.Outcomes.{Told}
-use Rattle.store.specs.declared.answers.Answer.{Answer}
 
 -- the word of a number and a value
 abbrev pub word_of : ℕ → ℕ → ℕ
 word_of n v = n * 2 ^ 32 + v
-
--- the word of an answer
-abbrev pub answer_word : Answer → ℕ
-answer_word a = word_of (answer_number a) (answer_value a)
 
 -- the word of what is told
 abbrev pub told_word : Told → ℕ
