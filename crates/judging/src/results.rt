@@ -1,5 +1,5 @@
 // Whether the words of results and the two planes are spoiled: loops over records that gather one flag.
-ghost use Rattle.std.specs.Prelude.{cond, not, ◌&&◌, ◌||◌, ◌≡◌, ◌+◌, ◌*◌, ◌≤◌, ◌<◌, eqb, ltb, leb, length, take};
+ghost use Rattle.std.specs.Prelude.{ℕ, Bool, cond, not, ◌&&◌, ◌||◌, ◌≡◌, ◌+◌, ◌*◌, ◌≤◌, ◌<◌, eqb, ltb, leb, length, take};
 ghost use Rattle.std.specs.Float.Ieee.{lt, le};
 ghost use Rattle.std.specs.Float.Ieee.Scale.{finite};
 ghost use Rattle.memory.specs.rules.Limits.{max_page_side, max_frame_width, max_frame_height, max_capacity, max_lines, no_line, store_words};
@@ -9,7 +9,7 @@ ghost use Rattle.segmenting.specs.rules.Figures.{figures_length};
 ghost use Rattle.segmenting.specs.rules.Results.{result_words};
 ghost use Rattle.judging.specs.stages.Judged.{lists_ok, words_ok};
 ghost use Rattle.judging.specs.rules.Header.{part, figures_at, lists_at};
-ghost use Rattle.judging.specs.rules.Spoiled.{box_ok, boxes_ok, fields_ok, kind_ok, kinds_ok};
+ghost use Rattle.judging.specs.rules.Spoiled.{every, box_ok, boxes_ok, fields_ok, kind_ok, kinds_ok};
 
 use crate::judging::lists_at;
 use crate::words::{
@@ -33,55 +33,48 @@ fn box_ok(words: &[u32], p: usize, w: u32, h: u32) -> bool
     (x0 <= x1) & (x1 < w) & (y0 <= y1) & (y1 < h)
 }
 
-// Whether the n records from word `at` on, each of so many words, begin with a box inside a frame.
-fn boxes_ok(words: &[u32], at: usize, width: usize, n: u32, w: u32, h: u32) -> bool
-    requires { (at + n * width ≤ length words.now) × (4 ≤ width) }
-    ensures { result ≡ boxes_ok w h width (part at (n * width) words.now) n }
+// Where the records of a list stand: the place of the first, the words of each, how many there are.
+#[derive(Clone, Copy, Debug, PartialEq, Eq)]
+struct Records {
+    at: usize,
+    width: usize,
+    n: u32,
+}
+
+// Whether each record passes the test, which is told its first word. All are tested, so that the loop has no branch.
+fn each_ok<F: Fn(usize) -> bool>(r: Records, test: F) -> bool
+    requires { (r.at + r.n * r.width ≤ 9223372036854775807) × ((p : ℕ → Bool) × ((i : ℕ) → i < r.n → F.pre test (r.at + i * r.width) × ((b : Bool) → F.post test (r.at + i * r.width) b → b ≡ p i))) }
+    ensures { (p : ℕ → Bool) → ((i : ℕ) (b : Bool) → i < r.n → F.post test (r.at + i * r.width) b → b ≡ p i) → result ≡ every p r.n }
 {
     let mut ok = true;
-    let mut p = at;
-    let mut i = 0;
-    while i < n {
-        let inside = box_ok(words, p, w, h);
-        ok = ok & inside;
-        p += width;
-        i += 1;
+    for i in 0..r.n {
+        ok = ok & test(r.at + (i as usize) * r.width);
     }
     ok
+}
+
+// Whether the records begin with a box inside a frame.
+fn boxes_ok(words: &[u32], r: Records, w: u32, h: u32) -> bool
+    requires { (r.at + r.n * r.width ≤ length words.now) × (4 ≤ r.width) }
+    ensures { result ≡ boxes_ok w h r.width (part r.at (r.n * r.width) words.now) r.n }
+{
+    each_ok(r, |p| box_ok(words, p, w, h))
 }
 
 // Whether word `field` of each of them is below a limit.
-fn fields_below(words: &[u32], at: usize, width: usize, field: usize, n: u32, limit: u32) -> bool
-    requires { (at + n * width ≤ length words.now) × (field < width) }
-    ensures { result ≡ fields_ok (λ v. ltb v limit) width field (part at (n * width) words.now) n }
+fn fields_below(words: &[u32], r: Records, field: usize, limit: u32) -> bool
+    requires { (r.at + r.n * r.width ≤ length words.now) × (field < r.width) }
+    ensures { result ≡ fields_ok (λ v. ltb v limit) r.width field (part r.at (r.n * r.width) words.now) r.n }
 {
-    let mut ok = true;
-    let mut p = at;
-    let mut i = 0;
-    while i < n {
-        let v = words[p + field];
-        ok = ok & (v < limit);
-        p += width;
-        i += 1;
-    }
-    ok
+    each_ok(r, |p| words[p + field] < limit)
 }
 
 // Whether it is the mark of no line or below a limit.
-fn fields_marked(words: &[u32], at: usize, width: usize, field: usize, n: u32, limit: u32) -> bool
-    requires { (at + n * width ≤ length words.now) × (field < width) }
-    ensures { result ≡ fields_ok (λ v. eqb v no_line || ltb v limit) width field (part at (n * width) words.now) n }
+fn fields_marked(words: &[u32], r: Records, field: usize, limit: u32) -> bool
+    requires { (r.at + r.n * r.width ≤ length words.now) × (field < r.width) }
+    ensures { result ≡ fields_ok (λ v. eqb v no_line || ltb v limit) r.width field (part r.at (r.n * r.width) words.now) r.n }
 {
-    let mut ok = true;
-    let mut p = at;
-    let mut i = 0;
-    while i < n {
-        let v = words[p + field];
-        ok = ok & ((v == NO_LINE) | (v < limit));
-        p += width;
-        i += 1;
-    }
-    ok
+    each_ok(r, |p| (words[p + field] == NO_LINE) | (words[p + field] < limit))
 }
 
 // Whether a dot's ink is 0 or 1 and its kind is right for it.
@@ -97,11 +90,9 @@ pub fn planes_ok(ink: &[u8], kinds: &[u8], n: usize) -> bool
     ensures { result ≡ (is_mask (take n ink.now) && kinds_ok (take n ink.now) (take n kinds.now) n) }
 {
     let mut ok = true;
-    let mut i = 0;
-    while i < n {
+    for i in 0..n {
         let right = dot_ok(ink[i], kinds[i]);
         ok = ok & right;
-        i += 1;
     }
     ok
 }
@@ -126,7 +117,7 @@ fn unit_ok(case: u32, x: f64) -> bool
 }
 
 // How many records each list has.
-#[derive(Clone, Copy)]
+#[derive(Clone, Copy, Debug, PartialEq, Eq)]
 struct ListCounts {
     rules: u32,
     graphics: u32,
@@ -157,27 +148,40 @@ fn lists_ok(store: &[u32], at: usize, w: u32, h: u32, capacity: u32, n: ListCoun
     ensures { result ≡ lists_ok w h store.now at capacity n.rules n.graphics n.glyphs n.lines n.blocks }
 {
     let places = result_places(w as usize, capacity as usize);
-    let rules_at = at + places.rules;
-    let graphics_at = at + places.graphics;
-    let glyphs_at = at + places.glyphs;
-    let lines_at = at + places.lines;
-    let blocks_at = at + places.blocks;
-    let a = fields_below(store, lines_at, LINE_WORDS, GLYPH_HEIGHT, n.lines, h + 1);
-    let b = fields_below(
-        store,
-        blocks_at,
-        BLOCK_WORDS,
-        BLOCK_LINES,
-        n.blocks,
-        n.lines + 1,
-    );
-    let c = boxes_ok(store, rules_at, BOX_WORDS, n.rules, w, h);
-    let d = boxes_ok(store, graphics_at, BOX_WORDS, n.graphics, w, h);
-    let e = boxes_ok(store, glyphs_at, GLYPH_WORDS, n.glyphs, w, h);
-    let f = boxes_ok(store, lines_at, LINE_WORDS, n.lines, w, h);
-    let g = boxes_ok(store, blocks_at, BLOCK_WORDS, n.blocks, w, h);
-    let i = fields_marked(store, glyphs_at, GLYPH_WORDS, GLYPH_LINE, n.glyphs, n.lines);
-    let j = fields_below(store, lines_at, LINE_WORDS, LINE_BLOCK, n.lines, n.blocks);
+    let rules = Records {
+        at: at + places.rules,
+        width: BOX_WORDS,
+        n: n.rules,
+    };
+    let graphics = Records {
+        at: at + places.graphics,
+        width: BOX_WORDS,
+        n: n.graphics,
+    };
+    let glyphs = Records {
+        at: at + places.glyphs,
+        width: GLYPH_WORDS,
+        n: n.glyphs,
+    };
+    let lines = Records {
+        at: at + places.lines,
+        width: LINE_WORDS,
+        n: n.lines,
+    };
+    let blocks = Records {
+        at: at + places.blocks,
+        width: BLOCK_WORDS,
+        n: n.blocks,
+    };
+    let a = fields_below(store, lines, GLYPH_HEIGHT, h + 1);
+    let b = fields_below(store, blocks, BLOCK_LINES, n.lines + 1);
+    let c = boxes_ok(store, rules, w, h);
+    let d = boxes_ok(store, graphics, w, h);
+    let e = boxes_ok(store, glyphs, w, h);
+    let f = boxes_ok(store, lines, w, h);
+    let g = boxes_ok(store, blocks, w, h);
+    let i = fields_marked(store, glyphs, GLYPH_LINE, n.lines);
+    let j = fields_below(store, lines, LINE_BLOCK, n.blocks);
     a & b & c & d & e & f & g & i & j
 }
 

@@ -1,44 +1,30 @@
-use Prim.Native.Nat.{◌+◌}
-use mathlib.Core.Path.{ap}
-use mathlib.Core.Bool.{◌||◌}
+use borrow.Author.Rules.{rules}
+use Prim.Native.Nat.{ℕ, ◌+◌, ◌*◌, ◌≤◌, ◌<◌}
+use mathlib.Core.Path.{◌≡◌, refl}
+use mathlib.Core.Bool.{Bool}
+use lib.ListN.{length, get_or}
 use native.Mathlib.Omega.{arith}
+use Rattle.std.proofs.iter.Serving.{serving}
+use mathlib.Core.Bool.{◌||◌}
 use lib.Dec.{eqb, ltb}
-use lib.ListN.{get_or}
 use Rattle.memory.specs.rules.Limits.{no_line}
-use Rattle.judging.proofs.ResultLaws.{every-none, every_more, record-ends, fields-there}
+use Rattle.judging.proofs.ResultLaws.{record-ends, field_at, fields-there}
 use Rattle.judging.proofs.results.fields_marked.Goals as goal
 
--- `judging::results::fields_marked` meets its contract. Assumes nothing.
-
-pub loop-i-init : goal.loop-i-init
-loop-i-init c = (omega arith, omega arith, every-none _)
-
-pub overflow_add-v : goal.overflow_add-v
-overflow_add-v c =
+pub each_ok-requires : goal.each_ok-requires
+each_ok-requires c =
     let a = c.args in
-    omega (arith, record-ends a.at c.loop-i.i a.n a.width c.loop-i-test.true, c.requires.0, c.requires.1, c.loop-i.invariant.1)
-
-pub offset_bounds-words-p : goal.offset_bounds-words-p
-offset_bounds-words-p c =
-    let a = c.args in
-    omega (arith, record-ends a.at c.loop-i.i a.n a.width c.loop-i-test.true, c.requires.0, c.requires.1, c.loop-i.invariant.1)
-
-pub bounds-words-p : goal.bounds-words-p
-bounds-words-p c =
-    let a = c.args in
-    omega (arith, record-ends a.at c.loop-i.i a.n a.width c.loop-i-test.true, c.requires.0, c.requires.1, c.loop-i.invariant.1)
-
-pub overflow_add-p : goal.overflow_add-p
-overflow_add-p c =
-    let a = c.args in
-    omega (arith, record-ends a.at c.loop-i.i a.n a.width c.loop-i-test.true, c.requires.0, c.loop-i.invariant.1)
-
-pub loop-i-preserved : goal.loop-i-preserved
-loop-i-preserved c =
-    let a = c.args in
-    (omega arith, omega (arith, c.loop-i.invariant.1), every_more _ c.loop-i.i c.loop-i.ok _ c.loop-i.invariant.2 (ap (λ q. eqb (get_or a.words.now (q + a.field) 0) no_line || ltb (get_or a.words.now (q + a.field) 0) a.limit) c.loop-i.invariant.1))
+    let test : ℕ → Bool = λ i. (eqb (get_or a.words.now (a.r.at + i * a.r.width + a.field) 0) no_line || ltb (get_or a.words.now (a.r.at + i * a.r.width + a.field) 0) a.limit) in (
+      omega arith, (
+      test,
+      λ i l.
+          let low : a.r.at + i * a.r.width + a.field < length a.words.now = omega (arith, record-ends a.r.at i a.r.n a.r.width l, c.requires.0, c.requires.1) in
+          (grind serving, λ b q. let e : b ≡ test i = search rules in e),
+    ))
 
 pub returns : goal.returns
 returns c =
     let a = c.args in
-    fields-there (λ v. eqb v no_line || ltb v a.limit) a.at a.width a.field a.n a.words.now c.loop-i.ok c.loop-i.i c.requires.1 (omega arith) c.loop-i.invariant.2
+    let test : ℕ → Bool = λ i. (eqb (get_or a.words.now (a.r.at + i * a.r.width + a.field) 0) no_line || ltb (get_or a.words.now (a.r.at + i * a.r.width + a.field) 0) a.limit) in
+    fields-there (λ v. eqb v no_line || ltb v a.limit) a.r.at a.r.width a.field a.r.n a.words.now c.each_ok.result a.r.n c.requires.1 refl
+    (c.each_ok.ensures test (λ i b l q. let e : b ≡ test i = search rules in e))

@@ -4,20 +4,20 @@ use Rattle.judging.proofs.results.lists_ok.Goals as goal
 
 -- `judging::results::lists_ok` meets its contract. Assumes nothing.
 
-pub overflow_add-rules_at : goal.overflow_add-rules_at
-overflow_add-rules_at c = let q = places-are _ _ _ c.result_places-places.ensures in omega (arith, q.0, c.requires.room)
+pub overflow_add-rules : goal.overflow_add-rules
+overflow_add-rules c = let q = places-are _ _ _ c.result_places-places.ensures in omega (arith, q.0, c.requires.room)
 
-pub overflow_add-graphics_at : goal.overflow_add-graphics_at
-overflow_add-graphics_at c = let q = places-are _ _ _ c.result_places-places.ensures in omega (arith, q.1, c.requires.room)
+pub overflow_add-graphics : goal.overflow_add-graphics
+overflow_add-graphics c = let q = places-are _ _ _ c.result_places-places.ensures in omega (arith, q.1, c.requires.room)
 
-pub overflow_add-glyphs_at : goal.overflow_add-glyphs_at
-overflow_add-glyphs_at c = let q = places-are _ _ _ c.result_places-places.ensures in omega (arith, q.2, c.requires.room)
+pub overflow_add-glyphs : goal.overflow_add-glyphs
+overflow_add-glyphs c = let q = places-are _ _ _ c.result_places-places.ensures in omega (arith, q.2, c.requires.room)
 
-pub overflow_add-lines_at : goal.overflow_add-lines_at
-overflow_add-lines_at c = let q = places-are _ _ _ c.result_places-places.ensures in omega (arith, q.3, c.requires.room)
+pub overflow_add-lines : goal.overflow_add-lines
+overflow_add-lines c = let q = places-are _ _ _ c.result_places-places.ensures in omega (arith, q.3, c.requires.room)
 
-pub overflow_add-blocks_at : goal.overflow_add-blocks_at
-overflow_add-blocks_at c = let q = places-are _ _ _ c.result_places-places.ensures in omega (arith, q.4, c.requires.room)
+pub overflow_add-blocks : goal.overflow_add-blocks
+overflow_add-blocks c = let q = places-are _ _ _ c.result_places-places.ensures in omega (arith, q.4, c.requires.room)
 
 pub fields_below-a-requires : goal.fields_below-a-requires
 fields_below-a-requires c =
