@@ -71,13 +71,6 @@ module _ (s ink kinds out : List ℕ) (n : ℕ) (en : n ≡ result_refusal (leng
 pub list-start : (s : List ℕ) (k : Which) (at w P : ℕ) (q : ResultPlaces) → at ≡ lists_at (get_or s 1 0) (get_or s 4 0) → w ≡ get_or s 3 0 → P ≡ get_or s 5 0 → q ≡ result_places w P → at + place_in k q ≡ list_start k s
 list-start s k at w P q ea ew ep eq = λ i. ea i + place_in k ((eq ∙ (λ j. result_places (ew j) (ep j))) i)
 
-pub list-by : (s : List ℕ) (which : ℕ) (k : Which) → which_of which ≡ k → (r : RecordList) (p : ℕ) → (r.at ≡ p) × (r.width ≡ record_words k) × (r.count ≡ list_size k s) → p ≡ list_start k s
-    → (r.at ≡ list_start (which_of which) s) × (r.width ≡ record_words (which_of which)) × (r.count ≡ list_size (which_of which) s)
-list-by s which k q r p e f = (e.0 ∙ (f ∙ ap (λ z. list_start z s) (sym q)), e.1 ∙ ap record_words (sym q), e.2 ∙ ap (λ z. list_size z s) (sym q))
-
-pub which-last : (n : ℕ) → (n ≡ 0 → ⊥) → (n ≡ 1 → ⊥) → (n ≡ 2 → ⊥) → (n ≡ 3 → ⊥) → (n ≡ 4 → ⊥) → which_of n ≡ blocks
-which-last n a b c d e = rw (ne_eqb n 0 a, ne_eqb n 1 b, ne_eqb n 2 c, ne_eqb n 3 d, ne_eqb n 4 e)
-
 -- ---- a store that may be read
 
 module _ (s ink kinds : List ℕ) (R : ReadableResults s ink kinds) where

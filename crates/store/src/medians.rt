@@ -2,7 +2,7 @@
 ghost use Rattle.std.specs.Prelude.{◌≡◌};
 ghost use Rattle.store.specs.stages.Areas.{LinesAt, pitch_read, twenty_read, height_read};
 
-use crate::lists::{LINES_LIST, list_of};
+use crate::lists::{ListName, list_of};
 use judging::{BLOCKS, FRAME_HEIGHT, LINES};
 use memory::{MAX_CAPACITY, MAX_FRAME_HEIGHT};
 
@@ -18,7 +18,7 @@ pub fn pitch_read(store: &[u32]) -> u32
     ensures { result ≡ pitch_read store.now }
 {
     let n = store[LINES] as usize;
-    let lines = list_of(store, LINES_LIST);
+    let lines = list_of(store, ListName::Lines);
     let mut table = [0u32; TABLE];
     grouping::median_pitch(
         lines,
@@ -35,7 +35,7 @@ pub fn twenty_read(store: &[u32]) -> u32
     ensures { result ≡ twenty_read store.now }
 {
     let n = store[LINES] as usize;
-    let lines = list_of(store, LINES_LIST);
+    let lines = list_of(store, ListName::Lines);
     let mut table = [0u32; TABLE];
     grouping::twenty_line_measure(
         lines,
@@ -52,7 +52,7 @@ pub fn height_read(store: &[u32]) -> u32
     ensures { result ≡ height_read store.now }
 {
     let n = store[LINES] as usize;
-    let lines = list_of(store, LINES_LIST);
+    let lines = list_of(store, ListName::Lines);
     let mut table = [0u32; HEIGHTS];
     grouping::median_glyph_height(lines, n, store[FRAME_HEIGHT], &mut table)
 }

@@ -20,12 +20,18 @@ use Rattle.judging.specs.rules.Views.{glyph_height_at, box_length}
 use Rattle.listing.specs.rules.Pages.{edition}
 use Rattle.listing.specs.rules.Sheets.{sheet_text}
 use Rattle.store.specs.rules.Readings.{Which}
+use Rattle.store.specs.declared.lists.ListName as lists
+use Rattle.store.specs.declared.lists.ListName.TheVariants as named
 use Rattle.store.specs.rules.Readings.Which.{columns, rules, graphics, glyphs, lines, blocks}
 
--- the list with this number
-abbrev pub which_of : ℕ → Which
-which_of n =
-    cond (eqb n 0) columns (cond (eqb n 1) rules (cond (eqb n 2) graphics (cond (eqb n 3) glyphs (cond (eqb n 4) lines blocks))))
+-- the list that is named
+abbrev pub which_of : lists.ListName → Which
+which_of named.Columns = columns
+which_of named.Rules = rules
+which_of named.Graphics = graphics
+which_of named.Glyphs = glyphs
+which_of named.Lines = lines
+which_of named.Blocks = blocks
 
 -- where it begins behind the shears, by the places of the lists
 abbrev pub place_in : Which → ResultPlaces → ℕ
