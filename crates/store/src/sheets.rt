@@ -12,7 +12,7 @@ use judging::{
     judge_reading, lists_at,
 };
 use listing::{SheetSides, sheet_length, write_sheet_text};
-use memory::{Refusal, wide};
+use memory::Refusal;
 use segmenting::result_places;
 
 // How long the sheet is.
@@ -40,7 +40,7 @@ fn put_sheet(store: &[u32], out: &mut [u8])
         page_h,
     };
     let at = lists_at(page_w, h);
-    let places = result_places(wide(w), wide(store[CAPACITY]));
+    let places = result_places(w as usize, store[CAPACITY] as usize);
     write_sheet_text(
         out,
         sides,
