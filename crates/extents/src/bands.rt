@@ -98,11 +98,9 @@ fn count_more(dots: &[u8], counts: &mut [u8])
     requires { (length dots.now ≤ length counts.old) × ((k : ℕ) → k < length dots.now → get_or counts.old k 0 < 32) }
     ensures { Put (λ k. cond (is_ink dots.now k) (get_or counts.old k 0 + 1) 0) 0 (length dots.now) counts.old counts.new }
 {
-    let mut i: usize = 0;
-    while i < dots.len() {
-        let ink = (0 < dots[i]) as u8;
+    for (i, dot) in dots.iter().enumerate() {
+        let ink = (0 < *dot) as u8;
         counts[i] = ink * (counts[i] + 1);
-        i += 1;
     }
 }
 
@@ -123,10 +121,8 @@ fn add_counts(counts: &[u8], n: usize, above: usize, at: usize, extents: &mut [u
     requires { (n ≤ length counts.now) × (above + n ≤ at) × (at + n ≤ length extents.old) × ((k : ℕ) → k < n → get_or extents.old (above + k) 0 ≤ max_extent) }
     ensures { Put (λ k. band_count (get_or counts.now (k - at) 0) (get_or extents.old (above + (k - at)) 0)) at (at + n) extents.old extents.new }
 {
-    let mut i: usize = 0;
-    while i < n {
+    for i in 0..n {
         extents[at + i] = count_through(counts[i], extents[above + i]);
-        i += 1;
     }
 }
 
@@ -214,10 +210,8 @@ fn count_dots(mask: &[u8], w: usize, from: usize, to: usize, extents: &mut [u32]
     requires { (Counts w mask.now from to extents.old) × (w ≤ from) }
     ensures { Put (capped_count w mask.now) from to extents.old extents.new }
 {
-    let mut i = from;
-    while i < to {
+    for i in from..to {
         extents[i] = count_on(mask[i], extents[i - w]);
-        i += 1;
     }
 }
 
@@ -294,9 +288,7 @@ fn take_dots(mask: &[u8], w: usize, h: usize, from: usize, to: usize, extents: &
     requires { (TakesUp w h mask.now from to extents.old) × (to + w ≤ w * h) }
     ensures { Put (column_extent w h mask.now) from to extents.old extents.new }
 {
-    let mut i = to;
-    while from < i {
-        i -= 1;
+    for i in (from..to).rev() {
         extents[i] = take_on(mask[i], mask[i + w], extents[i], extents[i + w]);
     }
 }

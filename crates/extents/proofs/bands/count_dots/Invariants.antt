@@ -5,6 +5,3 @@ use Rattle.extents.proofs.bands.count_dots.Given as goal
 
 abbrev pub invariant-loop-i : goal.invariant-loop-i
 invariant-loop-i l = (l.from ≤ l.i) × (l.i ≤ l.to) × Put (capped_count l.w l.mask) l.from l.i l.initial.extents l.extents
-
-abbrev pub decreases-loop-i : goal.decreases-loop-i
-decreases-loop-i l = l.to - l.i

@@ -7,6 +7,3 @@ use Rattle.extents.proofs.bands.count_more.Given as goal
 
 abbrev pub invariant-loop-i : goal.invariant-loop-i
 invariant-loop-i l = (l.i ≤ length l.dots) × Put (λ k. cond (is_ink l.dots k) (get_or l.initial.counts k 0 + 1) 0) 0 l.i l.initial.counts l.counts
-
-abbrev pub decreases-loop-i : goal.decreases-loop-i
-decreases-loop-i l = length l.dots - l.i

@@ -5,6 +5,3 @@ use Rattle.extents.proofs.bands.take_dots.Given as goal
 
 abbrev pub invariant-loop-i : goal.invariant-loop-i
 invariant-loop-i l = (l.from ≤ l.i) × (l.i ≤ l.to) × Put (column_extent l.w l.h l.mask) l.i l.to l.initial.extents l.extents
-
-abbrev pub decreases-loop-i : goal.decreases-loop-i
-decreases-loop-i l = l.i - l.from
