@@ -84,12 +84,10 @@ fn count_columns(mask: &[u8], w: usize, y: usize, x: usize, n: usize, counts: &m
     requires { (0 < w) × ((y + 32) * w ≤ length mask.now) × (x + n ≤ w) × (n ≤ length counts.old) × ((k : ℕ) → k < n → get_or counts.old k 0 ≡ 0) }
     ensures { (k : ℕ) → k < n → get_or counts.new k 0 ≡ count_from w mask.now y (x + k) 32 }
 {
-    let mut r: usize = 0;
-    while r < BAND {
+    for r in 0..BAND {
         let from = (y + r) * w + x;
         let to = from + n;
         count_more(&mask[from..to], counts);
-        r += 1;
     }
 }
 
@@ -109,10 +107,8 @@ fn put_counts(counts: &[u8], n: usize, at: usize, extents: &mut [u32])
     requires { (n ≤ length counts.now) × (at + n ≤ length extents.old) }
     ensures { Put (λ k. get_or counts.now (k - at) 0) at (at + n) extents.old extents.new }
 {
-    let mut i: usize = 0;
-    while i < n {
+    for i in 0..n {
         extents[at + i] = counts[i] as u32;
-        i += 1;
     }
 }
 
@@ -141,10 +137,8 @@ fn count_band(mask: &[u8], w: usize, start: usize, end: usize, extents: &mut [u3
     requires { (Counts w mask.now (start * w) (end * w) extents.old) × (start ≤ end) }
     ensures { Put (capped_count w mask.now) (start * w) (end * w) extents.old extents.new }
 {
-    let mut y = start;
-    while y < end {
+    for y in start..end {
         count_row(mask, w, y, extents);
-        y += 1;
     }
 }
 
@@ -172,10 +166,8 @@ fn count_first_row(mask: &[u8], w: usize, extents: &mut [u32])
     requires { (0 < w) × (w ≤ length mask.now) × (length mask.now ≤ length extents.old) }
     ensures { Put (capped_count w mask.now) 0 w extents.old extents.new }
 {
-    let mut i: usize = 0;
-    while i < w {
+    for i in 0..w {
         extents[i] = count_on(mask[i], 0);
-        i += 1;
     }
 }
 
@@ -197,10 +189,8 @@ fn is_blank(dots: &[u8]) -> bool
     ensures { result ≡ true → (k : ℕ) → k < length dots.now → is_ink dots.now k ≡ false }
 {
     let mut blank = true;
-    let mut i: usize = 0;
-    while i < dots.len() {
-        blank = blank & (dots[i] == 0);
-        i += 1;
+    for dot in dots {
+        blank &= *dot == 0;
     }
     blank
 }
@@ -230,9 +220,7 @@ fn take_band(mask: &[u8], w: usize, h: usize, start: usize, end: usize, extents:
     requires { (TakesUp w h mask.now (start * w) (end * w) extents.old) × (start ≤ end) }
     ensures { Put (column_extent w h mask.now) (start * w) (end * w) extents.old extents.new }
 {
-    let mut y = end;
-    while start < y {
-        y -= 1;
+    for y in (start..end).rev() {
         take_row(mask, w, h, y, extents);
     }
 }

@@ -15,17 +15,12 @@ pub fn start_before(row: &[u8], x: usize, to: usize) -> usize
     requires { (x ≤ to) × (to < length row.now) × Starts (is_ink row.now) x }
     ensures { (x ≤ result) × (result ≤ to) × Starts (is_ink row.now) result }
 {
-    let mut r = to;
-    while x < r {
-        if row[r] == 0 {
+    for r in (x + 1..=to).rev() {
+        if row[r] == 0 || row[r - 1] == 0 {
             return r;
         }
-        if row[r - 1] == 0 {
-            return r;
-        }
-        r -= 1;
     }
-    r
+    x
 }
 
 // Whether no run that starts from x up to `to` has more than three dots.
@@ -34,12 +29,10 @@ pub fn all_short(row: &[u8], x: usize, to: usize) -> bool
     ensures { result ≡ true → (k : ℕ) → x ≤ k → k < to → no_four row.now k }
 {
     let mut short = true;
-    let mut i = x;
-    while i < to {
+    for i in x..to {
         let front = (0 < row[i]) & (0 < row[i + 1]);
         let back = (0 < row[i + 2]) & (0 < row[i + 3]);
-        short = short & !(front & back);
-        i += 1;
+        short &= !(front & back);
     }
     short
 }
@@ -84,11 +77,9 @@ fn tell_short(row: &[u8], x: usize, bytes: &mut [u8])
     ensures { (k : ℕ) → k < 32 → get_or bytes.new k 0 ≡ short_extent_at row.now (x + k) }
 {
     let from = x - 2;
-    let mut k = 0;
-    while k < CHUNK {
+    for k in 0..CHUNK {
         let i = from + k;
         bytes[k] = short_extent(row[i], row[i + 1], row[i + 2], row[i + 3], row[i + 4]);
-        k += 1;
     }
 }
 
@@ -97,18 +88,9 @@ fn widen(bytes: &[u8], x: usize, extents: &mut [u32])
     requires { (length bytes.now ≡ 32) × (x + 32 ≤ length extents.old) }
     ensures { Put (λ i. get_or bytes.now (i - x) 0) x (x + 32) extents.old extents.new }
 {
-    let mut k = 0;
-    while k < CHUNK {
-        extents[x + k] = wide(bytes[k]);
-        k += 1;
+    for (k, byte) in bytes.iter().enumerate() {
+        extents[x + k] = *byte as u32;
     }
-}
-
-// The same number, wider.
-fn wide(x: u8) -> u32
-    ensures { result ≡ x }
-{
-    x as u32
 }
 
 // Whether a chunk has many turns.
@@ -116,10 +98,8 @@ pub fn is_crowded(row: &[u8], x: usize, to: usize) -> bool
     requires { (x ≤ to) × (to < length row.now) × (to ≤ x + 64) }
 {
     let mut turns = 0;
-    let mut i = x;
-    while i < to {
+    for i in x..to {
         turns += turn_at(row[i], row[i + 1]);
-        i += 1;
     }
     MANY <= turns
 }
@@ -128,7 +108,7 @@ pub fn is_crowded(row: &[u8], x: usize, to: usize) -> bool
 fn turn_at(a: u8, b: u8) -> u8
     ensures { result ≤ 1 }
 {
-    if (0 < a) == (0 < b) { 0 } else { 1 }
+    ((0 < a) != (0 < b)) as u8
 }
 
 // The extents from the start x up to the start `to`: on, each dot counts the ink that ends at it; back again, each dot that goes on
@@ -146,11 +126,9 @@ fn count_on(row: &[u8], x: usize, to: usize, extents: &mut [u32])
     ensures { RowCounted row.now x to to extents.new }
 {
     let mut count = 0;
-    let mut i = x;
-    while i < to {
+    for i in x..to {
         count = one_more(row[i], count);
         extents[i] = count;
-        i += 1;
     }
 }
 
@@ -167,9 +145,7 @@ fn take_back(row: &[u8], x: usize, to: usize, extents: &mut [u32])
     ensures { RowTo row.now to extents.new }
 {
     let mut later = 0;
-    let mut i = to;
-    while x < i {
-        i -= 1;
+    for i in (x..to).rev() {
         later = taken(row[i], row[i + 1], extents[i], later);
         extents[i] = later;
     }

@@ -20,12 +20,10 @@ pub fn row_extents(mask: &[u8], width: u32, height: u32, extents: &mut [u32])
 {
     let w = width as usize;
     let h = height as usize;
-    let mut y: usize = 0;
-    while y < h {
+    for y in 0..h {
         let from = y * w;
         let to = from + w;
         extents_of_row(&mask[from..to], &mut extents[from..to]);
-        y += 1;
     }
 }
 
@@ -46,10 +44,8 @@ fn single_dots(row: &[u8], extents: &mut [u32])
     requires { length row.now ≡ length extents.old }
     ensures { extents.new ≡ table (single_dot row.now) (length row.now) }
 {
-    let mut i: usize = 0;
-    while i < row.len() {
-        extents[i] = (0 < row[i]) as u32;
-        i += 1;
+    for (i, dot) in row.iter().enumerate() {
+        extents[i] = (0 < *dot) as u32;
     }
 }
 

@@ -1,4 +1,4 @@
-use Prim.Native.Nat.{◌≤◌, ◌-◌}
+use Prim.Native.Nat.{◌≤◌}
 use Rattle.extents.specs.stages.Scans.{capped_count}
 use Rattle.extents.specs.stages.Bands.{Put}
 use Rattle.extents.proofs.bands.count_dots.Given as goal

@@ -1,5 +1,5 @@
 use mathlib.Core.Bool.{cond}
-use Prim.Native.Nat.{◌≤◌, ◌+◌, ◌-◌}
+use Prim.Native.Nat.{◌≤◌, ◌+◌}
 use lib.ListN.{length, get_or}
 use Rattle.memory.specs.rules.Masks.{is_ink}
 use Rattle.extents.specs.stages.Bands.{Put}

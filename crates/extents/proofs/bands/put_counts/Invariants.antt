@@ -5,6 +5,3 @@ use Rattle.extents.proofs.bands.put_counts.Given as goal
 
 abbrev pub invariant-loop-i : goal.invariant-loop-i
 invariant-loop-i l = (l.i ≤ l.n) × Put (λ k. get_or l.counts (k - l.at) 0) l.at (l.at + l.i) l.initial.extents l.extents
-
-abbrev pub decreases-loop-i : goal.decreases-loop-i
-decreases-loop-i l = l.n - l.i

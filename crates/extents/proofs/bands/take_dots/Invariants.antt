@@ -1,4 +1,4 @@
-use Prim.Native.Nat.{◌≤◌, ◌-◌}
+use Prim.Native.Nat.{◌≤◌}
 use Rattle.extents.specs.stages.Scans.{column_extent}
 use Rattle.extents.specs.stages.Bands.{Put}
 use Rattle.extents.proofs.bands.take_dots.Given as goal

@@ -8,6 +8,3 @@ use Rattle.extents.proofs.crowded.count_on.Given as goal
 
 abbrev pub invariant-loop-i : goal.invariant-loop-i
 invariant-loop-i l = (l.x ≤ l.i) × (l.i ≤ l.to) × (l.count ≤ l.i - l.x) × RowParts l.row l.x l.i l.to (λ k. behind (is_ink l.row) (suc k)) (single_dot l.row) l.extents × (is_ink l.row l.i ≡ true → l.count ≡ behind (is_ink l.row) l.i)
-
-abbrev pub decreases-loop-i : goal.decreases-loop-i
-decreases-loop-i l = l.to - l.i

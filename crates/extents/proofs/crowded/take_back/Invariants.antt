@@ -1,5 +1,5 @@
 use mathlib.Core.Path.{◌≡◌}
-use Prim.Native.Nat.{◌-◌, ◌≤◌, ◌<◌}
+use Prim.Native.Nat.{◌≤◌, ◌<◌}
 use lib.ListN.{length}
 use Rattle.memory.specs.rules.Masks.{is_ink}
 use Rattle.extents.specs.rules.Extents.{extent}
@@ -8,6 +8,3 @@ use Rattle.extents.proofs.crowded.take_back.Given as goal
 
 abbrev pub invariant-loop-i : goal.invariant-loop-i
 invariant-loop-i l = (l.x ≤ l.i) × (l.i ≤ l.to) × RowCounted l.row l.x l.i l.to l.extents × (l.i < l.to → l.later ≡ extent (is_ink l.row) (length l.row) l.i)
-
-abbrev pub decreases-loop-i : goal.decreases-loop-i
-decreases-loop-i l = l.i - l.x

@@ -1,4 +1,4 @@
-use mathlib.Core.Path.{refl, ◌∙◌, ◌≡◌, ap}
+use mathlib.Core.Path.{refl, ◌≡◌, ap}
 use Prim.Native.Nat.{◌+◌, ◌-◌}
 use native.Mathlib.Omega.{arith}
 use lib.ListN.{get_or}
@@ -15,7 +15,7 @@ pub loop-k-preserved : goal.loop-k-preserved
 loop-k-preserved c =
     let a = c.args in
     let e : c.loop-k.k ≡ a.x + c.loop-k.k - a.x = omega arith in
-    (omega arith, put-ends (put_up c.wide.result c.loop-k.invariant.1 (omega arith) (omega arith) (c.wide.ensures ∙ ap (λ j. get_or a.bytes.now j 0) e)) refl (omega arith))
+    (omega arith, put-ends (put_up _ c.loop-k.invariant.1 (omega arith) (omega arith) (ap (λ j. get_or a.bytes.now j 0) e)) refl (omega arith))
 
 pub returns : goal.returns
 returns c = let z : c.loop-k.k ≡ 32 = omega arith in put-ends c.loop-k.invariant.1 refl (omega arith)

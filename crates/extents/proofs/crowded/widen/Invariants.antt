@@ -5,6 +5,3 @@ use Rattle.extents.proofs.crowded.widen.Given as goal
 
 abbrev pub invariant-loop-k : goal.invariant-loop-k
 invariant-loop-k l = (l.k ≤ 32) × Put (λ i. get_or l.bytes (i - l.x) 0) l.x (l.x + l.k) l.initial.extents l.extents
-
-abbrev pub decreases-loop-k : goal.decreases-loop-k
-decreases-loop-k l = 32 - l.k
