@@ -1,5 +1,5 @@
 -- Extents along columns: counts down the columns, taken up again, row by row and band by band.
-use mathlib.Core.Path.{◌≡◌, refl, sym, ap, ◌∙◌}
+use mathlib.Core.Path.{◌≡◌, refl, sym, ap, subst, ◌∙◌}
 use mathlib.Core.Bool.{Bool, true, false, cond, ◌&&◌, ◌||◌, true≢false}
 use mathlib.Core.List.{List}
 use Prim.Native.Nat.{ℕ, suc, ◌+◌, ◌-◌, ◌*◌, ◌/◌, ◌%◌, ◌≤◌, ◌<◌, min}
@@ -392,6 +392,9 @@ bands-last h B whole l = record { size = B.size; counted = λ b z u. B.counted b
 pub record BandsDone (w h : ℕ) (m : List ℕ) (end : ℕ) (old new : List ℕ) : Type 0 where
   pub bands : BandsCounted w m end old new
   pub final : (k : ℕ) → end * w ≤ k → k < w * h → get_or new k 0 ≡ column_extent w h m k
+
+pub done-ends : {w h a b : ℕ} {m s e : List ℕ} → BandsDone w h m a s e → a ≡ b → BandsDone w h m b s e
+done-ends {w} {h} {a} {b} {m} {s} {e} D q = subst (λ k. BandsDone w h m k s e) q D
 
 pub bands-begun : {w h : ℕ} {m s e : List ℕ} → BandsCounted w m h s e → BandsDone w h m h e e
 bands-begun {w} {h} B =

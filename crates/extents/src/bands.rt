@@ -30,12 +30,11 @@ pub fn column_extents(mask: &[u8], width: u32, height: u32, extents: &mut [u32])
     let w = width as usize;
     let h = height as usize;
     count_bands(mask, w, h, extents);
-    let mut end = h;
-    while 0 < end {
-        let start = (end - 1) / BAND * BAND;
+    for band in (0..h.div_ceil(BAND)).rev() {
+        let start = band * BAND;
+        let end = h.min(start + BAND);
         count_band(mask, w, start, end, extents);
         take_band(mask, w, h, start, end, extents);
-        end = start;
     }
 }
 
@@ -44,10 +43,8 @@ fn count_bands(mask: &[u8], w: usize, h: usize, extents: &mut [u32])
     requires { MaskFits w h (length mask.now) (length extents.old) }
     ensures { BandsCounted w mask.now h extents.old extents.new }
 {
-    let mut y: usize = 0;
-    while BAND <= h - y {
-        count_last_row(mask, w, y, extents);
-        y += BAND;
+    for band in 0..h / BAND {
+        count_last_row(mask, w, band * BAND, extents);
     }
 }
 
@@ -56,12 +53,11 @@ fn count_last_row(mask: &[u8], w: usize, y: usize, extents: &mut [u32])
     requires { Counts w mask.now (y * w) ((y + 32) * w) extents.old }
     ensures { Put (capped_count w mask.now) ((y + 31) * w) ((y + 31) * w + w) extents.old extents.new }
 {
-    let mut x: usize = 0;
-    while CHUNK <= w - x {
-        count_last_chunk(mask, w, y, x, CHUNK, extents);
-        x += CHUNK;
+    for chunk in 0..w / CHUNK {
+        count_last_chunk(mask, w, y, chunk * CHUNK, CHUNK, extents);
     }
-    count_last_chunk(mask, w, y, x, w - x, extents);
+    let rest = w % CHUNK;
+    count_last_chunk(mask, w, y, w - rest, rest, extents);
 }
 
 // The same of n columns from x on.
@@ -152,13 +148,11 @@ fn count_row(mask: &[u8], w: usize, y: usize, extents: &mut [u32])
         return;
     }
     let at = y * w;
-    let end = at + w;
-    let mut i = at;
-    while CHUNK <= end - i {
-        count_chunk(mask, w, i, extents);
-        i += CHUNK;
+    for chunk in 0..w / CHUNK {
+        count_chunk(mask, w, at + chunk * CHUNK, extents);
     }
-    count_dots(mask, w, i, end, extents);
+    let end = at + w;
+    count_dots(mask, w, end - w % CHUNK, end, extents);
 }
 
 // Nothing lies above the first row.
@@ -234,13 +228,11 @@ fn take_row(mask: &[u8], w: usize, h: usize, y: usize, extents: &mut [u32])
         return;
     }
     let at = y * w;
-    let mut to = at + w;
-    while TAKEN <= to - at {
-        let from = to - TAKEN;
-        take_chunk(mask, w, h, from, extents);
-        to = from;
+    let rest = at + w % TAKEN;
+    for chunk in (0..w / TAKEN).rev() {
+        take_chunk(mask, w, h, rest + chunk * TAKEN, extents);
     }
-    take_dots(mask, w, h, at, to, extents);
+    take_dots(mask, w, h, at, rest, extents);
 }
 
 // A chunk of a row: where no dot goes on below, the counts are the extents.

@@ -53,10 +53,8 @@ pub fn short_extents(row: &[u8], x: usize, to: usize, extents: &mut [u32])
     requires { (PartOfRow row.now x to) × (RowTo row.now x extents.old) × (2 ≤ x) × (to + 3 ≤ length row.now) × ((k : ℕ) → x ≤ k → k < to → no_four row.now k) × (x + 32 ≤ to) }
     ensures { RowTo row.now to extents.new }
 {
-    let mut i = x;
-    while CHUNK <= to - i {
-        short_chunk(row, i, extents);
-        i += CHUNK;
+    for chunk in 0..(to - x) / CHUNK {
+        short_chunk(row, x + chunk * CHUNK, extents);
     }
     short_chunk(row, to - CHUNK, extents);
 }

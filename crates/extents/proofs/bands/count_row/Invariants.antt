@@ -1,10 +1,7 @@
-use Prim.Native.Nat.{◌≤◌, ◌+◌, ◌-◌, ◌*◌}
+use Prim.Native.Nat.{◌+◌, ◌*◌}
 use Rattle.extents.specs.stages.Scans.{capped_count}
 use Rattle.extents.specs.stages.Bands.{Put}
 use Rattle.extents.proofs.bands.count_row.Given as goal
 
-abbrev pub invariant-loop-i : goal.invariant-loop-i
-invariant-loop-i l = (l.y * l.w ≤ l.i) × (l.i ≤ l.y * l.w + l.w) × Put (capped_count l.w l.mask) (l.y * l.w) l.i l.initial.extents l.extents
-
-abbrev pub decreases-loop-i : goal.decreases-loop-i
-decreases-loop-i l = l.y * l.w + l.w - l.i
+abbrev pub invariant-loop-chunk : goal.invariant-loop-chunk
+invariant-loop-chunk l = Put (capped_count l.w l.mask) (l.y * l.w) (l.y * l.w + l.chunk * 64) l.initial.extents l.extents

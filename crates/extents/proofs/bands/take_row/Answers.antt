@@ -1,6 +1,6 @@
 use native.Mathlib.Omega.{arith}
 use mathlib.Core.Path.{◌≡◌, refl}
-use Prim.Native.Nat.{◌+◌, ◌-◌, ◌*◌}
+use Prim.Native.Nat.{◌+◌, ◌-◌, ◌*◌, ◌%◌}
 use native.Mathlib.Nat.{le_refl}
 use Rattle.extents.proofs.PutLaws.{put-none, put-ends, put-more-down}
 use Rattle.extents.proofs.BandLaws.{rows_fit, last-row-ends, row_below, takes-next, take_last}
@@ -19,31 +19,30 @@ returns-then-y-h c =
     let p = c.requires in
     take_last p (last-row-ends a.w a.h a.y c.if-y-h.true)
 
-pub loop-to-init : goal.loop-to-init
-loop-to-init c =
+pub loop-chunk-init : goal.loop-chunk-init
+loop-chunk-init c =
     let a = c.args in
-    (omega arith, le_refl _, put-none (a.y * a.w + a.w) a.extents.now)
+    put-ends (put-none (a.y * a.w + a.w) a.extents.now) (omega arith) refl
 
 pub take_chunk-requires : goal.take_chunk-requires
 take_chunk-requires c =
     let a = c.args in
     let p = c.requires in
-    let z : c.loop-to.to - 32 + 32 ≡ c.loop-to.to = omega arith in
     let b = row_below a.w a.h a.y p.wide p.inside c.if-y-h.false in
-    (rw z (takes-next p (c.loop-to.to - 32) c.loop-to.invariant.2 (omega arith) (omega arith) c.loop-to.invariant.1), omega (arith, b, c.loop-to.invariant.1))
+    let z : a.y * a.w + a.w % 32 + c.loop-chunk.chunk * 32 ≡ a.y * a.w + a.w % 32 + (c.loop-chunk.chunk - 1) * 32 + 32 = omega arith in
+    (takes-next p (a.y * a.w + a.w % 32 + (c.loop-chunk.chunk - 1) * 32) (put-ends c.loop-chunk.invariant z refl) (omega arith) (omega arith) (omega arith), omega (arith, b))
 
-pub loop-to-preserved : goal.loop-to-preserved
-loop-to-preserved c =
-    let z : c.loop-to.to - 32 + 32 ≡ c.loop-to.to = omega arith in
-    (omega arith, omega arith, put-more-down c.loop-to.invariant.2 (put-ends c.take_chunk.ensures refl z) (omega arith) c.loop-to.invariant.1)
+pub loop-chunk-preserved : goal.loop-chunk-preserved
+loop-chunk-preserved c =
+    put-more-down c.loop-chunk.invariant (put-ends c.take_chunk.ensures refl (omega arith)) (omega arith) (omega arith)
 
 pub take_dots-requires : goal.take_dots-requires
 take_dots-requires c =
     let a = c.args in
     let p = c.requires in
     let b = row_below a.w a.h a.y p.wide p.inside c.if-y-h.false in
-    (takes-next p (a.y * a.w) c.loop-to.invariant.2 (le_refl _) c.loop-to.invariant.0 c.loop-to.invariant.1, omega (arith, b, c.loop-to.invariant.1))
+    (takes-next p (a.y * a.w) (put-ends c.loop-chunk.invariant (omega arith) refl) (le_refl _) (omega arith) (omega arith), omega (arith, b))
 
 pub returns : goal.returns
 returns c =
-    put-more-down c.loop-to.invariant.2 c.take_dots.ensures c.loop-to.invariant.0 c.loop-to.invariant.1
+    put-more-down (put-ends c.loop-chunk.invariant (omega arith) refl) c.take_dots.ensures (omega arith) (omega arith)

@@ -1,10 +1,7 @@
-use Prim.Native.Nat.{◌-◌, ◌≤◌}
+use Prim.Native.Nat.{◌+◌, ◌*◌}
 use Rattle.extents.specs.stages.Scans.{short_extent_at}
 use Rattle.extents.specs.stages.Bands.{Put}
 use Rattle.extents.proofs.crowded.short_extents.Given as goal
 
-abbrev pub invariant-loop-i : goal.invariant-loop-i
-invariant-loop-i l = (l.x ≤ l.i) × (l.i ≤ l.to) × Put (short_extent_at l.row) l.x l.i l.initial.extents l.extents
-
-abbrev pub decreases-loop-i : goal.decreases-loop-i
-decreases-loop-i l = l.to - l.i
+abbrev pub invariant-loop-chunk : goal.invariant-loop-chunk
+invariant-loop-chunk l = Put (short_extent_at l.row) l.x (l.x + l.chunk * 32) l.initial.extents l.extents
