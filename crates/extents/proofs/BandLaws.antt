@@ -115,14 +115,14 @@ pub chunk-blank : (a b : ℕ) (m : List ℕ) → b ≤ length m → ((j : ℕ) �
     → (k : ℕ) → a ≤ k → k < b → is_ink m k ≡ false
 chunk-blank a b m l h k x y = sym (part-ink a b m k x y) ∙ h (k - a) (let z = length_part a b m (omega arith) l in omega arith)
 
--- a chunk of n dots of which none goes on in the chunk w behind it
-pub chunk-apart : (a n w : ℕ) (m : List ℕ) → a + n ≤ length m
-    → ((j : ℕ) → j < length (take (a + n - a) (drop a m)) → (is_ink (take (a + n - a) (drop a m)) j && is_ink (take (a + w + n - (a + w)) (drop (a + w) m)) j) ≡ false)
-    → (k : ℕ) → a ≤ k → k < a + n → (is_ink m k && is_ink m (k + w)) ≡ false
-chunk-apart a n w m l h k x y =
+-- a chunk of which no dot goes on in the chunk w behind it
+pub chunk-apart : (a b w : ℕ) (m : List ℕ) → b ≤ length m
+    → ((j : ℕ) → j < length (take (b - a) (drop a m)) → (is_ink (take (b - a) (drop a m)) j && is_ink (take (b + w - (a + w)) (drop (a + w) m)) j) ≡ false)
+    → (k : ℕ) → a ≤ k → k < b → (is_ink m k && is_ink m (k + w)) ≡ false
+chunk-apart a b w m l h k x y =
     let z : k + w - (a + w) ≡ k - a = omega arith in
-    let q = ap (is_ink (take (a + w + n - (a + w)) (drop (a + w) m))) (sym z) ∙ part-ink (a + w) (a + w + n) m (k + w) (omega arith) (omega arith) in
-    sym (λ i. part-ink a (a + n) m k x y i && q i) ∙ h (k - a) (let z = length_part a (a + n) m (omega arith) l in omega arith)
+    let q = ap (is_ink (take (b + w - (a + w)) (drop (a + w) m))) (sym z) ∙ part-ink (a + w) (b + w) m (k + w) (omega arith) (omega arith) in
+    sym (λ i. part-ink a b m k x y i && q i) ∙ h (k - a) (let z = length_part a b m (omega arith) l in omega arith)
 
 -- no ink so far, nor here
 pub blank-more : (dots : List ℕ) (i : ℕ) (blank : Bool) → (blank ≡ true → (k : ℕ) → k < i → is_ink dots k ≡ false) → (blank && eqb (get_or dots i 0) 0) ≡ true

@@ -1,6 +1,6 @@
 -- Extents as loops find them, run by run along a row.
 use mathlib.Core.Path.{◌≡◌, refl, sym, ap, ◌∙◌}
-use mathlib.Core.Bool.{Bool, true, false, cond, ◌&&◌, ◌||◌, true≢false}
+use mathlib.Core.Bool.{Bool, true, false, cond, not, beq, ◌&&◌, true≢false}
 use mathlib.Core.List.{List, ◌++◌}
 use Prim.Native.Nat.{ℕ, suc, ◌+◌, ◌-◌, ◌*◌, ◌≤◌, ◌<◌, min}
 use native.Mathlib.Nat.{le_refl, mul_comm, suc-mul, mul-le-mul_right}
@@ -43,6 +43,19 @@ ink-inside m i e = go (dec_lt i (length m))
 
 -- Scans
 
+-- what `!=` between two tests tells
+pub same-bit : (a b : Bool) → not (beq a b) ≡ false → a ≡ b
+same-bit true true e = refl
+same-bit false false e = refl
+same-bit true false e = absurd (true≢false e)
+same-bit false true e = absurd (true≢false e)
+
+pub other-bit : (a b : Bool) → not (beq a b) ≡ true → a ≡ not b
+other-bit true false e = refl
+other-bit false true e = refl
+other-bit true true e = absurd (true≢false (sym e))
+other-bit false false e = absurd (true≢false (sym e))
+
 pub scan-none : (p : ℕ → Bool) (b : Bool) (x : ℕ) (k : ℕ) → x ≤ k → k < x → p k ≡ b
 scan-none p b x k h l = absurd (omega arith)
 
@@ -52,13 +65,6 @@ scan-more p b x e h t k l u = go (dec_lt k e)
     go : Dec (k < e) → p k ≡ b
     go (yes d) = h k l d
     go (no d) = ap p (let z : k ≡ e = omega arith in z) ∙ t
-
--- none found so far, nor here
-pub goes-on-more : (m : List ℕ) (w x e : ℕ) (found : Bool) → (found ≡ false → (k : ℕ) → x ≤ k → k < e → (is_ink m k && is_ink m (k + w)) ≡ false)
-    → (found || (ltb 0 (get_or m e 0) && ltb 0 (get_or m (e + w) 0))) ≡ false → (k : ℕ) → x ≤ k → k < e + 1 → (is_ink m k && is_ink m (k + w)) ≡ false
-unfolding is_ink
-goes-on-more m w x e false h q = scan-more (λ k. is_ink m k && is_ink m (k + w)) false x e (h refl) q
-goes-on-more m w x e true h q = absurd (true≢false q)
 
 -- A row, run by run
 

@@ -8,6 +8,7 @@ ghost use Rattle.extents.specs.rules.Extents.{column_extents};
 ghost use Rattle.extents.specs.stages.Scans.{MaskFits, TakesUp, capped_count, column_extent};
 ghost use Rattle.extents.specs.stages.Bands.{Put, Counts, BandsCounted, count_from, band_count};
 
+use crate::chunks::{is_blank, joins};
 use memory::{MAX_EXTENT, fill_words};
 
 // The rows of a band.
@@ -178,17 +179,6 @@ fn count_chunk(mask: &[u8], w: usize, from: usize, extents: &mut [u32])
     count_dots(mask, w, from, to, extents);
 }
 
-// Whether no dot is ink.
-fn is_blank(dots: &[u8]) -> bool
-    ensures { result ≡ true → (k : ℕ) → k < length dots.now → is_ink dots.now k ≡ false }
-{
-    let mut blank = true;
-    for dot in dots {
-        blank &= *dot == 0;
-    }
-    blank
-}
-
 // From the dots above.
 fn count_dots(mask: &[u8], w: usize, from: usize, to: usize, extents: &mut [u32])
     requires { (Counts w mask.now from to extents.old) × (w ≤ from) }
@@ -241,26 +231,10 @@ fn take_chunk(mask: &[u8], w: usize, h: usize, from: usize, extents: &mut [u32])
     ensures { Put (column_extent w h mask.now) from (from + 32) extents.old extents.new }
 {
     let to = from + TAKEN;
-    let below = from + w;
-    let under = below + TAKEN;
-    if !joins(&mask[from..to], &mask[below..under]) {
+    if !joins(&mask[from..to], &mask[from + w..to + w]) {
         return;
     }
     take_dots(mask, w, h, from, to, extents);
-}
-
-// Whether a dot and the dot below it are ink.
-fn joins(dots: &[u8], below: &[u8]) -> bool
-    requires { length dots.now ≡ length below.now }
-    ensures { result ≡ false → (k : ℕ) → k < length dots.now → (is_ink dots.now k && is_ink below.now k) ≡ false }
-{
-    let mut found = false;
-    let mut i: usize = 0;
-    while i < dots.len() {
-        found = found | ((0 < dots[i]) & (0 < below[i]));
-        i += 1;
-    }
-    found
 }
 
 // From the dots below.

@@ -9,6 +9,7 @@ ghost use Rattle.memory.specs.rules.Masks.{is_ink};
 ghost use Rattle.extents.specs.rules.Extents.{extent, row_extents};
 ghost use Rattle.extents.specs.stages.Scans.{ScannedTo, MaskFits, RowTo, no_four, single_dot};
 
+use crate::chunks::joins;
 use crate::crowded::{all_short, counted_extents, is_crowded, short_extents, start_before};
 use crate::lengths::{capped, chunk_end};
 use memory::fill_words;
@@ -58,7 +59,7 @@ fn extents_from(row: &[u8], x: usize, extents: &mut [u32]) -> usize
     ensures { (x < result) × (RowTo row.now result extents.new) }
 {
     let to = chunk_end(x, row.len() - 1);
-    if !goes_on(row, 1, x, to) {
+    if !joins(&row[x..to], &row[x + 1..to + 1]) {
         return to;
     }
     let start = start_before(row, x, to);
@@ -90,20 +91,6 @@ fn is_short(row: &[u8], x: usize, to: usize) -> bool
     all_short(row, x, to)
 }
 
-// Whether a dot of the chunk and the dot w behind it are ink.
-fn goes_on(mask: &[u8], w: usize, from: usize, to: usize) -> bool
-    requires { (from ≤ to) × (to + w ≤ length mask.now) }
-    ensures { result ≡ false → (k : ℕ) → from ≤ k → k < to → (is_ink mask.now k && is_ink mask.now (k + w)) ≡ false }
-{
-    let mut found = false;
-    let mut i = from;
-    while i < to {
-        found = found | ((0 < mask[i]) & (0 < mask[i + w]));
-        i += 1;
-    }
-    found
-}
-
 // Run by run, until one ends at `to` or past it.
 fn extents_of_runs(row: &[u8], x: usize, to: usize, extents: &mut [u32]) -> usize
     requires { (x < to) × (to ≤ length row.now) × (RowTo row.now x extents.old) }
@@ -121,38 +108,21 @@ fn extents_of_run(row: &[u8], x: usize, extents: &mut [u32]) -> usize
     requires { (x < length row.now) × (RowTo row.now x extents.old) }
     ensures { (x < result) × (RowTo row.now result extents.new) }
 {
-    let blank = blank_end(row, x);
-    let ink = ink_end(row, blank);
+    let blank = run_end(row, x, false);
+    let ink = run_end(row, blank, true);
     fill_words(&mut extents[blank..ink], capped(ink - blank));
     ink
 }
 
-// The first place from x on that is ink, or the end.
-fn blank_end(row: &[u8], x: usize) -> usize
+// The first place from x on that is blank where `ink`, else the first that is ink; or the end.
+fn run_end(row: &[u8], x: usize, ink: bool) -> usize
     requires { x ≤ length row.now }
-    ensures { ScannedTo (is_ink row.now) false x (length row.now) result }
+    ensures { ScannedTo (is_ink row.now) ink x (length row.now) result }
 {
-    let mut e = x;
-    while e < row.len() {
-        if row[e] != 0 {
+    for e in x..row.len() {
+        if (0 < row[e]) != ink {
             return e;
         }
-        e += 1;
     }
-    e
-}
-
-// The first place from x on that is blank, or the end.
-fn ink_end(row: &[u8], x: usize) -> usize
-    requires { x ≤ length row.now }
-    ensures { ScannedTo (is_ink row.now) true x (length row.now) result }
-{
-    let mut e = x;
-    while e < row.len() {
-        if row[e] == 0 {
-            return e;
-        }
-        e += 1;
-    }
-    e
+    row.len()
 }

@@ -1,6 +1,6 @@
 use native.Mathlib.Omega.{arith}
 use Rattle.extents.proofs.BandLaws.{blank-more}
-use Rattle.extents.proofs.bands.is_blank.Goals as goal
+use Rattle.extents.proofs.chunks.is_blank.Goals as goal
 
 pub loop-dot-init : goal.loop-dot-init
 loop-dot-init c = (omega arith, λ _ k u. absurd (omega arith))
