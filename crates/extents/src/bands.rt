@@ -9,7 +9,7 @@ ghost use Rattle.extents.specs.stages.Scans.{MaskFits, TakesUp, capped_count, co
 ghost use Rattle.extents.specs.stages.Bands.{Put, Counts, BandsCounted, count_from, band_count};
 
 use crate::chunks::{is_blank, joins};
-use memory::{MAX_EXTENT, fill_words};
+use memory::MAX_EXTENT;
 
 // The rows of a band.
 const BAND: usize = 32;
@@ -125,8 +125,7 @@ fn count_through(n: u8, above: u32) -> u32
     ensures { result ≡ band_count n above }
 {
     let all = (n == ALL) as u32;
-    let sum = n as u32 + all * above;
-    if sum <= MAX_EXTENT { sum } else { MAX_EXTENT }
+    (n as u32 + all * above).min(MAX_EXTENT)
 }
 
 // The counts of the band's rows from the row above it, where there is one.
@@ -173,7 +172,7 @@ fn count_chunk(mask: &[u8], w: usize, from: usize, extents: &mut [u32])
 {
     let to = from + CHUNK;
     if is_blank(&mask[from..to]) {
-        fill_words(&mut extents[from..to], 0);
+        extents[from..to].fill(0);
         return;
     }
     count_dots(mask, w, from, to, extents);

@@ -91,22 +91,15 @@ fn widen(bytes: &[u8], x: usize, extents: &mut [u32])
     }
 }
 
-// Whether a chunk has many turns.
+// Whether a chunk has many turns, from a dot to the next.
 pub fn is_crowded(row: &[u8], x: usize, to: usize) -> bool
     requires { (x ≤ to) × (to < length row.now) × (to ≤ x + 64) }
 {
     let mut turns = 0;
     for i in x..to {
-        turns += turn_at(row[i], row[i + 1]);
+        turns += ((0 < row[i]) != (0 < row[i + 1])) as u8;
     }
     MANY <= turns
-}
-
-// 1 where one of two dots is ink, else 0.
-fn turn_at(a: u8, b: u8) -> u8
-    ensures { result ≤ 1 }
-{
-    ((0 < a) != (0 < b)) as u8
 }
 
 // The extents from the start x up to the start `to`: on, each dot counts the ink that ends at it; back again, each dot that goes on

@@ -12,7 +12,6 @@ ghost use Rattle.extents.specs.stages.Scans.{ScannedTo, MaskFits, RowTo, no_four
 use crate::chunks::joins;
 use crate::crowded::{all_short, counted_extents, is_crowded, short_extents, start_before};
 use crate::lengths::{capped, chunk_end};
-use memory::fill_words;
 
 // Along the rows: each row is a part of the mask and of the extents.
 pub fn row_extents(mask: &[u8], width: u32, height: u32, extents: &mut [u32])
@@ -110,7 +109,7 @@ fn extents_of_run(row: &[u8], x: usize, extents: &mut [u32]) -> usize
 {
     let blank = run_end(row, x, false);
     let ink = run_end(row, blank, true);
-    fill_words(&mut extents[blank..ink], capped(ink - blank));
+    extents[blank..ink].fill(capped(ink - blank));
     ink
 }
 

@@ -1,14 +1,10 @@
 use native.Mathlib.Omega.{arith}
+use mathlib.Core.Bool.{not, beq}
+use lib.Dec.{ltb}
+use lib.ListN.{get_or}
+use Prim.Native.Nat.{◌+◌}
+use Rattle.extents.proofs.ExtentLaws.{bit_le}
 use Rattle.extents.proofs.crowded.is_crowded.Goals as goal
 
-pub loop-i-init : goal.loop-i-init
-loop-i-init c = (omega arith, c.requires.0, omega arith)
-
-pub overflow_add-turns : goal.overflow_add-turns
-overflow_add-turns c = let t = c.turn_at-turns.ensures in omega arith
-
 pub loop-i-preserved : goal.loop-i-preserved
-loop-i-preserved c = (omega arith, omega arith, (let t = c.turn_at-turns.ensures in omega arith))
-
-pub returns : goal.returns
-returns c = tt
+loop-i-preserved c = let z = bit_le (not (beq (ltb 0 (get_or c.args.row.now c.loop-i.i 0)) (ltb 0 (get_or c.args.row.now (c.loop-i.i + 1) 0)))) in omega arith
