@@ -22,69 +22,186 @@ const TAKEN: usize = 32;
 // All rows of a band, as a column counts them.
 const ALL: u8 = 32;
 
+// A mask w wide and h high.
+#[derive(Clone, Copy, Debug, PartialEq, Eq)]
+struct Plane<'a> {
+    mask: &'a [u8],
+    w: usize,
+    h: usize,
+}
+
 // Along the columns: down, each dot counts the ink that ends at it; up again, each dot that goes on below takes what the dot below
 // has. Row by row, so that a row's dots are independent.
 pub fn column_extents(mask: &[u8], width: u32, height: u32, extents: &mut [u32])
     requires { MaskFits width height (length mask.now) (length extents.old) }
     ensures { extents.new ≡ over (column_extents width height mask.now) extents.old }
 {
-    let w = width as usize;
-    let h = height as usize;
-    count_bands(mask, w, h, extents);
-    for band in (0..h.div_ceil(BAND)).rev() {
+    let plane = Plane { mask, w: width as usize, h: height as usize };
+    plane.count_bands(extents);
+    for band in (0..plane.h.div_ceil(BAND)).rev() {
         let start = band * BAND;
-        let end = h.min(start + BAND);
-        count_band(mask, w, start, end, extents);
-        take_band(mask, w, h, start, end, extents);
+        let end = plane.h.min(start + BAND);
+        plane.count_band(start, end, extents);
+        plane.take_band(start, end, extents);
     }
 }
 
-// The counts of the last row of every whole band, from the mask alone: with them each band can be counted by itself.
-fn count_bands(mask: &[u8], w: usize, h: usize, extents: &mut [u32])
-    requires { MaskFits w h (length mask.now) (length extents.old) }
-    ensures { BandsCounted w mask.now h extents.old extents.new }
-{
-    for band in 0..h / BAND {
-        count_last_row(mask, w, band * BAND, extents);
+impl Plane<'_> {
+    // The counts of the last row of every whole band, from the mask alone: with them each band can be counted by itself.
+    fn count_bands(self, extents: &mut [u32])
+        requires { MaskFits self.w self.h (length self.mask.now) (length extents.old) }
+        ensures { BandsCounted self.entry.w self.entry.mask.now self.entry.h extents.old extents.new }
+    {
+        for band in 0..self.h / BAND {
+            self.count_last_row(band * BAND, extents);
+        }
     }
-}
 
-// The counts of the last row of the band from row y on, a chunk of its columns at a time.
-fn count_last_row(mask: &[u8], w: usize, y: usize, extents: &mut [u32])
-    requires { Counts w mask.now (y * w) ((y + 32) * w) extents.old }
-    ensures { Put (capped_count w mask.now) ((y + 31) * w) ((y + 31) * w + w) extents.old extents.new }
-{
-    for chunk in 0..w / CHUNK {
-        count_last_chunk(mask, w, y, chunk * CHUNK, CHUNK, extents);
+    // The counts of the last row of the band from row y on, a chunk of its columns at a time.
+    fn count_last_row(self, y: usize, extents: &mut [u32])
+        requires { Counts self.w self.mask.now (y * self.w) ((y + 32) * self.w) extents.old }
+        ensures { Put (capped_count self.entry.w self.entry.mask.now) ((y + 31) * self.entry.w) ((y + 31) * self.entry.w + self.entry.w) extents.old extents.new }
+    {
+        for chunk in 0..self.w / CHUNK {
+            self.count_last_chunk(y, chunk * CHUNK, CHUNK, extents);
+        }
+        let rest = self.w % CHUNK;
+        self.count_last_chunk(y, self.w - rest, rest, extents);
     }
-    let rest = w % CHUNK;
-    count_last_chunk(mask, w, y, w - rest, rest, extents);
-}
 
-// The same of n columns from x on.
-fn count_last_chunk(mask: &[u8], w: usize, y: usize, x: usize, n: usize, extents: &mut [u32])
-    requires { (Counts w mask.now (y * w) ((y + 32) * w) extents.old) × (x + n ≤ w) × (n ≤ 64) }
-    ensures { Put (capped_count w mask.now) ((y + 31) * w + x) ((y + 31) * w + x + n) extents.old extents.new }
-{
-    let mut counts = [0u8; CHUNK];
-    count_columns(mask, w, y, x, n, &mut counts);
-    let at = (y + (BAND - 1)) * w + x;
-    if y == 0 {
-        put_counts(&counts, n, at, extents);
-        return;
+    // The same of n columns from x on.
+    fn count_last_chunk(self, y: usize, x: usize, n: usize, extents: &mut [u32])
+        requires { (Counts self.w self.mask.now (y * self.w) ((y + 32) * self.w) extents.old) × (x + n ≤ self.w) × (n ≤ 64) }
+        ensures { Put (capped_count self.entry.w self.entry.mask.now) ((y + 31) * self.entry.w + x) ((y + 31) * self.entry.w + x + n) extents.old extents.new }
+    {
+        let mut counts = [0u8; CHUNK];
+        self.count_columns(y, x, n, &mut counts);
+        let at = (y + (BAND - 1)) * self.w + x;
+        if y == 0 {
+            put_counts(&counts, n, at, extents);
+            return;
+        }
+        add_counts(&counts, n, (y - 1) * self.w + x, at, extents);
     }
-    add_counts(&counts, n, (y - 1) * w + x, at, extents);
-}
 
-// The ink that ends at the band's last row, of its own rows alone; in bytes, so that many columns go at a time.
-fn count_columns(mask: &[u8], w: usize, y: usize, x: usize, n: usize, counts: &mut [u8])
-    requires { (0 < w) × ((y + 32) * w ≤ length mask.now) × (x + n ≤ w) × (n ≤ length counts.old) × ((k : ℕ) → k < n → get_or counts.old k 0 ≡ 0) }
-    ensures { (k : ℕ) → k < n → get_or counts.new k 0 ≡ count_from w mask.now y (x + k) 32 }
-{
-    for r in 0..BAND {
-        let from = (y + r) * w + x;
-        let to = from + n;
-        count_more(&mask[from..to], counts);
+    // The ink that ends at the band's last row, of its own rows alone; in bytes, so that many columns go at a time.
+    fn count_columns(self, y: usize, x: usize, n: usize, counts: &mut [u8])
+        requires { (0 < self.w) × ((y + 32) * self.w ≤ length self.mask.now) × (x + n ≤ self.w) × (n ≤ length counts.old) × ((k : ℕ) → k < n → get_or counts.old k 0 ≡ 0) }
+        ensures { (k : ℕ) → k < n → get_or counts.new k 0 ≡ count_from self.entry.w self.entry.mask.now y (x + k) 32 }
+    {
+        for r in 0..BAND {
+            let from = (y + r) * self.w + x;
+            let to = from + n;
+            count_more(&self.mask[from..to], counts);
+        }
+    }
+
+    // The counts of the band's rows from the row above it, where there is one.
+    fn count_band(self, start: usize, end: usize, extents: &mut [u32])
+        requires { (Counts self.w self.mask.now (start * self.w) (end * self.w) extents.old) × (start ≤ end) }
+        ensures { Put (capped_count self.entry.w self.entry.mask.now) (start * self.entry.w) (end * self.entry.w) extents.old extents.new }
+    {
+        for y in start..end {
+            self.count_row(y, extents);
+        }
+    }
+
+    // Row y, a chunk at a time.
+    fn count_row(self, y: usize, extents: &mut [u32])
+        requires { Counts self.w self.mask.now (y * self.w) (y * self.w + self.w) extents.old }
+        ensures { Put (capped_count self.entry.w self.entry.mask.now) (y * self.entry.w) (y * self.entry.w + self.entry.w) extents.old extents.new }
+    {
+        if y == 0 {
+            self.count_first_row(extents);
+            return;
+        }
+        let at = y * self.w;
+        for chunk in 0..self.w / CHUNK {
+            self.count_chunk(at + chunk * CHUNK, extents);
+        }
+        let end = at + self.w;
+        self.count_dots(end - self.w % CHUNK, end, extents);
+    }
+
+    // Nothing lies above the first row.
+    fn count_first_row(self, extents: &mut [u32])
+        requires { (0 < self.w) × (self.w ≤ length self.mask.now) × (length self.mask.now ≤ length extents.old) }
+        ensures { Put (capped_count self.entry.w self.entry.mask.now) 0 self.entry.w extents.old extents.new }
+    {
+        for i in 0..self.w {
+            extents[i] = count_on(self.mask[i], 0);
+        }
+    }
+
+    // A chunk of a row: where all is blank, nothing is counted.
+    fn count_chunk(self, from: usize, extents: &mut [u32])
+        requires { (Counts self.w self.mask.now from (from + 64) extents.old) × (self.w ≤ from) }
+        ensures { Put (capped_count self.entry.w self.entry.mask.now) from (from + 64) extents.old extents.new }
+    {
+        let to = from + CHUNK;
+        if is_blank(&self.mask[from..to]) {
+            extents[from..to].fill(0);
+            return;
+        }
+        self.count_dots(from, to, extents);
+    }
+
+    // From the dots above.
+    fn count_dots(self, from: usize, to: usize, extents: &mut [u32])
+        requires { (Counts self.w self.mask.now from to extents.old) × (self.w ≤ from) }
+        ensures { Put (capped_count self.entry.w self.entry.mask.now) from to extents.old extents.new }
+    {
+        for i in from..to {
+            extents[i] = count_on(self.mask[i], extents[i - self.w]);
+        }
+    }
+
+    // From the band's last row up: below it all is as it is to be.
+    fn take_band(self, start: usize, end: usize, extents: &mut [u32])
+        requires { (TakesUp self.w self.h self.mask.now (start * self.w) (end * self.w) extents.old) × (start ≤ end) }
+        ensures { Put (column_extent self.entry.w self.entry.h self.entry.mask.now) (start * self.entry.w) (end * self.entry.w) extents.old extents.new }
+    {
+        for y in (start..end).rev() {
+            self.take_row(y, extents);
+        }
+    }
+
+    // Row y from the row below, a chunk at a time; the plane's last row has its extents.
+    fn take_row(self, y: usize, extents: &mut [u32])
+        requires { TakesUp self.w self.h self.mask.now (y * self.w) (y * self.w + self.w) extents.old }
+        ensures { Put (column_extent self.entry.w self.entry.h self.entry.mask.now) (y * self.entry.w) (y * self.entry.w + self.entry.w) extents.old extents.new }
+    {
+        if y + 1 == self.h {
+            return;
+        }
+        let at = y * self.w;
+        let rest = at + self.w % TAKEN;
+        for chunk in (0..self.w / TAKEN).rev() {
+            self.take_chunk(rest + chunk * TAKEN, extents);
+        }
+        self.take_dots(at, rest, extents);
+    }
+
+    // A chunk of a row: where no dot goes on below, the counts are the extents.
+    fn take_chunk(self, from: usize, extents: &mut [u32])
+        requires { (TakesUp self.w self.h self.mask.now from (from + 32) extents.old) × (from + 32 + self.w ≤ self.w * self.h) }
+        ensures { Put (column_extent self.entry.w self.entry.h self.entry.mask.now) from (from + 32) extents.old extents.new }
+    {
+        let to = from + TAKEN;
+        if !joins(&self.mask[from..to], &self.mask[from + self.w..to + self.w]) {
+            return;
+        }
+        self.take_dots(from, to, extents);
+    }
+
+    // From the dots below.
+    fn take_dots(self, from: usize, to: usize, extents: &mut [u32])
+        requires { (TakesUp self.w self.h self.mask.now from to extents.old) × (to + self.w ≤ self.w * self.h) }
+        ensures { Put (column_extent self.entry.w self.entry.h self.entry.mask.now) from to extents.old extents.new }
+    {
+        for i in (from..to).rev() {
+            extents[i] = take_on(self.mask[i], self.mask[i + self.w], extents[i], extents[i + self.w]);
+        }
     }
 }
 
@@ -128,66 +245,6 @@ fn count_through(n: u8, above: u32) -> u32
     (n as u32 + all * above).min(MAX_EXTENT)
 }
 
-// The counts of the band's rows from the row above it, where there is one.
-fn count_band(mask: &[u8], w: usize, start: usize, end: usize, extents: &mut [u32])
-    requires { (Counts w mask.now (start * w) (end * w) extents.old) × (start ≤ end) }
-    ensures { Put (capped_count w mask.now) (start * w) (end * w) extents.old extents.new }
-{
-    for y in start..end {
-        count_row(mask, w, y, extents);
-    }
-}
-
-// Row y, a chunk at a time.
-fn count_row(mask: &[u8], w: usize, y: usize, extents: &mut [u32])
-    requires { Counts w mask.now (y * w) (y * w + w) extents.old }
-    ensures { Put (capped_count w mask.now) (y * w) (y * w + w) extents.old extents.new }
-{
-    if y == 0 {
-        count_first_row(mask, w, extents);
-        return;
-    }
-    let at = y * w;
-    for chunk in 0..w / CHUNK {
-        count_chunk(mask, w, at + chunk * CHUNK, extents);
-    }
-    let end = at + w;
-    count_dots(mask, w, end - w % CHUNK, end, extents);
-}
-
-// Nothing lies above the first row.
-fn count_first_row(mask: &[u8], w: usize, extents: &mut [u32])
-    requires { (0 < w) × (w ≤ length mask.now) × (length mask.now ≤ length extents.old) }
-    ensures { Put (capped_count w mask.now) 0 w extents.old extents.new }
-{
-    for i in 0..w {
-        extents[i] = count_on(mask[i], 0);
-    }
-}
-
-// A chunk of a row: where all is blank, nothing is counted.
-fn count_chunk(mask: &[u8], w: usize, from: usize, extents: &mut [u32])
-    requires { (Counts w mask.now from (from + 64) extents.old) × (w ≤ from) }
-    ensures { Put (capped_count w mask.now) from (from + 64) extents.old extents.new }
-{
-    let to = from + CHUNK;
-    if is_blank(&mask[from..to]) {
-        extents[from..to].fill(0);
-        return;
-    }
-    count_dots(mask, w, from, to, extents);
-}
-
-// From the dots above.
-fn count_dots(mask: &[u8], w: usize, from: usize, to: usize, extents: &mut [u32])
-    requires { (Counts w mask.now from to extents.old) × (w ≤ from) }
-    ensures { Put (capped_count w mask.now) from to extents.old extents.new }
-{
-    for i in from..to {
-        extents[i] = count_on(mask[i], extents[i - w]);
-    }
-}
-
 // One more where there is ink, up to the greatest extent, else none; without a branch, so that a row goes many dots at a time.
 fn count_on(b: u8, above: u32) -> u32
     requires { above ≤ max_extent }
@@ -196,54 +253,6 @@ fn count_on(b: u8, above: u32) -> u32
     let ink = (0 < b) as u32;
     let more = (above < MAX_EXTENT) as u32;
     ink * (above + more)
-}
-
-// From the band's last row up: below it all is as it is to be.
-fn take_band(mask: &[u8], w: usize, h: usize, start: usize, end: usize, extents: &mut [u32])
-    requires { (TakesUp w h mask.now (start * w) (end * w) extents.old) × (start ≤ end) }
-    ensures { Put (column_extent w h mask.now) (start * w) (end * w) extents.old extents.new }
-{
-    for y in (start..end).rev() {
-        take_row(mask, w, h, y, extents);
-    }
-}
-
-// Row y from the row below, a chunk at a time; the plane's last row has its extents.
-fn take_row(mask: &[u8], w: usize, h: usize, y: usize, extents: &mut [u32])
-    requires { TakesUp w h mask.now (y * w) (y * w + w) extents.old }
-    ensures { Put (column_extent w h mask.now) (y * w) (y * w + w) extents.old extents.new }
-{
-    if y + 1 == h {
-        return;
-    }
-    let at = y * w;
-    let rest = at + w % TAKEN;
-    for chunk in (0..w / TAKEN).rev() {
-        take_chunk(mask, w, h, rest + chunk * TAKEN, extents);
-    }
-    take_dots(mask, w, h, at, rest, extents);
-}
-
-// A chunk of a row: where no dot goes on below, the counts are the extents.
-fn take_chunk(mask: &[u8], w: usize, h: usize, from: usize, extents: &mut [u32])
-    requires { (TakesUp w h mask.now from (from + 32) extents.old) × (from + 32 + w ≤ w * h) }
-    ensures { Put (column_extent w h mask.now) from (from + 32) extents.old extents.new }
-{
-    let to = from + TAKEN;
-    if !joins(&mask[from..to], &mask[from + w..to + w]) {
-        return;
-    }
-    take_dots(mask, w, h, from, to, extents);
-}
-
-// From the dots below.
-fn take_dots(mask: &[u8], w: usize, h: usize, from: usize, to: usize, extents: &mut [u32])
-    requires { (TakesUp w h mask.now from to extents.old) × (to + w ≤ w * h) }
-    ensures { Put (column_extent w h mask.now) from to extents.old extents.new }
-{
-    for i in (from..to).rev() {
-        extents[i] = take_on(mask[i], mask[i + w], extents[i], extents[i + w]);
-    }
 }
 
 // The extent of a dot: that of the dot below where both are ink, else its count; without a branch.
