@@ -10,7 +10,7 @@ ghost use Rattle.extents.specs.rules.Extents.{extent, row_extents};
 ghost use Rattle.extents.specs.stages.Scans.{ScannedTo, MaskFits, RowTo, no_four, single_dot};
 
 use crate::chunks::joins;
-use crate::crowded::{all_short, counted_extents, is_crowded, short_extents, start_before};
+use crate::crowded::{Part, start_before};
 use crate::lengths::{capped, chunk_end};
 
 // Along the rows: each row is a part of the mask and of the extents.
@@ -65,29 +65,16 @@ fn extents_from(row: &[u8], x: usize, extents: &mut [u32]) -> usize
     if start < x + FEW {
         return extents_of_runs(row, x, to, extents);
     }
-    if is_short(row, x, start) {
-        short_extents(row, x, start, extents);
+    let part = Part { row, x, to: start };
+    if part.is_short() {
+        part.short_extents(extents);
         return start;
     }
-    if is_crowded(row, x, start) {
-        counted_extents(row, x, start, extents);
+    if part.is_crowded() {
+        part.counted_extents(extents);
         return start;
     }
     extents_of_runs(row, x, to, extents)
-}
-
-// Whether the runs from x up to `to` are short, and there are dots enough around to see it.
-fn is_short(row: &[u8], x: usize, to: usize) -> bool
-    requires { (x ≤ to) × (to < length row.now) }
-    ensures { result ≡ true → (2 ≤ x) × (to + 3 ≤ length row.now) × ((k : ℕ) → x ≤ k → k < to → no_four row.now k) }
-{
-    if x < 2 {
-        return false;
-    }
-    if row.len() < to + 3 {
-        return false;
-    }
-    all_short(row, x, to)
 }
 
 // Run by run, until one ends at `to` or past it.

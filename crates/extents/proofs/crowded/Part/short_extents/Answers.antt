@@ -4,16 +4,16 @@ use native.Mathlib.Omega.{arith}
 use Rattle.extents.proofs.CrowdedLaws.{row_put, short-is}
 use Rattle.extents.proofs.ExtentLaws.{row-size}
 use Rattle.extents.proofs.PutLaws.{put-none, put_as, put-ends, put-more, put-over}
-use Rattle.extents.proofs.crowded.short_extents.Goals as goal
+use Rattle.extents.proofs.crowded.Part.short_extents.Goals as goal
 
 pub loop-chunk-init : goal.loop-chunk-init
-loop-chunk-init c = put-ends (put-none c.args.x c.args.extents.now) refl (omega arith)
+loop-chunk-init c = put-ends (put-none c.args.self.x c.args.extents.now) refl (omega arith)
 
 pub short_chunk-requires : goal.short_chunk-requires
 short_chunk-requires c =
     let a = c.args in
     let p = c.requires in
-    (omega (arith, p.2), omega (arith, p.3), c.loop-chunk.invariant.size ∙ row-size a.row.now a.x a.extents.now p.1)
+    (omega (arith, p.2), omega (arith, p.3), c.loop-chunk.invariant.size ∙ row-size a.self.row.now a.self.x a.extents.now p.1)
 
 pub loop-chunk-preserved : goal.loop-chunk-preserved
 loop-chunk-preserved c = put-ends (put-more c.loop-chunk.invariant c.short_chunk.ensures (omega arith) (omega arith)) refl (omega arith)
@@ -22,12 +22,12 @@ pub short_chunk-requires-2 : goal.short_chunk-requires-2
 short_chunk-requires-2 c =
     let a = c.args in
     let p = c.requires in
-    (omega (arith, p.2, p.5), omega (arith, p.3, p.5), c.loop-chunk.invariant.size ∙ row-size a.row.now a.x a.extents.now p.1)
+    (omega (arith, p.2, p.5), omega (arith, p.3, p.5), c.loop-chunk.invariant.size ∙ row-size a.self.row.now a.self.x a.extents.now p.1)
 
 pub returns : goal.returns
 returns c =
     let a = c.args in
     let p = c.requires in
-    let e : a.to - 32 + 32 ≡ a.to = omega (arith, p.5) in
+    let e : a.self.to - 32 + 32 ≡ a.self.to = omega (arith, p.5) in
     row_put p.1 p.0
-    (put_as (put-over c.loop-chunk.invariant (put-ends c.short_chunk-2.ensures refl e) (omega (arith, p.5)) (omega arith) (omega arith)) (λ k x y. short-is a.row.now a.x a.to p.0.from p.3 p.4 k p.2 x y))
+    (put_as (put-over c.loop-chunk.invariant (put-ends c.short_chunk-2.ensures refl e) (omega (arith, p.5)) (omega arith) (omega arith)) (λ k x y. short-is a.self.row.now a.self.x a.self.to p.0.from p.3 p.4 k p.2 x y))
