@@ -125,26 +125,26 @@ fn short_chunk(row: &[u8], x: usize, extents: &mut [u32])
     requires { (2 ≤ x) × (x + 34 ≤ length row.now) × (length extents.old ≡ length row.now) }
     ensures { Put (short_extent_at row.now) x (x + 32) extents.old extents.new }
 {
-    let mut bytes = [0u8; CHUNK];
-    tell_short(row, x, &mut bytes);
-    widen(&bytes, x, extents);
+    widen(&short_bytes(row, x), x, extents);
 }
 
 // The same in bytes.
-fn tell_short(row: &[u8], x: usize, bytes: &mut [u8])
-    requires { (2 ≤ x) × (x + 34 ≤ length row.now) × (length bytes.old ≡ 32) }
-    ensures { (k : ℕ) → k < 32 → get_or bytes.new k 0 ≡ short_extent_at row.now (x + k) }
+fn short_bytes(row: &[u8], x: usize) -> [u8; CHUNK]
+    requires { (2 ≤ x) × (x + 34 ≤ length row.now) }
+    ensures { (k : ℕ) → k < 32 → get_or result k 0 ≡ short_extent_at row.now (x + k) }
 {
     let from = x - 2;
+    let mut bytes = [0; CHUNK];
     for k in 0..CHUNK {
         let i = from + k;
         bytes[k] = short_extent(row[i], row[i + 1], row[i + 2], row[i + 3], row[i + 4]);
     }
+    bytes
 }
 
 // The bytes as the words from x on.
-fn widen(bytes: &[u8], x: usize, extents: &mut [u32])
-    requires { (length bytes.now ≡ 32) × (x + 32 ≤ length extents.old) }
+fn widen(bytes: &[u8; CHUNK], x: usize, extents: &mut [u32])
+    requires { x + 32 ≤ length extents.old }
     ensures { Put (λ i. get_or bytes.now (i - x) 0) x (x + 32) extents.old extents.new }
 {
     for (k, byte) in bytes.iter().enumerate() {

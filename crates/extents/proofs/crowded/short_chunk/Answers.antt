@@ -8,4 +8,4 @@ use Rattle.extents.proofs.crowded.short_chunk.Goals as goal
 pub returns : goal.returns
 returns c =
     let a = c.args in
-    put_as c.widen.ensures (λ k l u. let e : a.x + (k - a.x) ≡ k = omega arith in c.tell_short.ensures (k - a.x) (omega arith) ∙ ap (short_extent_at a.row.now) e)
+    put_as c.widen.ensures (λ k l u. let e : a.x + (k - a.x) ≡ k = omega arith in c.short_bytes.ensures (k - a.x) (omega arith) ∙ ap (short_extent_at a.row.now) e)

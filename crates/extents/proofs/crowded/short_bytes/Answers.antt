@@ -2,7 +2,7 @@ use mathlib.Core.Path.{◌∙◌}
 use native.Mathlib.Omega.{arith}
 use Rattle.extents.proofs.CrowdedLaws.{short-around}
 use Rattle.extents.proofs.PutLaws.{put-none, put_up}
-use Rattle.extents.proofs.crowded.tell_short.Goals as goal
+use Rattle.extents.proofs.crowded.short_bytes.Goals as goal
 
 pub loop-k-init : goal.loop-k-init
 loop-k-init c = (omega arith, put-none 0 _)
