@@ -74,24 +74,25 @@ impl Plane<'_> {
         requires { (Counts self.w self.mask.now (y * self.w) ((y + 32) * self.w) extents.old) × (x + n ≤ self.w) × (n ≤ 64) }
         ensures { Put (capped_count self.entry.w self.entry.mask.now) ((y + 31) * self.entry.w + x) ((y + 31) * self.entry.w + x + n) extents.old extents.new }
     {
-        let mut counts = [0u8; CHUNK];
-        self.count_columns(y, x, n, &mut counts);
+        let mut chunk = [0u8; CHUNK];
+        let counts = &mut chunk[..n];
+        self.count_columns(y, x, counts);
         let at = (y + (BAND - 1)) * self.w + x;
         if y == 0 {
-            put_counts(&counts, n, at, extents);
+            put_counts(counts, at, extents);
             return;
         }
-        add_counts(&counts, n, (y - 1) * self.w + x, at, extents);
+        add_counts(counts, (y - 1) * self.w + x, at, extents);
     }
 
     // The ink that ends at the band's last row, of its own rows alone; in bytes, so that many columns go at a time.
-    fn count_columns(self, y: usize, x: usize, n: usize, counts: &mut [u8])
-        requires { (0 < self.w) × ((y + 32) * self.w ≤ length self.mask.now) × (x + n ≤ self.w) × (n ≤ length counts.old) × ((k : ℕ) → k < n → get_or counts.old k 0 ≡ 0) }
-        ensures { (k : ℕ) → k < n → get_or counts.new k 0 ≡ count_from self.entry.w self.entry.mask.now y (x + k) 32 }
+    fn count_columns(self, y: usize, x: usize, counts: &mut [u8])
+        requires { (0 < self.w) × ((y + 32) * self.w ≤ length self.mask.now) × (x + length counts.old ≤ self.w) × ((k : ℕ) → k < length counts.old → get_or counts.old k 0 ≡ 0) }
+        ensures { (k : ℕ) → k < length counts.old → get_or counts.new k 0 ≡ count_from self.entry.w self.entry.mask.now y (x + k) 32 }
     {
         for r in 0..BAND {
             let from = (y + r) * self.w + x;
-            let to = from + n;
+            let to = from + counts.len();
             count_more(&self.mask[from..to], counts);
         }
     }
@@ -217,22 +218,22 @@ fn count_more(dots: &[u8], counts: &mut [u8])
 }
 
 // Above the first band there is no ink.
-fn put_counts(counts: &[u8], n: usize, at: usize, extents: &mut [u32])
-    requires { (n ≤ length counts.now) × (at + n ≤ length extents.old) }
-    ensures { Put (λ k. get_or counts.now (k - at) 0) at (at + n) extents.old extents.new }
+fn put_counts(counts: &[u8], at: usize, extents: &mut [u32])
+    requires { at + length counts.now ≤ length extents.old }
+    ensures { Put (λ k. get_or counts.now (k - at) 0) at (at + length counts.now) extents.old extents.new }
 {
-    for i in 0..n {
-        extents[at + i] = counts[i] as u32;
+    for (i, count) in counts.iter().enumerate() {
+        extents[at + i] = *count as u32;
     }
 }
 
 // From the counts of the row above the band.
-fn add_counts(counts: &[u8], n: usize, above: usize, at: usize, extents: &mut [u32])
-    requires { (n ≤ length counts.now) × (above + n ≤ at) × (at + n ≤ length extents.old) × ((k : ℕ) → k < n → get_or extents.old (above + k) 0 ≤ max_extent) }
-    ensures { Put (λ k. band_count (get_or counts.now (k - at) 0) (get_or extents.old (above + (k - at)) 0)) at (at + n) extents.old extents.new }
+fn add_counts(counts: &[u8], above: usize, at: usize, extents: &mut [u32])
+    requires { (above + length counts.now ≤ at) × (at + length counts.now ≤ length extents.old) × ((k : ℕ) → k < length counts.now → get_or extents.old (above + k) 0 ≤ max_extent) }
+    ensures { Put (λ k. band_count (get_or counts.now (k - at) 0) (get_or extents.old (above + (k - at)) 0)) at (at + length counts.now) extents.old extents.new }
 {
-    for i in 0..n {
-        extents[at + i] = count_through(counts[i], extents[above + i]);
+    for (i, count) in counts.iter().enumerate() {
+        extents[at + i] = count_through(*count, extents[above + i]);
     }
 }
 

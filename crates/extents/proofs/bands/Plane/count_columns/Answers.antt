@@ -1,5 +1,5 @@
 use native.Mathlib.Omega.{arith}
-use mathlib.Core.Path.{◌≡◌, refl, ap, ◌∙◌}
+use mathlib.Core.Path.{◌≡◌, ap, ◌∙◌}
 use Prim.Native.Nat.{ℕ, ◌≤◌, ◌<◌, ◌+◌, ◌*◌}
 use lib.ListN.{length}
 use Rattle.extents.specs.rules.Extents.{ink_at, behind}
@@ -19,46 +19,46 @@ dots_fit w y x n r m l s p q =
 
 pub loop-r-init : goal.loop-r-init
 unfolding behind
-loop-r-init c = let p = c.requires in (omega arith, refl, p.4)
+loop-r-init c = let p = c.requires in p.3
 
 pub overflow_add-from : goal.overflow_add-from
-overflow_add-from c = let z = dots_fit c.args.self.w c.args.y c.args.x c.args.n c.loop-r.r (length c.args.self.mask.now) (omega arith) c.requires.0 c.requires.1 c.requires.2 in omega arith
+overflow_add-from c = let z = dots_fit c.args.self.w c.args.y c.args.x (length c.args.counts.now) c.loop-r.r (length c.args.self.mask.now) (omega arith) c.requires.0 c.requires.1 c.requires.2 in omega arith
 
 pub overflow_mul-from : goal.overflow_mul-from
-overflow_mul-from c = let z = dots_fit c.args.self.w c.args.y c.args.x c.args.n c.loop-r.r (length c.args.self.mask.now) (omega arith) c.requires.0 c.requires.1 c.requires.2 in omega arith
+overflow_mul-from c = let z = dots_fit c.args.self.w c.args.y c.args.x (length c.args.counts.now) c.loop-r.r (length c.args.self.mask.now) (omega arith) c.requires.0 c.requires.1 c.requires.2 in omega arith
 
 pub overflow_add-from-in-loop-r : goal.overflow_add-from-in-loop-r
-overflow_add-from-in-loop-r c = let z = dots_fit c.args.self.w c.args.y c.args.x c.args.n c.loop-r.r (length c.args.self.mask.now) (omega arith) c.requires.0 c.requires.1 c.requires.2 in omega arith
+overflow_add-from-in-loop-r c = let z = dots_fit c.args.self.w c.args.y c.args.x (length c.args.counts.now) c.loop-r.r (length c.args.self.mask.now) (omega arith) c.requires.0 c.requires.1 c.requires.2 in omega arith
 
 pub overflow_add-to : goal.overflow_add-to
-overflow_add-to c = let z = dots_fit c.args.self.w c.args.y c.args.x c.args.n c.loop-r.r (length c.args.self.mask.now) (omega arith) c.requires.0 c.requires.1 c.requires.2 in omega arith
+overflow_add-to c = let z = dots_fit c.args.self.w c.args.y c.args.x (length c.args.counts.now) c.loop-r.r (length c.args.self.mask.now) (omega arith) c.requires.0 c.requires.1 c.requires.2 in omega arith
 
 pub slice_bounds-count_more-count : goal.slice_bounds-count_more-count
-slice_bounds-count_more-count c = let z = dots_fit c.args.self.w c.args.y c.args.x c.args.n c.loop-r.r (length c.args.self.mask.now) (omega arith) c.requires.0 c.requires.1 c.requires.2 in omega arith
+slice_bounds-count_more-count c = let z = dots_fit c.args.self.w c.args.y c.args.x (length c.args.counts.now) c.loop-r.r (length c.args.self.mask.now) (omega arith) c.requires.0 c.requires.1 c.requires.2 in omega arith
 
 pub slice_bounds-count_more-start : goal.slice_bounds-count_more-start
-slice_bounds-count_more-start c = let z = dots_fit c.args.self.w c.args.y c.args.x c.args.n c.loop-r.r (length c.args.self.mask.now) (omega arith) c.requires.0 c.requires.1 c.requires.2 in omega arith
+slice_bounds-count_more-start c = let z = dots_fit c.args.self.w c.args.y c.args.x (length c.args.counts.now) c.loop-r.r (length c.args.self.mask.now) (omega arith) c.requires.0 c.requires.1 c.requires.2 in omega arith
 
 pub slice_bounds-count_more-end : goal.slice_bounds-count_more-end
-slice_bounds-count_more-end c = let z = dots_fit c.args.self.w c.args.y c.args.x c.args.n c.loop-r.r (length c.args.self.mask.now) (omega arith) c.requires.0 c.requires.1 c.requires.2 in omega arith
+slice_bounds-count_more-end c = let z = dots_fit c.args.self.w c.args.y c.args.x (length c.args.counts.now) c.loop-r.r (length c.args.self.mask.now) (omega arith) c.requires.0 c.requires.1 c.requires.2 in omega arith
 
 pub count_more-requires : goal.count_more-requires
 count_more-requires c =
     let a = c.args in
-    let z = dots_fit c.args.self.w c.args.y c.args.x c.args.n c.loop-r.r (length c.args.self.mask.now) (omega arith) c.requires.0 c.requires.1 c.requires.2 in
-    let q = length_part ((a.y + c.loop-r.r) * a.self.w + a.x) ((a.y + c.loop-r.r) * a.self.w + a.x + a.n) a.self.mask.now (omega arith) (omega arith) in
-    (omega arith, λ k u. let e = c.loop-r.invariant.2 k (omega arith) in let b = behind-le (λ j. ink_at a.self.w a.self.mask.now (a.x + k) (a.y + j)) c.loop-r.r in omega arith)
+    let z = dots_fit c.args.self.w c.args.y c.args.x (length c.args.counts.now) c.loop-r.r (length c.args.self.mask.now) (omega arith) c.requires.0 c.requires.1 c.requires.2 in
+    let q = length_part ((a.y + c.loop-r.r) * a.self.w + a.x) ((a.y + c.loop-r.r) * a.self.w + a.x + length a.counts.now) a.self.mask.now (omega arith) (omega arith) in
+    (omega arith, λ k u. let e = c.loop-r.invariant k (omega arith) in let b = behind-le (λ j. ink_at a.self.w a.self.mask.now (a.x + k) (a.y + j)) c.loop-r.r in omega arith)
 
 pub loop-r-preserved : goal.loop-r-preserved
 loop-r-preserved c =
     let a = c.args in
     let p = c.requires in
-    let z = dots_fit c.args.self.w c.args.y c.args.x c.args.n c.loop-r.r (length c.args.self.mask.now) (omega arith) c.requires.0 c.requires.1 c.requires.2 in
-    let q = length_part ((a.y + c.loop-r.r) * a.self.w + a.x) ((a.y + c.loop-r.r) * a.self.w + a.x + a.n) a.self.mask.now (omega arith) (omega arith) in
-    (omega arith, c.count_more.ensures.size ∙ c.loop-r.invariant.1, λ k u. c.count_more.ensures.put k (omega arith) (omega arith) ∙ columns-more a.self.w a.y a.x a.n c.loop-r.r a.self.mask.now c.loop-r.counts k p.2 u (c.loop-r.invariant.2 k u))
+    let z = dots_fit c.args.self.w c.args.y c.args.x (length c.args.counts.now) c.loop-r.r (length c.args.self.mask.now) (omega arith) c.requires.0 c.requires.1 c.requires.2 in
+    let q = length_part ((a.y + c.loop-r.r) * a.self.w + a.x) ((a.y + c.loop-r.r) * a.self.w + a.x + length a.counts.now) a.self.mask.now (omega arith) (omega arith) in
+    λ k u. c.count_more.ensures.put k (omega arith) (omega arith) ∙ columns-more a.self.w a.y a.x (length c.loop-r.counts) c.loop-r.r a.self.mask.now c.loop-r.counts k (omega arith) (omega arith) (c.loop-r.invariant k u)
 
 pub returns : goal.returns
 returns c =
     let a = c.args in
     let e : c.loop-r.r ≡ 32 = omega arith in
-    λ k u. c.loop-r.invariant.2 k u ∙ ap (count_from a.self.w a.self.mask.now a.y (a.x + k)) e
+    λ k u. c.loop-r.invariant k u ∙ ap (count_from a.self.w a.self.mask.now a.y (a.x + k)) e

@@ -1,15 +1,22 @@
+use mathlib.Core.Path.{◌≡◌, refl, ◌∙◌}
 use native.Mathlib.Omega.{arith}
-use Prim.Native.Nat.{◌+◌}
-use lib.ListN.{get_or-replicate}
+use Prim.Native.Nat.{ℕ, ◌+◌, ◌≤◌}
+use lib.ListN.{length, take, replicate, length-replicate, get_or-replicate}
+use Rattle.std.proofs.lemmas.List.{length-take-le, get_or-take}
 use Rattle.extents.proofs.ExtentLaws.{row_before}
-use Rattle.extents.proofs.PutLaws.{put_as}
+use Rattle.extents.proofs.PutLaws.{put_as, put-ends}
 use Rattle.extents.proofs.BandLaws.{rows_fit, count-first-band, count-through-band, above-band-le}
 use Rattle.extents.proofs.bands.Plane.count_last_chunk.Goals as goal
+
+-- so many columns of a chunk
+front : (n : ℕ) → n ≤ 64 → length (take n (replicate {A = ℕ} 64 0)) ≡ n
+front n l = length-take-le n (replicate {A = ℕ} 64 0) (let z = length-replicate {A = ℕ} 64 0 in omega arith)
 
 pub count_columns-requires : goal.count_columns-requires
 count_columns-requires c =
     let p = c.requires in
-    (p.0.wide, p.0.inside, p.1, p.2, λ k u. get_or-replicate 64 k 0 0 (omega arith))
+    let e = front c.args.n p.2 in
+    (p.0.wide, p.0.inside, omega (arith, e), λ k u. get_or-take c.args.n (replicate {A = ℕ} 64 0) k 0 (omega (arith, e)) ∙ get_or-replicate 64 k 0 0 (omega (arith, e)))
 
 pub overflow_add-at : goal.overflow_add-at
 overflow_add-at c =
@@ -22,7 +29,8 @@ pub returns-then-y-eq0 : goal.returns-then-y-eq0
 returns-then-y-eq0 c =
     let a = c.args in
     let p = c.requires in
-    put_as c.put_counts.ensures (count-first-band a.self.w a.y a.x a.n a.self.mask.now c.count_columns.new.counts a.extents.now p.0 p.1 c.count_columns.ensures c.if-y-eq0.true)
+    let e : length c.count_columns.new.counts ≡ a.n = c.count_columns.auto.counts ∙ front a.n p.2 in
+    put_as (put-ends c.put_counts.ensures refl (omega (arith, e))) (count-first-band a.self.w a.y a.x a.n a.self.mask.now c.count_columns.new.counts a.extents.now p.0 p.1 (λ j u. c.count_columns.ensures j (omega (arith, front a.n p.2))) c.if-y-eq0.true)
 
 pub overflow_mul-y : goal.overflow_mul-y
 overflow_mul-y c =
@@ -43,10 +51,12 @@ add_counts-requires c =
     let a = c.args in
     let p = c.requires in
     let z = row_before a.self.w a.y (omega (arith, c.if-y-eq0.false)) in
-    (omega (arith, p.2, c.count_columns.auto.counts), omega (arith, p.1), omega (arith, p.0.inside, p.0.room, p.1), above-band-le a.self.w a.y a.x a.n a.self.mask.now c.count_columns.new.counts a.extents.now p.0 p.1 c.count_columns.ensures (omega (arith, c.if-y-eq0.false)))
+    let e : length c.count_columns.new.counts ≡ a.n = c.count_columns.auto.counts ∙ front a.n p.2 in
+    (omega (arith, e, p.1), omega (arith, e, p.0.inside, p.0.room, p.1), λ k u. above-band-le a.self.w a.y a.x a.n a.self.mask.now c.count_columns.new.counts a.extents.now p.0 p.1 (λ j u. c.count_columns.ensures j (omega (arith, front a.n p.2))) (omega (arith, c.if-y-eq0.false)) k (omega (arith, e)))
 
 pub returns : goal.returns
 returns c =
     let a = c.args in
     let p = c.requires in
-    put_as c.add_counts.ensures (count-through-band a.self.w a.y a.x a.n a.self.mask.now c.count_columns.new.counts a.extents.now p.0 p.1 c.count_columns.ensures (omega (arith, c.if-y-eq0.false)))
+    let e : length c.count_columns.new.counts ≡ a.n = c.count_columns.auto.counts ∙ front a.n p.2 in
+    put_as (put-ends c.add_counts.ensures refl (omega (arith, e))) (count-through-band a.self.w a.y a.x a.n a.self.mask.now c.count_columns.new.counts a.extents.now p.0 p.1 (λ j u. c.count_columns.ensures j (omega (arith, front a.n p.2))) (omega (arith, c.if-y-eq0.false)))
