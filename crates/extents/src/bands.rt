@@ -86,6 +86,7 @@ impl Plane<'_> {
     }
 
     // The ink that ends at the band's last row, of its own rows alone; in bytes, so that many columns go at a time.
+    #[tactic(auto, using(crate::proofs::ExtentLaws::row_upto, crate::proofs::BandLaws::rows_fit))]
     fn count_columns(self, y: usize, x: usize, counts: &mut [u8])
         requires { (0 < self.w) × ((y + 32) * self.w ≤ length self.mask.now) × (x + length counts.old ≤ self.w) × ((k : ℕ) → k < length counts.old → get_or counts.old k 0 ≡ 0) }
         ensures { (k : ℕ) → k < length counts.old → get_or counts.new k 0 ≡ count_from self.entry.w self.entry.mask.now y (x + k) 32 }

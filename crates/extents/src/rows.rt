@@ -14,6 +14,7 @@ use crate::crowded::{Part, start_before};
 use crate::lengths::{capped, chunk_end};
 
 // Along the rows: each row is a part of the mask and of the extents.
+#[tactic(auto, using(crate::proofs::ExtentLaws::row_inside))]
 pub fn row_extents(mask: &[u8], width: u32, height: u32, extents: &mut [u32])
     requires { MaskFits width height (length mask.now) (length extents.old) }
     ensures { extents.new ≡ over (row_extents width height mask.now) extents.old }

@@ -17,33 +17,6 @@ loop-y-init c =
     let a = c.args in
     (omega arith, over_none (row_extent a.width a.mask.now) (a.width * a.height) a.extents.now (omega arith) ∙ ap (λ k. over (table (until k (row_extent a.width a.mask.now) (λ k. get_or a.extents.now k 0)) (a.width * a.height)) a.extents.now) (sym (zero-mul a.width)), refl)
 
-pub overflow_mul-from : goal.overflow_mul-from
-overflow_mul-from c = let z = row_inside c.args.width c.args.height c.loop-y.y (omega arith) in omega arith
-
-pub overflow_add-to : goal.overflow_add-to
-overflow_add-to c = let z = row_inside c.args.width c.args.height c.loop-y.y (omega arith) in omega arith
-
-pub slice_bounds-extents_of_row-count : goal.slice_bounds-extents_of_row-count
-slice_bounds-extents_of_row-count c = let z = row_inside c.args.width c.args.height c.loop-y.y (omega arith) in omega arith
-
-pub slice_bounds-extents_of_row-start : goal.slice_bounds-extents_of_row-start
-slice_bounds-extents_of_row-start c = let z = row_inside c.args.width c.args.height c.loop-y.y (omega arith) in omega arith
-
-pub slice_bounds-extents_of_row-end : goal.slice_bounds-extents_of_row-end
-slice_bounds-extents_of_row-end c = let z = row_inside c.args.width c.args.height c.loop-y.y (omega arith) in omega arith
-
-pub offset_bounds-extents-from : goal.offset_bounds-extents-from
-offset_bounds-extents-from c = let z = row_inside c.args.width c.args.height c.loop-y.y (omega arith) in omega arith
-
-pub slice_bounds-extents_of_row-count-in-loop-y : goal.slice_bounds-extents_of_row-count-in-loop-y
-slice_bounds-extents_of_row-count-in-loop-y c = let z = row_inside c.args.width c.args.height c.loop-y.y (omega arith) in omega arith
-
-pub slice_bounds-extents_of_row-start-in-loop-y : goal.slice_bounds-extents_of_row-start-in-loop-y
-slice_bounds-extents_of_row-start-in-loop-y c = let z = row_inside c.args.width c.args.height c.loop-y.y (omega arith) in omega arith
-
-pub slice_bounds-extents_of_row-end-in-loop-y : goal.slice_bounds-extents_of_row-end-in-loop-y
-slice_bounds-extents_of_row-end-in-loop-y c = let z = row_inside c.args.width c.args.height c.loop-y.y (omega arith) in omega arith
-
 pub extents_of_row-requires : goal.extents_of_row-requires
 extents_of_row-requires c =
     let a = c.args in

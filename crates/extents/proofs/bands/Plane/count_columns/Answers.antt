@@ -21,27 +21,6 @@ pub loop-r-init : goal.loop-r-init
 unfolding behind
 loop-r-init c = let p = c.requires in p.3
 
-pub overflow_add-from : goal.overflow_add-from
-overflow_add-from c = let z = dots_fit c.args.self.w c.args.y c.args.x (length c.args.counts.now) c.loop-r.r (length c.args.self.mask.now) (omega arith) c.requires.0 c.requires.1 c.requires.2 in omega arith
-
-pub overflow_mul-from : goal.overflow_mul-from
-overflow_mul-from c = let z = dots_fit c.args.self.w c.args.y c.args.x (length c.args.counts.now) c.loop-r.r (length c.args.self.mask.now) (omega arith) c.requires.0 c.requires.1 c.requires.2 in omega arith
-
-pub overflow_add-from-in-loop-r : goal.overflow_add-from-in-loop-r
-overflow_add-from-in-loop-r c = let z = dots_fit c.args.self.w c.args.y c.args.x (length c.args.counts.now) c.loop-r.r (length c.args.self.mask.now) (omega arith) c.requires.0 c.requires.1 c.requires.2 in omega arith
-
-pub overflow_add-to : goal.overflow_add-to
-overflow_add-to c = let z = dots_fit c.args.self.w c.args.y c.args.x (length c.args.counts.now) c.loop-r.r (length c.args.self.mask.now) (omega arith) c.requires.0 c.requires.1 c.requires.2 in omega arith
-
-pub slice_bounds-count_more-count : goal.slice_bounds-count_more-count
-slice_bounds-count_more-count c = let z = dots_fit c.args.self.w c.args.y c.args.x (length c.args.counts.now) c.loop-r.r (length c.args.self.mask.now) (omega arith) c.requires.0 c.requires.1 c.requires.2 in omega arith
-
-pub slice_bounds-count_more-start : goal.slice_bounds-count_more-start
-slice_bounds-count_more-start c = let z = dots_fit c.args.self.w c.args.y c.args.x (length c.args.counts.now) c.loop-r.r (length c.args.self.mask.now) (omega arith) c.requires.0 c.requires.1 c.requires.2 in omega arith
-
-pub slice_bounds-count_more-end : goal.slice_bounds-count_more-end
-slice_bounds-count_more-end c = let z = dots_fit c.args.self.w c.args.y c.args.x (length c.args.counts.now) c.loop-r.r (length c.args.self.mask.now) (omega arith) c.requires.0 c.requires.1 c.requires.2 in omega arith
-
 pub count_more-requires : goal.count_more-requires
 count_more-requires c =
     let a = c.args in
