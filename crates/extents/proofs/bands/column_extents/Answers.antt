@@ -1,20 +1,12 @@
 use native.Mathlib.Omega.{arith}
 use Prim.Native.Nat.{◌-◌, ◌*◌}
-use Rattle.extents.proofs.BandLaws.{done-ends, bands-begun, plane-kept, band-counts, band-takes, band-done, bands-done}
+use Rattle.extents.proofs.BandLaws.{done-ends, plane-kept, band-counts, band-done, bands-done}
 use Rattle.extents.proofs.bands.column_extents.Goals as goal
-
-pub loop-band-init : goal.loop-band-init
-loop-band-init c = done-ends (bands-begun c.count_bands.ensures) (omega arith)
 
 pub count_band-requires : goal.count_band-requires
 count_band-requires c =
     let n = c.count_bands.ensures in
     (band-counts (plane-kept c.requires n.size) (done-ends c.loop-band.invariant (omega arith)) (omega arith) ((c.loop-band.band - 1) * 32) (omega arith) (omega arith), omega arith)
-
-pub take_band-requires : goal.take_band-requires
-take_band-requires c =
-    let n = c.count_bands.ensures in
-    (band-takes (plane-kept c.requires n.size) (done-ends c.loop-band.invariant (omega arith)) (omega arith) ((c.loop-band.band - 1) * 32) (omega arith) (omega arith) c.count_band.ensures, omega arith)
 
 pub loop-band-preserved : goal.loop-band-preserved
 loop-band-preserved c =

@@ -1,19 +1,10 @@
 use mathlib.Core.Path.{◌∙◌}
 use native.Mathlib.Omega.{arith}
 use Rattle.extents.proofs.CrowdedLaws.{short-around}
-use Rattle.extents.proofs.PutLaws.{put-none, put_up}
+use Rattle.extents.proofs.PutLaws.{put_up}
 use Rattle.extents.proofs.crowded.short_bytes.Goals as goal
-
-pub loop-k-init : goal.loop-k-init
-loop-k-init c = (omega arith, put-none 0 _)
-
-pub bounds-bytes-k : goal.bounds-bytes-k
-bounds-bytes-k c = let z = c.loop-k.invariant.1.size in omega arith
 
 pub loop-k-preserved : goal.loop-k-preserved
 loop-k-preserved c =
     let a = c.args in
     (omega arith, put_up c.short_extent.result c.loop-k.invariant.1 (omega arith) (omega arith) (c.short_extent.ensures ∙ short-around a.row.now a.x c.loop-k.k c.requires.0))
-
-pub returns : goal.returns
-returns c = λ k h. c.loop-k.invariant.1.put k (omega arith) (omega arith)

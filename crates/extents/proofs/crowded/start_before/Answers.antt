@@ -5,9 +5,6 @@ use native.Mathlib.Omega.{arith}
 use Rattle.extents.proofs.crowded.start_before.Goals as goal
 use Rattle.extents.proofs.crowded.start_before.Goals.{then-row-r-eq0-via-then-row-r-eq0, then-row-r-eq0-via-else-row-r-eq0+then-row-r-eq0-2}
 
-pub loop-r-init : goal.loop-r-init
-loop-r-init c = (c.requires.0, omega arith)
-
 pub returns-then-row-r-eq0 : goal.returns-then-row-r-eq0
 returns-then-row-r-eq0 c =
     let here : Starts (is_ink c.args.row.now) c.loop-r.r =
@@ -16,9 +13,3 @@ returns-then-row-r-eq0 c =
         | then-row-r-eq0-via-else-row-r-eq0+then-row-r-eq0-2 w ↦ starts-after c.args.row.now c.loop-r.r (omega arith) w.if-row-r-eq0-2.true
         ] in
     (omega arith, omega arith, here)
-
-pub loop-r-preserved : goal.loop-r-preserved
-loop-r-preserved c = (omega arith, omega arith)
-
-pub returns : goal.returns
-returns c = (omega arith, c.requires.0, c.requires.2)

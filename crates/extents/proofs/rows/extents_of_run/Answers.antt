@@ -4,9 +4,6 @@ use Rattle.extents.proofs.PutLaws.{filled}
 use Rattle.extents.proofs.ExtentLaws.{row-further, row-run, row-size}
 use Rattle.extents.proofs.rows.extents_of_run.Goals as goal
 
-pub run_end-ink-requires : goal.run_end-ink-requires
-run_end-ink-requires c = let b = c.run_end-blank.ensures in b.high
-
 pub offset_bounds-extents-blank : goal.offset_bounds-extents-blank
 offset_bounds-extents-blank c =
     let a = c.args in
@@ -14,29 +11,8 @@ offset_bounds-extents-blank c =
     let i = c.run_end-ink.ensures in
     omega (arith, row-size a.row.now a.x a.extents.now c.requires.1, b.low, b.high, i.low, i.high)
 
-pub slice_bounds-fill-count : goal.slice_bounds-fill-count
-slice_bounds-fill-count c =
-    let a = c.args in
-    let b = c.run_end-blank.ensures in
-    let i = c.run_end-ink.ensures in
-    omega (arith, row-size a.row.now a.x a.extents.now c.requires.1, b.low, b.high, i.low, i.high)
-
-pub slice_bounds-fill-start : goal.slice_bounds-fill-start
-slice_bounds-fill-start c =
-    let a = c.args in
-    let b = c.run_end-blank.ensures in
-    let i = c.run_end-ink.ensures in
-    omega (arith, row-size a.row.now a.x a.extents.now c.requires.1, b.low, b.high, i.low, i.high)
-
 pub slice_bounds-fill-end : goal.slice_bounds-fill-end
 slice_bounds-fill-end c =
-    let a = c.args in
-    let b = c.run_end-blank.ensures in
-    let i = c.run_end-ink.ensures in
-    omega (arith, row-size a.row.now a.x a.extents.now c.requires.1, b.low, b.high, i.low, i.high)
-
-pub overflow_sub-ink : goal.overflow_sub-ink
-overflow_sub-ink c =
     let a = c.args in
     let b = c.run_end-blank.ensures in
     let i = c.run_end-ink.ensures in

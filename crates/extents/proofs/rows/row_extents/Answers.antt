@@ -1,4 +1,4 @@
-use Prim.Native.Nat.{◌+◌, ◌*◌}
+use Prim.Native.Nat.{◌*◌}
 use native.Mathlib.Omega.{arith}
 use mathlib.Core.Path.{◌≡◌, refl, sym, ap, ◌∙◌}
 use native.Mathlib.Nat.{zero-mul, mul_comm}
@@ -8,22 +8,13 @@ use Rattle.memory.specs.rules.Words.{over}
 use Rattle.extents.specs.stages.Scans.{row_extent, until}
 use Rattle.extents.specs.rules.Extents.{row_extents}
 use Rattle.extents.proofs.OverLaws.{over_none, over-all, length_over}
-use Rattle.memory.proofs.PartLaws.{length_part}
-use Rattle.extents.proofs.ExtentLaws.{row_inside, rows-loop}
+use Rattle.extents.proofs.ExtentLaws.{rows-loop}
 use Rattle.extents.proofs.rows.row_extents.Goals as goal
 
 pub loop-y-init : goal.loop-y-init
 loop-y-init c =
     let a = c.args in
     (omega arith, over_none (row_extent a.width a.mask.now) (a.width * a.height) a.extents.now (omega arith) ∙ ap (λ k. over (table (until k (row_extent a.width a.mask.now) (λ k. get_or a.extents.now k 0)) (a.width * a.height)) a.extents.now) (sym (zero-mul a.width)), refl)
-
-pub extents_of_row-requires : goal.extents_of_row-requires
-extents_of_row-requires c =
-    let a = c.args in
-    let z = row_inside a.width a.height c.loop-y.y (omega arith) in
-    let p = length_part (c.loop-y.y * a.width) (c.loop-y.y * a.width + a.width) a.mask.now (omega arith) (omega arith) in
-    let q = length_part (c.loop-y.y * a.width) (c.loop-y.y * a.width + a.width) c.loop-y.extents (omega arith) (omega arith) in
-    (omega arith, omega arith)
 
 pub loop-y-preserved : goal.loop-y-preserved
 loop-y-preserved c =

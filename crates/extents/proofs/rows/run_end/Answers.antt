@@ -1,10 +1,7 @@
 use native.Mathlib.Omega.{arith}
 use Rattle.memory.specs.rules.Masks.{is_ink}
-use Rattle.extents.proofs.ExtentLaws.{same-bit, other-bit, scan-none, scan-more}
+use Rattle.extents.proofs.ExtentLaws.{same-bit, other-bit, scan-more}
 use Rattle.extents.proofs.rows.run_end.Goals as goal
-
-pub loop-e-init : goal.loop-e-init
-loop-e-init c = scan-none (is_ink c.args.row.now) c.args.ink c.args.x
 
 pub returns-then-row-e : goal.returns-then-row-e
 unfolding is_ink
@@ -13,6 +10,3 @@ returns-then-row-e c = record { low = omega arith; high = omega arith; all = c.l
 pub loop-e-preserved : goal.loop-e-preserved
 unfolding is_ink
 loop-e-preserved c = scan-more (is_ink c.args.row.now) c.args.ink c.args.x c.loop-e.e c.loop-e.invariant (same-bit (is_ink c.args.row.now c.loop-e.e) c.args.ink c.if-row-e.false)
-
-pub returns : goal.returns
-returns c = record { low = c.requires; high = omega arith; all = λ k x y. c.loop-e.invariant k x (omega arith); stop = λ k. absurd (omega arith) }

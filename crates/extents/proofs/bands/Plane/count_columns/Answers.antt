@@ -1,9 +1,8 @@
 use native.Mathlib.Omega.{arith}
-use mathlib.Core.Path.{◌≡◌, ap, ◌∙◌}
+use mathlib.Core.Path.{◌∙◌}
 use Prim.Native.Nat.{ℕ, ◌≤◌, ◌<◌, ◌+◌, ◌*◌}
 use lib.ListN.{length}
 use Rattle.extents.specs.rules.Extents.{ink_at, behind}
-use Rattle.extents.specs.stages.Bands.{count_from}
 use Rattle.memory.proofs.PartLaws.{length_part}
 use Rattle.extents.proofs.RunLaws.{behind-le}
 use Rattle.extents.proofs.ExtentLaws.{row_upto}
@@ -35,9 +34,3 @@ loop-r-preserved c =
     let z = dots_fit c.args.self.w c.args.y c.args.x (length c.args.counts.now) c.loop-r.r (length c.args.self.mask.now) (omega arith) c.requires.0 c.requires.1 c.requires.2 in
     let q = length_part ((a.y + c.loop-r.r) * a.self.w + a.x) ((a.y + c.loop-r.r) * a.self.w + a.x + length a.counts.now) a.self.mask.now (omega arith) (omega arith) in
     λ k u. c.count_more.ensures.put k (omega arith) (omega arith) ∙ columns-more a.self.w a.y a.x (length c.loop-r.counts) c.loop-r.r a.self.mask.now c.loop-r.counts k (omega arith) (omega arith) (c.loop-r.invariant k u)
-
-pub returns : goal.returns
-returns c =
-    let a = c.args in
-    let e : c.loop-r.r ≡ 32 = omega arith in
-    λ k u. c.loop-r.invariant k u ∙ ap (count_from a.self.w a.self.mask.now a.y (a.x + k)) e

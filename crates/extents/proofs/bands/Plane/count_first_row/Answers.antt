@@ -1,16 +1,9 @@
 use native.Mathlib.Omega.{arith}
-use mathlib.Core.Path.{refl}
-use Rattle.extents.proofs.PutLaws.{put-none, put_up, put-ends}
+use Rattle.extents.proofs.PutLaws.{put_up}
 use Rattle.extents.proofs.BandLaws.{count-first}
 use Rattle.extents.proofs.bands.Plane.count_first_row.Goals as goal
-
-pub loop-i-init : goal.loop-i-init
-loop-i-init c = let a = c.args in (omega arith, put-none 0 a.extents.now)
 
 pub loop-i-preserved : goal.loop-i-preserved
 loop-i-preserved c =
     let a = c.args in
     (omega arith, put_up _ c.loop-i.invariant.1 (omega arith) (omega arith) (count-first a.self.w a.self.mask.now c.loop-i.i _ (omega arith) c.count_on.ensures))
-
-pub returns : goal.returns
-returns c = put-ends c.loop-i.invariant.1 refl (omega arith)

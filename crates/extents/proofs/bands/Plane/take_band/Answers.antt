@@ -1,17 +1,11 @@
 use native.Mathlib.Omega.{arith}
-use mathlib.Core.Path.{◌≡◌, refl, ap}
-use Prim.Native.Nat.{◌≤◌, ◌-◌, ◌*◌}
-use native.Mathlib.Nat.{le_refl, mul-le-mul_right}
+use mathlib.Core.Path.{refl}
+use Prim.Native.Nat.{◌≤◌, ◌-◌}
+use native.Mathlib.Nat.{mul-le-mul_right}
 use Rattle.extents.proofs.ExtentLaws.{row_before}
-use Rattle.extents.proofs.PutLaws.{put-none, put-ends, put-more-down}
+use Rattle.extents.proofs.PutLaws.{put-ends, put-more-down}
 use Rattle.extents.proofs.BandLaws.{takes-row}
 use Rattle.extents.proofs.bands.Plane.take_band.Goals as goal
-
-pub loop-y-init : goal.loop-y-init
-loop-y-init c =
-    let a = c.args in
-    let p = c.requires in
-    (p.1, le_refl _, put-none (a.end * a.self.w) a.extents.now)
 
 pub take_row-requires : goal.take_row-requires
 take_row-requires c =
@@ -23,9 +17,3 @@ loop-y-preserved c =
     let a = c.args in
     let b : c.loop-y.y - 1 ≤ c.loop-y.y = omega arith in
     (omega arith, omega arith, put-more-down c.loop-y.invariant.2 (put-ends c.take_row.ensures refl (row_before a.self.w c.loop-y.y (omega arith))) (mul-le-mul_right a.self.w b) (mul-le-mul_right a.self.w c.loop-y.invariant.1))
-
-pub returns : goal.returns
-returns c =
-    let a = c.args in
-    let e : c.loop-y.y ≡ a.start = omega arith in
-    put-ends c.loop-y.invariant.2 (ap (λ k. k * a.self.w) e) refl

@@ -1,15 +1,8 @@
 use native.Mathlib.Omega.{arith}
-use mathlib.Core.Path.{refl}
 use native.Mathlib.Nat.{le_refl}
-use Rattle.extents.proofs.PutLaws.{put-none, put-down, put-ends}
+use Rattle.extents.proofs.PutLaws.{put-down}
 use Rattle.extents.proofs.BandLaws.{takes-next, take-bounds, take-above}
 use Rattle.extents.proofs.bands.Plane.take_dots.Goals as goal
-
-pub loop-i-init : goal.loop-i-init
-loop-i-init c =
-    let a = c.args in
-    let p = c.requires in
-    (p.0.order, le_refl _, put-none a.to a.extents.now)
 
 pub take_on-requires : goal.take_on-requires
 take_on-requires c =
@@ -22,6 +15,3 @@ loop-i-preserved c =
     let a = c.args in
     let p = c.requires in
     (omega arith, omega arith, put-down _ c.loop-i.invariant.2 (omega arith) c.loop-i.invariant.1 (omega (arith, p.0.inside, p.0.room)) (take-above (takes-next p.0 a.from c.loop-i.invariant.2 (le_refl _) c.loop-i.invariant.0 c.loop-i.invariant.1) (omega arith) (omega (arith, p.1)) _ c.take_on.ensures))
-
-pub returns : goal.returns
-returns c = put-ends c.loop-i.invariant.2 (omega arith) refl

@@ -2,11 +2,5 @@ use Rattle.extents.proofs.CrowdedLaws.{short-more}
 use native.Mathlib.Omega.{arith}
 use Rattle.extents.proofs.crowded.Part.all_short.Goals as goal
 
-pub loop-i-init : goal.loop-i-init
-loop-i-init c = (omega arith, c.requires.0, λ _ k l h. absurd (omega arith))
-
 pub loop-i-preserved : goal.loop-i-preserved
 loop-i-preserved c = (omega arith, omega arith, short-more c.args.self.row.now c.args.self.x c.loop-i.i c.loop-i.short c.loop-i.invariant.2)
-
-pub returns : goal.returns
-returns c = λ e k l h. c.loop-i.invariant.2 e k l (omega arith)

@@ -3,20 +3,14 @@ use Prim.Native.Nat.{◌+◌, ◌-◌}
 use native.Mathlib.Omega.{arith}
 use Rattle.extents.proofs.CrowdedLaws.{row_put, short-is}
 use Rattle.extents.proofs.ExtentLaws.{row-size}
-use Rattle.extents.proofs.PutLaws.{put-none, put_as, put-ends, put-more, put-over}
+use Rattle.extents.proofs.PutLaws.{put_as, put-ends, put-over}
 use Rattle.extents.proofs.crowded.Part.short_extents.Goals as goal
-
-pub loop-chunk-init : goal.loop-chunk-init
-loop-chunk-init c = put-ends (put-none c.args.self.x c.args.extents.now) refl (omega arith)
 
 pub short_chunk-requires : goal.short_chunk-requires
 short_chunk-requires c =
     let a = c.args in
     let p = c.requires in
     (omega (arith, p.2), omega (arith, p.3), c.loop-chunk.invariant.size ∙ row-size a.self.row.now a.self.x a.extents.now p.1)
-
-pub loop-chunk-preserved : goal.loop-chunk-preserved
-loop-chunk-preserved c = put-ends (put-more c.loop-chunk.invariant c.short_chunk.ensures (omega arith) (omega arith)) refl (omega arith)
 
 pub short_chunk-requires-2 : goal.short_chunk-requires-2
 short_chunk-requires-2 c =
