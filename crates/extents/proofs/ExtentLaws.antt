@@ -27,10 +27,6 @@ pub ink-zero : (m : List ℕ) (i : ℕ) → get_or m i 0 ≡ 0 → is_ink m i �
 unfolding is_ink
 ink-zero m i e = le-ltb 0 (get_or m i 0) (omega arith)
 
-pub ink-nonzero : (m : List ℕ) (i : ℕ) → (get_or m i 0 ≡ 0 → ⊥) → is_ink m i ≡ true
-unfolding is_ink
-ink-nonzero m i n = lt-ltb 0 (get_or m i 0) (omega arith)
-
 pub ink-past : (m : List ℕ) (i : ℕ) → length m ≤ i → is_ink m i ≡ false
 ink-past m i l = ink-zero m i (get_or-eq_default m 0 l)
 
@@ -144,9 +140,6 @@ row_inside w h y l = let a = row_upto w h y l in let c = mul_comm h w in omega a
 pub row_next : (w y : ℕ) → y * w + w ≡ (y + 1) * w
 row_next w y = let b : suc y * w ≡ y * w + w = suc-mul y w in sym b ∙ ap (λ k. k * w) (let e : suc y ≡ y + 1 = omega arith in e)
 
-pub row_from : (w y : ℕ) → 1 ≤ y → w ≤ y * w
-row_from w y l = let a : 1 * w ≤ y * w = mul-le-mul_right w l in omega arith
-
 pub row_before : (w y : ℕ) → 0 < y → (y - 1) * w + w ≡ y * w
 row_before w y l = row_next w (y - 1) ∙ ap (λ k. k * w) (let z : y - 1 + 1 ≡ y = omega arith in z)
 
@@ -164,14 +157,6 @@ bit-times-le false a = omega arith
 pub bit_le : (t : Bool) → bool_byte t ≤ 1
 bit_le true = omega arith
 bit_le false = omega arith
-
-pub rest-times-le : (t : Bool) (a : ℕ) → (1 - bool_byte t) * a ≤ a
-rest-times-le true a = omega arith
-rest-times-le false a = omega arith
-
-pub bit-choice : (t : Bool) (a b : ℕ) → bool_byte t * a + (1 - bool_byte t) * b ≡ cond t a b
-bit-choice true a b = omega arith
-bit-choice false a b = omega arith
 
 -- one chunk of a row with one value
 pub chunk-filled : (f g : ℕ → ℕ) (n : ℕ) (s e t : List ℕ) (x y v : ℕ) → n ≤ length s → x ≤ y → y ≤ n → e ≡ over (table (until x f g) n) s

@@ -13,4 +13,4 @@ pub loop-i-preserved : goal.loop-i-preserved
 unfolding is_ink
 loop-i-preserved c =
     let a = c.args in
-    (omega arith, put_up _ c.loop-i.invariant.1 (omega arith) (omega arith) (bit-times (ltb 0 (get_or a.dots.now c.loop-i.i 0)) (get_or c.loop-i.counts c.loop-i.i 0 + 1) ∙ ap (λ n. cond (is_ink a.dots.now c.loop-i.i) (n + 1) 0) (c.loop-i.invariant.1.upper c.loop-i.i (omega arith))))
+    put_up _ c.loop-i.invariant (omega arith) (omega arith) (bit-times (ltb 0 (get_or a.dots.now c.loop-i.i 0)) (get_or c.loop-i.counts c.loop-i.i 0 + 1) ∙ ap (λ n. cond (is_ink a.dots.now c.loop-i.i) (n + 1) 0) (c.loop-i.invariant.upper c.loop-i.i (omega arith)))

@@ -7,4 +7,4 @@ use Rattle.extents.proofs.crowded.short_bytes.Goals as goal
 pub loop-k-preserved : goal.loop-k-preserved
 loop-k-preserved c =
     let a = c.args in
-    (omega arith, put_up c.short_extent.result c.loop-k.invariant.1 (omega arith) (omega arith) (c.short_extent.ensures ∙ short-around a.row.now a.x c.loop-k.k c.requires.0))
+    put_up c.short_extent.result c.loop-k.invariant (omega arith) (omega arith) (c.short_extent.ensures ∙ short-around a.row.now a.x c.loop-k.k c.requires.0)

@@ -8,4 +8,4 @@ pub loop-i-preserved : goal.loop-i-preserved
 loop-i-preserved c =
     let a = c.args in
     let p = c.requires in
-    (omega arith, omega arith, put_up _ c.loop-i.invariant.2 c.loop-i.invariant.0 (omega (arith, p.0.inside, p.0.room)) (count-below (counts-next a.to p.0 c.loop-i.invariant.2 c.loop-i.invariant.0 c.loop-i.invariant.1 (le_refl _)) (omega (arith, p.1)) _ c.count_on.ensures))
+    put_up _ c.loop-i.invariant (omega arith) (omega (arith, p.0.inside, p.0.room)) (count-below (counts-next a.to p.0 c.loop-i.invariant (omega arith) (omega arith) (le_refl _)) (omega (arith, p.1)) _ c.count_on.ensures)

@@ -8,10 +8,10 @@ pub take_on-requires : goal.take_on-requires
 take_on-requires c =
     let a = c.args in
     let p = c.requires in
-    take-bounds (takes-next p.0 a.from c.loop-i.invariant.2 (le_refl _) c.loop-i.invariant.0 c.loop-i.invariant.1) (omega arith) (omega (arith, p.1))
+    take-bounds (takes-next p.0 a.from c.loop-i.invariant.1 (le_refl _) c.loop-i.invariant.0 (omega arith)) (omega arith) (omega (arith, p.1))
 
 pub loop-i-preserved : goal.loop-i-preserved
 loop-i-preserved c =
     let a = c.args in
     let p = c.requires in
-    (omega arith, omega arith, put-down _ c.loop-i.invariant.2 (omega arith) c.loop-i.invariant.1 (omega (arith, p.0.inside, p.0.room)) (take-above (takes-next p.0 a.from c.loop-i.invariant.2 (le_refl _) c.loop-i.invariant.0 c.loop-i.invariant.1) (omega arith) (omega (arith, p.1)) _ c.take_on.ensures))
+    (omega arith, put-down _ c.loop-i.invariant.1 (omega arith) (omega arith) (omega (arith, p.0.inside, p.0.room)) (take-above (takes-next p.0 a.from c.loop-i.invariant.1 (le_refl _) c.loop-i.invariant.0 (omega arith)) (omega arith) (omega (arith, p.1)) _ c.take_on.ensures))

@@ -5,4 +5,4 @@ use Rattle.extents.specs.stages.Scans.{no_four}
 use Rattle.extents.proofs.crowded.Part.all_short.Given as goal
 
 abbrev pub invariant-loop-i : goal.invariant-loop-i
-invariant-loop-i l = (l.self.x ≤ l.i) × (l.i ≤ l.self.to) × (l.short ≡ true → (k : ℕ) → l.self.x ≤ k → k < l.i → no_four l.self.row.now k)
+invariant-loop-i l = l.short ≡ true → (k : ℕ) → l.self.x ≤ k → k < l.i → no_four l.self.row.now k

@@ -7,4 +7,4 @@ use Rattle.extents.specs.stages.Scans.{RowParts, single_dot}
 use Rattle.extents.proofs.crowded.Part.count_on.Given as goal
 
 abbrev pub invariant-loop-i : goal.invariant-loop-i
-invariant-loop-i l = (l.self.x ≤ l.i) × (l.i ≤ l.self.to) × (l.count ≤ l.i - l.self.x) × RowParts l.self.row.now l.self.x l.i l.self.to (λ k. behind (is_ink l.self.row.now) (suc k)) (single_dot l.self.row.now) l.extents × (is_ink l.self.row.now l.i ≡ true → l.count ≡ behind (is_ink l.self.row.now) l.i)
+invariant-loop-i l = (l.count ≤ l.i - l.self.x) × RowParts l.self.row.now l.self.x l.i l.self.to (λ k. behind (is_ink l.self.row.now) (suc k)) (single_dot l.self.row.now) l.extents × (is_ink l.self.row.now l.i ≡ true → l.count ≡ behind (is_ink l.self.row.now) l.i)

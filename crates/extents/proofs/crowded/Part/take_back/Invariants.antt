@@ -7,4 +7,4 @@ use Rattle.extents.specs.stages.Scans.{RowCounted}
 use Rattle.extents.proofs.crowded.Part.take_back.Given as goal
 
 abbrev pub invariant-loop-i : goal.invariant-loop-i
-invariant-loop-i l = (l.self.x ≤ l.i) × (l.i ≤ l.self.to) × RowCounted l.self.row.now l.self.x l.i l.self.to l.extents × (l.i < l.self.to → l.later ≡ extent (is_ink l.self.row.now) (length l.self.row.now) l.i)
+invariant-loop-i l = (l.self.x ≤ l.i) × RowCounted l.self.row.now l.self.x l.i l.self.to l.extents × (l.i < l.self.to → l.later ≡ extent (is_ink l.self.row.now) (length l.self.row.now) l.i)
