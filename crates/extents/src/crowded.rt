@@ -16,12 +16,12 @@ pub struct Part<'a> {
     pub row: &'a [u8],
     pub x: usize,
     pub to: usize,
+    ghost inside: { (x ≤ to) × (to < length row.now) },
 }
 
 impl Part<'_> {
     // Whether its runs are short, and there are dots enough around to see it.
     pub fn is_short(self) -> bool
-        requires { (self.x ≤ self.to) × (self.to < length self.row.now) }
         ensures { result ≡ true → (2 ≤ self.entry.x) × (self.entry.to + 3 ≤ length self.entry.row.now) × ((k : ℕ) → self.entry.x ≤ k → k < self.entry.to → no_four self.entry.row.now k) }
     {
         2 <= self.x && self.to + 3 <= self.row.len() && self.all_short()
@@ -29,7 +29,7 @@ impl Part<'_> {
 
     // Whether no run that starts from x up to `to` has more than three dots.
     fn all_short(self) -> bool
-        requires { (self.x ≤ self.to) × (self.to + 3 ≤ length self.row.now) }
+        requires { self.to + 3 ≤ length self.row.now }
         ensures { result ≡ true → (k : ℕ) → self.entry.x ≤ k → k < self.entry.to → no_four self.entry.row.now k }
     {
         let mut short = true;
@@ -55,7 +55,7 @@ impl Part<'_> {
 
     // Whether a chunk has many turns, from a dot to the next.
     pub fn is_crowded(self) -> bool
-        requires { (self.x ≤ self.to) × (self.to < length self.row.now) × (self.to ≤ self.x + 64) }
+        requires { self.to ≤ self.x + 64 }
     {
         let mut turns = 0;
         for i in self.x..self.to {
