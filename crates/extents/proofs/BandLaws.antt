@@ -83,10 +83,6 @@ module _ (w : ℕ) (m : List ℕ) (wide : 0 < w) where
       go true e b = refl
       go false e b = sym (capped-step i ∙ ap (λ t. cond t (min (cond (ltb i w) 0 (capped_count w m (i - w)) + 1) max_extent) 0) e)
 
-pub column-extent-le : (w h : ℕ) (m : List ℕ) (i : ℕ) → column_extent w h m i ≤ max_extent
-unfolding extent
-column-extent-le w h m i = omega arith
-
 -- the last row, below which nothing lies
 last_row : (w h : ℕ) (m : List ℕ) → 0 < w → length m ≡ w * h → (i : ℕ) → i < w * h → w * h ≤ i + w → capped_count w m i ≡ column_extent w h m i
 last_row w h m wide q i l k = sym (extent-taken w m wide h q i l ∙ ap (λ t. cond t (column_extent w h m (i + w)) (capped_count w m i)) (and-off (is_ink m i) (is_ink m (i + w)) (ink-past m (i + w) (omega arith))))
@@ -176,9 +172,6 @@ module _ {w h : ℕ} {m : List ℕ} {from i : ℕ} {e : List ℕ} (U : TakesUp w
 
   own-has : get_or e (i - 1) 0 ≡ capped_count w m (i - 1)
   own-has = U.counts (i - 1) (omega arith) (omega arith)
-
-  pub take-bounds : (get_or e (i - 1) 0 ≤ max_extent) × (get_or e (i - 1 + w) 0 ≤ max_extent)
-  take-bounds = let a = own-has in let b = below-has in let c = column-extent-le w h m (i - 1 + w) in (omega arith, omega arith)
 
   pub take-above : (v : ℕ) → v ≡ cond (ltb 0 (get_or m (i - 1) 0) && ltb 0 (get_or m (i - 1 + w) 0)) (get_or e (i - 1 + w) 0) (get_or e (i - 1) 0) → v ≡ column_extent w h m (i - 1)
   unfolding is_ink

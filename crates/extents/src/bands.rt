@@ -8,7 +8,7 @@ ghost use Rattle.extents.specs.rules.Extents.{column_extents};
 ghost use Rattle.extents.specs.stages.Scans.{MaskFits, TakesUp, capped_count, column_extent};
 ghost use Rattle.extents.specs.stages.Bands.{Put, Counts, BandsCounted, count_from, band_count};
 
-use crate::chunks::{is_blank, joins};
+use crate::chunks::{is_blank, joins, taken};
 use memory::MAX_EXTENT;
 
 // The rows of a band.
@@ -177,11 +177,11 @@ impl Plane<'_> {
             return;
         }
         let at = y * self.w;
-        let rest = at + self.w % TAKEN;
+        let first = at + self.w % TAKEN;
         for chunk in (0..self.w / TAKEN).rev() {
-            self.take_chunk(rest + chunk * TAKEN, extents);
+            self.take_chunk(first + chunk * TAKEN, extents);
         }
-        self.take_dots(at, rest, extents);
+        self.take_dots(at, first, extents);
     }
 
     // A chunk of a row: where no dot goes on below, the counts are the extents.
@@ -202,7 +202,7 @@ impl Plane<'_> {
         ensures { Put (column_extent self.entry.w self.entry.h self.entry.mask.now) from to extents.old extents.new }
     {
         for i in (from..to).rev() {
-            extents[i] = take_on(self.mask[i], self.mask[i + self.w], extents[i], extents[i + self.w]);
+            extents[i] = taken(self.mask[i], self.mask[i + self.w], extents[i], extents[i + self.w]);
         }
     }
 }
@@ -255,13 +255,4 @@ fn count_on(b: u8, above: u32) -> u32
     let ink = (0 < b) as u32;
     let more = (above < MAX_EXTENT) as u32;
     ink * (above + more)
-}
-
-// The extent of a dot: that of the dot below where both are ink, else its count; without a branch.
-fn take_on(b: u8, below: u8, own: u32, lower: u32) -> u32
-    requires { (own ≤ max_extent) × (lower ≤ max_extent) }
-    ensures { result ≡ cond (ltb 0 b && ltb 0 below) lower own }
-{
-    let more = ((0 < b) & (0 < below)) as u32;
-    more * lower + (1 - more) * own
 }

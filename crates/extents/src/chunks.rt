@@ -1,5 +1,5 @@
-// Tests of a chunk's dots. Each reads all of them, without an early exit, so that many go at a time.
-ghost use Rattle.std.specs.Prelude.{◌≡◌, true, false, ◌&&◌, ℕ, ◌<◌, length};
+// What is asked of a chunk's dots: without an early exit or a branch on a dot, so that many go at a time.
+ghost use Rattle.std.specs.Prelude.{◌≡◌, cond, true, false, ◌&&◌, ℕ, ◌<◌, length, ltb};
 ghost use Rattle.memory.specs.rules.Masks.{is_ink};
 
 // Whether no dot is ink.
@@ -23,4 +23,11 @@ pub fn joins(dots: &[u8], behind: &[u8]) -> bool
         found |= (0 < *dot) & (0 < *next);
     }
     found
+}
+
+// The extent of a dot: that of the next one, in its row or below, where both are ink, else its own count.
+pub fn taken(b: u8, next: u8, own: u32, later: u32) -> u32
+    ensures { result ≡ cond (ltb 0 b && ltb 0 next) later own }
+{
+    if (0 < b) & (0 < next) { later } else { own }
 }

@@ -4,6 +4,8 @@ ghost use Rattle.memory.specs.rules.Masks.{is_ink};
 ghost use Rattle.extents.specs.stages.Scans.{Starts, RowTo, RowCounted, no_four, short_extent, short_extent_at, PartOfRow};
 ghost use Rattle.extents.specs.stages.Bands.{Put};
 
+use crate::chunks::taken;
+
 // So many turns in a chunk of 64 dots are many: measured, no promise goes by it.
 const MANY: u8 = 8;
 
@@ -158,11 +160,4 @@ fn one_more(b: u8, count: u32) -> u32
     ensures { result ≡ cond (ltb 0 b) (count + 1) 0 }
 {
     if 0 < b { count + 1 } else { 0 }
-}
-
-// What the next dot has where both are ink, else a dot's own.
-fn taken(b: u8, next: u8, own: u32, later: u32) -> u32
-    ensures { result ≡ cond (ltb 0 b && ltb 0 next) later own }
-{
-    if (0 < b) & (0 < next) { later } else { own }
 }
