@@ -36,7 +36,11 @@ pub fn column_extents(mask: &[u8], width: u32, height: u32, extents: &mut [u32])
     requires { MaskFits width height (length mask.now) (length extents.old) }
     ensures { extents.new ≡ over (column_extents width height mask.now) extents.old }
 {
-    let plane = Plane { mask, w: width as usize, h: height as usize };
+    let plane = Plane {
+        mask,
+        w: width as usize,
+        h: height as usize,
+    };
     plane.count_bands(extents);
     for band in (0..plane.h.div_ceil(BAND)).rev() {
         let start = band * BAND;
@@ -202,7 +206,12 @@ impl Plane<'_> {
         ensures { Put (column_extent self.entry.w self.entry.h self.entry.mask.now) from to extents.old extents.new }
     {
         for i in (from..to).rev() {
-            extents[i] = taken(self.mask[i], self.mask[i + self.w], extents[i], extents[i + self.w]);
+            extents[i] = taken(
+                self.mask[i],
+                self.mask[i + self.w],
+                extents[i],
+                extents[i + self.w],
+            );
         }
     }
 }
