@@ -98,10 +98,10 @@ pub filled : (n v : ℕ) → replicate n v ≡ table (λ _. v) n
 filled n v = list-is-table (replicate n v) ∙ (ap (table (λ k. get_or (replicate n v) k 0)) (length-replicate n v) ∙ table-ext (λ k. get_or (replicate n v) k 0) (λ _. v) n (λ k u. get_or-replicate n k v 0 u))
 
 -- one value in every entry of a part
-pub put-filled : {f : ℕ → ℕ} (a b v : ℕ) (s t : List ℕ) → a ≤ b → b ≤ length s → t ≡ table (λ _. v) (length (take (b - a) (drop a s)))
+pub put-filled : {f : ℕ → ℕ} (a b v : ℕ) (s t : List ℕ) → a ≤ b → b ≤ length s → t ≡ replicate (length (take (b - a) (drop a s))) v
     → ((k : ℕ) → a ≤ k → k < b → f k ≡ v) → Put f a b s (put_mid a (b - a) s t)
 put-filled a b v s t l u q h =
-    let r : t ≡ table (λ _. v) (b - a) = q ∙ ap (table (λ _. v)) (length_part a b s l u) in
+    let r : t ≡ table (λ _. v) (b - a) = q ∙ (filled _ v ∙ ap (table (λ _. v)) (length_part a b s l u)) in
     let z : length t ≡ b - a = ap length r ∙ length-table (λ _. v) (b - a) in
     record {
       size = length-put a b s t l u z;

@@ -12,7 +12,7 @@ const MANY: u8 = 8;
 // The dots of a chunk whose extents are told at once.
 const CHUNK: usize = 32;
 
-// A part of a row, from x up to `to`.
+// A part of a row, from x up to `to`, a dot of the row.
 #[derive(Clone, Copy, Debug, PartialEq, Eq)]
 pub struct Part<'a> {
     pub row: &'a [u8],

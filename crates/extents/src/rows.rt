@@ -28,7 +28,7 @@ pub fn row_extents(mask: &[u8], width: u32, height: u32, extents: &mut [u32])
     }
 }
 
-// One row: each dot as a run of its own, then the runs of those chunks where dots join.
+// One row: each dot as a run of its own, then the runs of those chunks where dots join, from one start to the next.
 fn extents_of_row(row: &[u8], extents: &mut [u32])
     requires { (length row.now ≡ length extents.old) × (length row.now ≤ max_mask_side) }
     ensures { extents.new ≡ table (extent (is_ink row.now) (length row.now)) (length row.now) }
