@@ -8,7 +8,7 @@ ghost use Rattle.extents.specs.rules.Extents.{column_extents};
 ghost use Rattle.extents.specs.stages.Scans.{MaskFits, TakesUp, capped_count, column_extent};
 ghost use Rattle.extents.specs.stages.Bands.{Put, Counts, BandsCounted, count_from, band_count};
 
-use crate::chunks::{is_blank, joins, taken};
+use crate::chunks::{is_blank, joins, taken, widen};
 use memory::MAX_EXTENT;
 
 // The rows of a band.
@@ -82,8 +82,9 @@ impl Plane<'_> {
         let counts = &mut chunk[..n];
         self.count_columns(y, x, counts);
         let at = (y + (BAND - 1)) * self.w + x;
+        // Above the first band there is no ink.
         if y == 0 {
-            put_counts(counts, at, extents);
+            widen(counts, at, extents);
             return;
         }
         add_counts(counts, (y - 1) * self.w + x, at, extents);
@@ -224,16 +225,6 @@ fn count_more(dots: &[u8], counts: &mut [u8])
     for (i, dot) in dots.iter().enumerate() {
         let ink = (0 < *dot) as u8;
         counts[i] = ink * (counts[i] + 1);
-    }
-}
-
-// Above the first band there is no ink.
-fn put_counts(counts: &[u8], at: usize, extents: &mut [u32])
-    requires { at + length counts.now ≤ length extents.old }
-    ensures { Put (λ k. get_or counts.now (k - at) 0) at (at + length counts.now) extents.old extents.new }
-{
-    for (i, count) in counts.iter().enumerate() {
-        extents[at + i] = *count as u32;
     }
 }
 

@@ -1,6 +1,7 @@
-// What is asked of a chunk's dots: without an early exit or a branch on a dot, so that many go at a time.
-ghost use Rattle.std.specs.Prelude.{◌≡◌, cond, true, false, ◌&&◌, ℕ, ◌<◌, length, ltb};
+// What is asked of a chunk's dots, and told of them: without an early exit or a branch on a dot, so that many go at a time.
+ghost use Rattle.std.specs.Prelude.{◌≡◌, cond, true, false, ◌&&◌, ℕ, ◌+◌, ◌-◌, ◌≤◌, ◌<◌, length, get_or, ltb};
 ghost use Rattle.memory.specs.rules.Masks.{is_ink};
+ghost use Rattle.extents.specs.stages.Bands.{Put};
 
 // Whether no dot is ink.
 pub fn is_blank(dots: &[u8]) -> bool
@@ -30,4 +31,14 @@ pub fn taken(b: u8, next: u8, own: u32, later: u32) -> u32
     ensures { result ≡ cond (ltb 0 b && ltb 0 next) later own }
 {
     if (0 < b) & (0 < next) { later } else { own }
+}
+
+// Bytes as the words from `at` on.
+pub fn widen(bytes: &[u8], at: usize, extents: &mut [u32])
+    requires { at + length bytes.now ≤ length extents.old }
+    ensures { Put (λ k. get_or bytes.now (k - at) 0) at (at + length bytes.now) extents.old extents.new }
+{
+    for (i, byte) in bytes.iter().enumerate() {
+        extents[at + i] = *byte as u32;
+    }
 }

@@ -4,7 +4,7 @@ ghost use Rattle.memory.specs.rules.Masks.{is_ink};
 ghost use Rattle.extents.specs.stages.Scans.{Starts, RowTo, RowCounted, no_four, short_extent, short_extent_at, PartOfRow};
 ghost use Rattle.extents.specs.stages.Bands.{Put};
 
-use crate::chunks::taken;
+use crate::chunks::{taken, widen};
 
 // So many turns in a chunk of 64 dots are many: measured, no promise goes by it.
 const MANY: u8 = 8;
@@ -142,16 +142,6 @@ fn short_bytes(row: &[u8], x: usize) -> [u8; CHUNK]
         bytes[k] = short_extent(row[i], row[i + 1], row[i + 2], row[i + 3], row[i + 4]);
     }
     bytes
-}
-
-// The bytes as the words from x on.
-fn widen(bytes: &[u8; CHUNK], x: usize, extents: &mut [u32])
-    requires { x + 32 ≤ length extents.old }
-    ensures { Put (λ i. get_or bytes.now (i - x) 0) x (x + 32) extents.old extents.new }
-{
-    for (k, byte) in bytes.iter().enumerate() {
-        extents[x + k] = *byte as u32;
-    }
 }
 
 // One more where there is ink, else none.

@@ -22,7 +22,7 @@ returns-then-y-eq0 c =
     let a = c.args in
     let p = c.requires in
     let e : length c.count_columns.new.counts ≡ a.n = c.count_columns.auto.counts ∙ front a.n p.2 in
-    put_as (put-ends c.put_counts.ensures refl (omega (arith, e))) (count-first-band a.self.w a.y a.x a.n a.self.mask.now c.count_columns.new.counts a.extents.now p.0 p.1 (λ j u. c.count_columns.ensures j (omega (arith, front a.n p.2))) c.if-y-eq0.true)
+    put_as (put-ends c.widen.ensures refl (omega (arith, e))) (count-first-band a.self.w a.y a.x a.n a.self.mask.now c.count_columns.new.counts a.extents.now p.0 p.1 (λ j u. c.count_columns.ensures j (omega (arith, front a.n p.2))) c.if-y-eq0.true)
 
 pub returns : goal.returns
 returns c =
