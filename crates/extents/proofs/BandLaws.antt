@@ -1,5 +1,5 @@
 -- Extents along columns: counts down the columns, taken up again, row by row and band by band.
-use mathlib.Core.Path.{◌≡◌, refl, sym, ap, ◌∙◌}
+use mathlib.Core.Path.{◌≡◌, refl, sym, ap, subst, ◌∙◌}
 use mathlib.Core.Bool.{Bool, true, false, cond, ◌&&◌, ◌||◌, true≢false}
 use mathlib.Core.List.{List}
 use Prim.Native.Nat.{ℕ, suc, ◌+◌, ◌-◌, ◌*◌, ◌/◌, ◌%◌, ◌≤◌, ◌<◌, min}
@@ -9,7 +9,6 @@ use native.Mathlib.Omega.{arith}
 use borrow.Author.Tests.{lt-ltb, le-ltb, eqb-true}
 use lib.ListN.{length, get_or, take, drop}
 use lib.Dec.{ltb, eqb}
-use mir.Val.{bool_byte}
 use Rattle.memory.specs.rules.Words.{over}
 use Rattle.memory.specs.rules.Limits.{max_extent}
 use Rattle.memory.specs.rules.Masks.{is_ink}
@@ -21,7 +20,7 @@ use Rattle.extents.proofs.MaskLaws.{ink_at-dot}
 use Rattle.extents.proofs.OverLaws.{over-unique}
 use Rattle.memory.proofs.PartLaws.{get_or-part, length_part}
 use Rattle.extents.proofs.RunLaws.{behind-le, behind-from, count_next, run_through-off, run_through-next, run_through-counted}
-use Rattle.extents.proofs.ExtentLaws.{ink-zero, ink-past, ink-inside, scan-more, row_upto, row_inside, row_next, row_before}
+use Rattle.extents.proofs.ExtentLaws.{ink-zero, ink-past, ink-inside, scan-more, row_inside, row_next, row_before}
 use Rattle.extents.proofs.PutLaws.{put_same}
 
 -- One dot, from the dot above or below
@@ -84,18 +83,6 @@ module _ (w : ℕ) (m : List ℕ) (wide : 0 < w) where
       go true e b = refl
       go false e b = sym (capped-step i ∙ ap (λ t. cond t (min (cond (ltb i w) 0 (capped_count w m (i - w)) + 1) max_extent) 0) e)
 
--- one more, up to the greatest extent
-pub capped-more : (a : ℕ) → a ≤ max_extent → a + bool_byte (ltb a max_extent) ≡ min (a + 1) max_extent
-capped-more a l = go (dec_lt a max_extent)
-  where
-    go : Dec (a < max_extent) → a + bool_byte (ltb a max_extent) ≡ min (a + 1) max_extent
-    go (yes h) = rw (lt-ltb a max_extent h) (omega arith)
-    go (no h) = rw (le-ltb a max_extent (omega arith)) (omega arith)
-
-pub column-extent-le : (w h : ℕ) (m : List ℕ) (i : ℕ) → column_extent w h m i ≤ max_extent
-unfolding extent
-column-extent-le w h m i = omega arith
-
 -- the last row, below which nothing lies
 last_row : (w h : ℕ) (m : List ℕ) → 0 < w → length m ≡ w * h → (i : ℕ) → i < w * h → w * h ≤ i + w → capped_count w m i ≡ column_extent w h m i
 last_row w h m wide q i l k = sym (extent-taken w m wide h q i l ∙ ap (λ t. cond t (column_extent w h m (i + w)) (capped_count w m i)) (and-off (is_ink m i) (is_ink m (i + w)) (ink-past m (i + w) (omega arith))))
@@ -115,14 +102,14 @@ pub chunk-blank : (a b : ℕ) (m : List ℕ) → b ≤ length m → ((j : ℕ) �
     → (k : ℕ) → a ≤ k → k < b → is_ink m k ≡ false
 chunk-blank a b m l h k x y = sym (part-ink a b m k x y) ∙ h (k - a) (let z = length_part a b m (omega arith) l in omega arith)
 
--- a chunk of n dots of which none goes on in the chunk w behind it
-pub chunk-apart : (a n w : ℕ) (m : List ℕ) → a + n ≤ length m
-    → ((j : ℕ) → j < length (take (a + n - a) (drop a m)) → (is_ink (take (a + n - a) (drop a m)) j && is_ink (take (a + w + n - (a + w)) (drop (a + w) m)) j) ≡ false)
-    → (k : ℕ) → a ≤ k → k < a + n → (is_ink m k && is_ink m (k + w)) ≡ false
-chunk-apart a n w m l h k x y =
+-- a chunk of which no dot goes on in the chunk w behind it
+pub chunk-apart : (a b w : ℕ) (m : List ℕ) → b ≤ length m
+    → ((j : ℕ) → j < length (take (b - a) (drop a m)) → (is_ink (take (b - a) (drop a m)) j && is_ink (take (b + w - (a + w)) (drop (a + w) m)) j) ≡ false)
+    → (k : ℕ) → a ≤ k → k < b → (is_ink m k && is_ink m (k + w)) ≡ false
+chunk-apart a b w m l h k x y =
     let z : k + w - (a + w) ≡ k - a = omega arith in
-    let q = ap (is_ink (take (a + w + n - (a + w)) (drop (a + w) m))) (sym z) ∙ part-ink (a + w) (a + w + n) m (k + w) (omega arith) (omega arith) in
-    sym (λ i. part-ink a (a + n) m k x y i && q i) ∙ h (k - a) (let z = length_part a (a + n) m (omega arith) l in omega arith)
+    let q = ap (is_ink (take (b + w - (a + w)) (drop (a + w) m))) (sym z) ∙ part-ink (a + w) (b + w) m (k + w) (omega arith) (omega arith) in
+    sym (λ i. part-ink a b m k x y i && q i) ∙ h (k - a) (let z = length_part a b m (omega arith) l in omega arith)
 
 -- no ink so far, nor here
 pub blank-more : (dots : List ℕ) (i : ℕ) (blank : Bool) → (blank ≡ true → (k : ℕ) → k < i → is_ink dots k ≡ false) → (blank && eqb (get_or dots i 0) 0) ≡ true
@@ -154,9 +141,6 @@ module _ {w : ℕ} {m : List ℕ} {i to : ℕ} {e : List ℕ} (C : Counts w m i 
   above-has : get_or e (i - w) 0 ≡ capped_count w m (i - w)
   above-has = let z = C.wide in C.counts (i - w) (omega arith) (omega arith)
 
-  pub above-le : get_or e (i - w) 0 ≤ max_extent
-  above-le = let a = above-has in omega arith
-
   pub count-below : (v : ℕ) → v ≡ cond (ltb 0 (get_or m i 0)) (min (get_or e (i - w) 0 + 1) max_extent) 0 → v ≡ capped_count w m i
   unfolding is_ink
   count-below v q =
@@ -179,21 +163,6 @@ counts-next {w} {m} {from} {to} {i} {s} {e} j C P l a b =
     go k x y (yes d) = P.lower k d ∙ C.counts k (omega arith) d
     go k x y (no d) = P.put k (omega arith) y
 
--- the next row of a band
-pub counts-row : {w : ℕ} {m : List ℕ} {start end y : ℕ} {s e : List ℕ} → Counts w m (start * w) (end * w) s → Put (capped_count w m) (start * w) (y * w) s e → start ≤ y → y < end → Counts w m (y * w) (y * w + w) e
-counts-row {w} {m} {start} {end} {y} C P l u = counts-next (y * w + w) C P (mul-le-mul_right w l) (omega arith) (row_upto w end y u)
-
--- what is put past them changes nothing
-pub counts-kept : {w : ℕ} {m : List ℕ} {from to a b : ℕ} {f : ℕ → ℕ} {s e : List ℕ} → Counts w m from to s → Put f a b s e → from ≤ a → Counts w m from to e
-counts-kept C P l =
-    record {
-      wide = C.wide;
-      order = C.order;
-      inside = C.inside;
-      room = let z = C.room in let y = P.size in omega arith;
-      counts = λ k x y. P.lower k (omega arith) ∙ C.counts k x y;
-    }
-
 -- Extents, going up
 
 -- above a row that has its extents
@@ -203,9 +172,6 @@ module _ {w h : ℕ} {m : List ℕ} {from i : ℕ} {e : List ℕ} (U : TakesUp w
 
   own-has : get_or e (i - 1) 0 ≡ capped_count w m (i - 1)
   own-has = U.counts (i - 1) (omega arith) (omega arith)
-
-  pub take-bounds : (get_or e (i - 1) 0 ≤ max_extent) × (get_or e (i - 1 + w) 0 ≤ max_extent)
-  take-bounds = let a = own-has in let b = below-has in let c = column-extent-le w h m (i - 1 + w) in (omega arith, omega arith)
 
   pub take-above : (v : ℕ) → v ≡ cond (ltb 0 (get_or m (i - 1) 0) && ltb 0 (get_or m (i - 1 + w) 0)) (get_or e (i - 1 + w) 0) (get_or e (i - 1) 0) → v ≡ column_extent w h m (i - 1)
   unfolding is_ink
@@ -317,9 +283,6 @@ module _ (w y x n : ℕ) (m counts e : List ℕ) (C : Counts w m (y * w) ((y + 3
       C.counts ((y - 1) * w + x + j) (omega arith) (omega arith)
       ∙ (ap (capped_count w m) z ∙ (capped_at w (x + j) (y - 1) m (omega arith) ∙ ap (ends_before w m (x + j)) (let s : y - 1 + 1 ≡ y = omega arith in s)))
 
-  pub above-band-le : 0 < y → (j : ℕ) → j < n → get_or e ((y - 1) * w + x + j) 0 ≤ max_extent
-  above-band-le l j u = let a = above-band l j u in omega arith
-
   -- from the counts of the row above the band
   pub count-through-band : 0 < y → (k : ℕ) → (y + 31) * w + x ≤ k → k < (y + 31) * w + x + n
       → band_count (get_or counts (k - ((y + 31) * w + x)) 0) (get_or e ((y - 1) * w + x + (k - ((y + 31) * w + x))) 0) ≡ capped_count w m k
@@ -344,28 +307,10 @@ module _ (w y x n : ℕ) (m counts e : List ℕ) (C : Counts w m (y * w) ((y + 3
 
 -- Bands
 
-pub bands-none : (w : ℕ) (m s : List ℕ) → BandsCounted w m 0 s s
-bands-none w m s =
-    record {
-      size = refl;
-      counted = λ b z l k u v. absurd (let e : b * w ≡ 0 * w = ap (λ t. t * w) (let q : b ≡ 0 = omega arith in q) in omega arith);
-      past = λ k l. refl;
-    }
-
 module _ {w h : ℕ} {m s e : List ℕ} (F : MaskFits w h (length m) (length s)) where
   module _ {y : ℕ} (B : BandsCounted w m y s e) (whole : y % 32 ≡ 0) (room : y + 32 ≤ h) where
     band-inside : (y + 32) * w ≤ length m
     band-inside = let a : (y + 32) * w ≤ h * w = mul-le-mul_right w room in let b = mul_comm h w in omega (arith, F.dots)
-
-    pub bands-counts : Counts w m (y * w) ((y + 32) * w) e
-    bands-counts =
-        record {
-          wide = F.wide;
-          order = omega arith;
-          inside = band-inside;
-          room = omega (arith, F.dots, F.room, B.size);
-          counts = B.counted y whole (omega arith);
-        }
 
     -- one band more
     pub bands-more : {t : List ℕ} → Put (capped_count w m) ((y + 31) * w) ((y + 31) * w + w) e t → BandsCounted w m (y + 32) s t
@@ -384,21 +329,13 @@ module _ {w h : ℕ} {m s e : List ℕ} (F : MaskFits w h (length m) (length s))
             let q : b * w ≤ y * w = mul-le-mul_right w (let r : b ≤ y = omega arith in r) in
             P.lower k (omega arith) ∙ B.counted b z (omega arith) k u v
 
--- no whole band is left
-pub bands-last : {w : ℕ} {m s e : List ℕ} {y : ℕ} (h : ℕ) → BandsCounted w m y s e → y % 32 ≡ 0 → h < y + 32 → BandsCounted w m h s e
-bands-last h B whole l = record { size = B.size; counted = λ b z u. B.counted b z (omega arith); past = B.past }
-
 -- the bands from row `end` on have their extents
 pub record BandsDone (w h : ℕ) (m : List ℕ) (end : ℕ) (old new : List ℕ) : Type 0 where
   pub bands : BandsCounted w m end old new
   pub final : (k : ℕ) → end * w ≤ k → k < w * h → get_or new k 0 ≡ column_extent w h m k
 
-pub bands-begun : {w h : ℕ} {m s e : List ℕ} → BandsCounted w m h s e → BandsDone w h m h e e
-bands-begun {w} {h} B =
-    record {
-      bands = record { size = refl; counted = B.counted; past = λ k l. refl };
-      final = λ k l u. absurd (let z = mul_comm w h in omega arith);
-    }
+pub done-ends : {w h a b : ℕ} {m s e : List ℕ} → BandsDone w h m a s e → a ≡ b → BandsDone w h m b s e
+done-ends {w} {h} {a} {b} {m} {s} {e} D q = subst (λ k. BandsDone w h m k s e) q D
 
 pub plane-kept : {w h n a b : ℕ} → MaskFits w h n a → b ≡ a → MaskFits w h n b
 plane-kept F e = record { wide = F.wide; narrow = F.narrow; high = F.high; low = F.low; few = F.few; dots = F.dots; room = let z = F.room in omega arith }
@@ -418,19 +355,6 @@ module _ {w h end : ℕ} {m s e : List ℕ} (F : MaskFits w h (length m) (length
       }
 
   module _ {t : List ℕ} (P : Put (capped_count w m) (start * w) (end * w) e t) where
-    pub band-takes : TakesUp w h m (start * w) (end * w) t
-    band-takes =
-        record {
-          wide = F.wide;
-          few = F.few;
-          size = F.dots;
-          order = mul-le-mul_right w order;
-          inside = upto;
-          room = omega (arith, F.room, D.bands.size, P.size);
-          counts = P.put;
-          final = λ k l u. P.upper k l ∙ D.final k l u;
-        }
-
     -- one band more
     pub band-done : {o : List ℕ} → Put (column_extent w h m) (start * w) (end * w) t o → BandsDone w h m start s o
     band-done {o} Q =

@@ -2,14 +2,13 @@
 use mathlib.Core.Path.{◌≡◌, refl, sym, ap, ◌∙◌, subst}
 use mathlib.Core.Bool.{Bool, true, false, cond, not, ◌&&◌, true≢false}
 use mathlib.Core.List.{List}
-use Prim.Native.Nat.{◌*◌, ℕ, zero, suc, ◌+◌, ◌-◌, ◌≤◌, ◌<◌, min}
+use Prim.Native.Nat.{ℕ, zero, suc, ◌+◌, ◌-◌, ◌≤◌, ◌<◌, min}
 use native.Mathlib.Nat.{le_refl}
 use native.Mathlib.Decide.{ℕ_discrete, dec_lt}
 use native.Mathlib.Omega.{arith}
 use lib.ListN.{length, get_or, set, length-set}
 use lib.Seq.{get_or-set_same, get_or-set_other, ext_get_or}
 use lib.Dec.{ltb}
-use mir.Val.{bool_byte}
 use Rattle.memory.specs.rules.Lists.{table}
 use Rattle.memory.proofs.TableLaws.{length-table, get_or-table}
 use Rattle.memory.specs.rules.Limits.{max_extent}
@@ -19,7 +18,7 @@ use Rattle.extents.specs.stages.Scans.{Starts, clear, blank, until, RowTo, RowPa
 use Rattle.extents.specs.stages.Bands.{Put}
 use Rattle.extents.proofs.OverLaws.{until-below, until-from}
 use Rattle.extents.proofs.RunLaws.{behind-on, behind-off, ahead-on, ahead-off, run_through-on, run_through-off, run_through-next, run_through-counted, starts-run}
-use Rattle.extents.proofs.ExtentLaws.{ink-zero, bit-times, row-size}
+use Rattle.extents.proofs.ExtentLaws.{ink-zero, row-size}
 
 -- Starts
 
@@ -80,10 +79,6 @@ module _ {row : List ℕ} {x i to : ℕ} {f g : ℕ → ℕ} {e : List ℕ} wher
       at : (k : ℕ) → i ≤ k → k < to → Dec (k ≡ i) → get_or (set e i v) k 0 ≡ g k
       at k a b (yes z) = ap (λ j. get_or (set e i v) j 0) z ∙ (get_or-set_same e i v 0 (let s = S.size in omega arith) ∙ (q ∙ ap g (sym z)))
       at k a b (no z) = get_or-set_other e i k v 0 z ∙ S.second k (omega arith) b
-
-  -- a second part with no dots may be any
-  pub parts-other : RowParts row x i to f g e → to ≤ i → (h : ℕ → ℕ) → RowParts row x i to f h e
-  parts-other S l h = record { size = S.size; below = S.below; first = S.first; second = λ k a b. absurd (omega arith); above = S.above }
 
 -- all have their extents
 row-whole : (row : List ℕ) (to : ℕ) (e : List ℕ) → to ≤ length row → Starts (is_ink row) to → length e ≡ length row
@@ -328,27 +323,3 @@ short-more row x i true h q k l u = go (ℕ_discrete k i)
     go : Dec (k ≡ i) → no_four row k
     go (yes z) = subst (λ j. no_four row j) (sym z) (turned (ltb 0 (get_or row i 0)) (ltb 0 (get_or row (i + 1) 0)) (ltb 0 (get_or row (i + 2) 0)) (ltb 0 (get_or row (i + 3) 0)) q)
     go (no z) = h refl k l (omega arith)
-
--- one side of a short run, as the code counts it
-pub side-bits : (near far : Bool) → bool_byte near + bool_byte (near && far) ≡ cond near (cond far 2 1) 0
-side-bits true true = refl
-side-bits true false = refl
-side-bits false far = refl
-
-pub side-bits-turned : (far near : Bool) → bool_byte near + bool_byte (far && near) ≡ cond near (cond far 2 1) 0
-side-bits-turned true true = refl
-side-bits-turned true false = refl
-side-bits-turned false true = refl
-side-bits-turned false false = refl
-
-pub side-small : (near far : Bool) → cond near (cond far 2 1) 0 ≤ 2
-side-small true true = le_refl 2
-side-small true false = omega arith
-side-small false far = omega arith
-
-pub short-code : (a b dot d e : Bool) → bool_byte dot * (1 + (bool_byte b + bool_byte (a && b)) + (bool_byte d + bool_byte (d && e))) ≡ short_extent a b dot d e
-short-code a b dot d e = (λ i. bool_byte dot * (1 + side-bits-turned a b i + side-bits d e i)) ∙ bit-times dot (1 + cond b (cond a 2 1) 0 + cond d (cond e 2 1) 0)
-
-pub short-small : (a b dot d e : Bool) → short_extent a b dot d e ≤ 5
-short-small a b true d e = let u = side-small b a in let v = side-small d e in omega arith
-short-small a b false d e = omega arith

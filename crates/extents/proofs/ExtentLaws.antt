@@ -1,6 +1,6 @@
 -- Extents as loops find them, run by run along a row.
 use mathlib.Core.Path.{◌≡◌, refl, sym, ap, ◌∙◌}
-use mathlib.Core.Bool.{Bool, true, false, cond, ◌&&◌, ◌||◌, true≢false}
+use mathlib.Core.Bool.{Bool, true, false, cond, not, beq, ◌&&◌, true≢false}
 use mathlib.Core.List.{List, ◌++◌}
 use Prim.Native.Nat.{ℕ, suc, ◌+◌, ◌-◌, ◌*◌, ◌≤◌, ◌<◌, min}
 use native.Mathlib.Nat.{le_refl, mul_comm, suc-mul, mul-le-mul_right}
@@ -27,10 +27,6 @@ pub ink-zero : (m : List ℕ) (i : ℕ) → get_or m i 0 ≡ 0 → is_ink m i �
 unfolding is_ink
 ink-zero m i e = le-ltb 0 (get_or m i 0) (omega arith)
 
-pub ink-nonzero : (m : List ℕ) (i : ℕ) → (get_or m i 0 ≡ 0 → ⊥) → is_ink m i ≡ true
-unfolding is_ink
-ink-nonzero m i n = lt-ltb 0 (get_or m i 0) (omega arith)
-
 pub ink-past : (m : List ℕ) (i : ℕ) → length m ≤ i → is_ink m i ≡ false
 ink-past m i l = ink-zero m i (get_or-eq_default m 0 l)
 
@@ -43,6 +39,19 @@ ink-inside m i e = go (dec_lt i (length m))
 
 -- Scans
 
+-- what `!=` between two tests tells
+pub same-bit : (a b : Bool) → not (beq a b) ≡ false → a ≡ b
+same-bit true true e = refl
+same-bit false false e = refl
+same-bit true false e = absurd (true≢false e)
+same-bit false true e = absurd (true≢false e)
+
+pub other-bit : (a b : Bool) → not (beq a b) ≡ true → a ≡ not b
+other-bit true false e = refl
+other-bit false true e = refl
+other-bit true true e = absurd (true≢false (sym e))
+other-bit false false e = absurd (true≢false (sym e))
+
 pub scan-none : (p : ℕ → Bool) (b : Bool) (x : ℕ) (k : ℕ) → x ≤ k → k < x → p k ≡ b
 scan-none p b x k h l = absurd (omega arith)
 
@@ -52,13 +61,6 @@ scan-more p b x e h t k l u = go (dec_lt k e)
     go : Dec (k < e) → p k ≡ b
     go (yes d) = h k l d
     go (no d) = ap p (let z : k ≡ e = omega arith in z) ∙ t
-
--- none found so far, nor here
-pub goes-on-more : (m : List ℕ) (w x e : ℕ) (found : Bool) → (found ≡ false → (k : ℕ) → x ≤ k → k < e → (is_ink m k && is_ink m (k + w)) ≡ false)
-    → (found || (ltb 0 (get_or m e 0) && ltb 0 (get_or m (e + w) 0))) ≡ false → (k : ℕ) → x ≤ k → k < e + 1 → (is_ink m k && is_ink m (k + w)) ≡ false
-unfolding is_ink
-goes-on-more m w x e false h q = scan-more (λ k. is_ink m k && is_ink m (k + w)) false x e (h refl) q
-goes-on-more m w x e true h q = absurd (true≢false q)
 
 -- A row, run by run
 
@@ -138,9 +140,6 @@ row_inside w h y l = let a = row_upto w h y l in let c = mul_comm h w in omega a
 pub row_next : (w y : ℕ) → y * w + w ≡ (y + 1) * w
 row_next w y = let b : suc y * w ≡ y * w + w = suc-mul y w in sym b ∙ ap (λ k. k * w) (let e : suc y ≡ y + 1 = omega arith in e)
 
-pub row_from : (w y : ℕ) → 1 ≤ y → w ≤ y * w
-row_from w y l = let a : 1 * w ≤ y * w = mul-le-mul_right w l in omega arith
-
 pub row_before : (w y : ℕ) → 0 < y → (y - 1) * w + w ≡ y * w
 row_before w y l = row_next w (y - 1) ∙ ap (λ k. k * w) (let z : y - 1 + 1 ≡ y = omega arith in z)
 
@@ -158,14 +157,6 @@ bit-times-le false a = omega arith
 pub bit_le : (t : Bool) → bool_byte t ≤ 1
 bit_le true = omega arith
 bit_le false = omega arith
-
-pub rest-times-le : (t : Bool) (a : ℕ) → (1 - bool_byte t) * a ≤ a
-rest-times-le true a = omega arith
-rest-times-le false a = omega arith
-
-pub bit-choice : (t : Bool) (a b : ℕ) → bool_byte t * a + (1 - bool_byte t) * b ≡ cond t a b
-bit-choice true a b = omega arith
-bit-choice false a b = omega arith
 
 -- one chunk of a row with one value
 pub chunk-filled : (f g : ℕ → ℕ) (n : ℕ) (s e t : List ℕ) (x y v : ℕ) → n ≤ length s → x ≤ y → y ≤ n → e ≡ over (table (until x f g) n) s

@@ -6,11 +6,12 @@ use native.Mathlib.Nat.{le_refl}
 use native.Mathlib.Decide.{ℕ_discrete, dec_lt}
 use native.Mathlib.Omega.{arith}
 use borrow.Rule.Slice.PartMut.{put_mid}
-use lib.ListN.{length, get_or, take, drop, set, length-set}
+use lib.ListN.{length, get_or, take, drop, set, replicate, length-set, length-replicate, get_or-replicate}
 use lib.Seq.{get_or-set_same, get_or-set_other}
 use Rattle.extents.specs.stages.Bands.{Put}
 use Rattle.memory.specs.rules.Lists.{table}
-use Rattle.memory.proofs.TableLaws.{length-table, get_or-table}
+use Rattle.memory.proofs.TableLaws.{length-table, get_or-table, table-ext}
+use Rattle.memory.proofs.CountLaws.{list-is-table}
 use Rattle.memory.proofs.PartLaws.{length_part, length-put, get_or-put}
 
 -- what stands there already
@@ -92,11 +93,15 @@ put-more-down {f} {a} {b} {c} {s} {e} {t} P Q l u =
     go k x y (yes d) = Q.put k x d
     go k x y (no d) = Q.upper k (omega arith) ∙ P.put k (omega arith) y
 
+-- one number throughout, as a table
+pub filled : (n v : ℕ) → replicate n v ≡ table (λ _. v) n
+filled n v = list-is-table (replicate n v) ∙ (ap (table (λ k. get_or (replicate n v) k 0)) (length-replicate n v) ∙ table-ext (λ k. get_or (replicate n v) k 0) (λ _. v) n (λ k u. get_or-replicate n k v 0 u))
+
 -- one value in every entry of a part
-pub put-filled : {f : ℕ → ℕ} (a b v : ℕ) (s t : List ℕ) → a ≤ b → b ≤ length s → t ≡ table (λ _. v) (length (take (b - a) (drop a s)))
+pub put-filled : {f : ℕ → ℕ} (a b v : ℕ) (s t : List ℕ) → a ≤ b → b ≤ length s → t ≡ replicate (length (take (b - a) (drop a s))) v
     → ((k : ℕ) → a ≤ k → k < b → f k ≡ v) → Put f a b s (put_mid a (b - a) s t)
 put-filled a b v s t l u q h =
-    let r : t ≡ table (λ _. v) (b - a) = q ∙ ap (table (λ _. v)) (length_part a b s l u) in
+    let r : t ≡ table (λ _. v) (b - a) = q ∙ (filled _ v ∙ ap (table (λ _. v)) (length_part a b s l u)) in
     let z : length t ≡ b - a = ap length r ∙ length-table (λ _. v) (b - a) in
     record {
       size = length-put a b s t l u z;

@@ -8,7 +8,8 @@ ghost use Rattle.extents.specs.rules.Extents.{column_extents};
 ghost use Rattle.extents.specs.stages.Scans.{MaskFits, TakesUp, capped_count, column_extent};
 ghost use Rattle.extents.specs.stages.Bands.{Put, Counts, BandsCounted, count_from, band_count};
 
-use memory::{MAX_EXTENT, fill_words};
+use crate::chunks::{is_blank, joins, taken, widen};
+use memory::MAX_EXTENT;
 
 // The rows of a band.
 const BAND: usize = 32;
@@ -21,75 +22,198 @@ const TAKEN: usize = 32;
 // All rows of a band, as a column counts them.
 const ALL: u8 = 32;
 
+// A mask w wide and h high.
+#[derive(Clone, Copy, Debug, PartialEq, Eq)]
+struct Plane<'a> {
+    mask: &'a [u8],
+    w: usize,
+    h: usize,
+}
+
 // Along the columns: down, each dot counts the ink that ends at it; up again, each dot that goes on below takes what the dot below
 // has. Row by row, so that a row's dots are independent.
 pub fn column_extents(mask: &[u8], width: u32, height: u32, extents: &mut [u32])
     requires { MaskFits width height (length mask.now) (length extents.old) }
     ensures { extents.new ≡ over (column_extents width height mask.now) extents.old }
 {
-    let w = width as usize;
-    let h = height as usize;
-    count_bands(mask, w, h, extents);
-    let mut end = h;
-    while 0 < end {
-        let start = (end - 1) / BAND * BAND;
-        count_band(mask, w, start, end, extents);
-        take_band(mask, w, h, start, end, extents);
-        end = start;
+    let plane = Plane {
+        mask,
+        w: width as usize,
+        h: height as usize,
+    };
+    plane.count_bands(extents);
+    for band in (0..plane.h.div_ceil(BAND)).rev() {
+        let start = band * BAND;
+        let end = plane.h.min(start + BAND);
+        plane.count_band(start, end, extents);
+        plane.take_band(start, end, extents);
     }
 }
 
-// The counts of the last row of every whole band, from the mask alone: with them each band can be counted by itself.
-fn count_bands(mask: &[u8], w: usize, h: usize, extents: &mut [u32])
-    requires { MaskFits w h (length mask.now) (length extents.old) }
-    ensures { BandsCounted w mask.now h extents.old extents.new }
-{
-    let mut y: usize = 0;
-    while BAND <= h - y {
-        count_last_row(mask, w, y, extents);
-        y += BAND;
+impl Plane<'_> {
+    // The counts of the last row of every whole band, from the mask alone: with them each band can be counted by itself.
+    fn count_bands(self, extents: &mut [u32])
+        requires { MaskFits self.w self.h (length self.mask.now) (length extents.old) }
+        ensures { BandsCounted self.entry.w self.entry.mask.now self.entry.h extents.old extents.new }
+    {
+        for band in 0..self.h / BAND {
+            self.count_last_row(band * BAND, extents);
+        }
     }
-}
 
-// The counts of the last row of the band from row y on, a chunk of its columns at a time.
-fn count_last_row(mask: &[u8], w: usize, y: usize, extents: &mut [u32])
-    requires { Counts w mask.now (y * w) ((y + 32) * w) extents.old }
-    ensures { Put (capped_count w mask.now) ((y + 31) * w) ((y + 31) * w + w) extents.old extents.new }
-{
-    let mut x: usize = 0;
-    while CHUNK <= w - x {
-        count_last_chunk(mask, w, y, x, CHUNK, extents);
-        x += CHUNK;
+    // The counts of the last row of the band from row y on, a chunk of its columns at a time.
+    fn count_last_row(self, y: usize, extents: &mut [u32])
+        requires { Counts self.w self.mask.now (y * self.w) ((y + 32) * self.w) extents.old }
+        ensures { Put (capped_count self.entry.w self.entry.mask.now) ((y + 31) * self.entry.w) ((y + 31) * self.entry.w + self.entry.w) extents.old extents.new }
+    {
+        for chunk in 0..self.w / CHUNK {
+            self.count_last_chunk(y, chunk * CHUNK, CHUNK, extents);
+        }
+        let rest = self.w % CHUNK;
+        self.count_last_chunk(y, self.w - rest, rest, extents);
     }
-    count_last_chunk(mask, w, y, x, w - x, extents);
-}
 
-// The same of n columns from x on.
-fn count_last_chunk(mask: &[u8], w: usize, y: usize, x: usize, n: usize, extents: &mut [u32])
-    requires { (Counts w mask.now (y * w) ((y + 32) * w) extents.old) × (x + n ≤ w) × (n ≤ 64) }
-    ensures { Put (capped_count w mask.now) ((y + 31) * w + x) ((y + 31) * w + x + n) extents.old extents.new }
-{
-    let mut counts = [0u8; CHUNK];
-    count_columns(mask, w, y, x, n, &mut counts);
-    let at = (y + (BAND - 1)) * w + x;
-    if y == 0 {
-        put_counts(&counts, n, at, extents);
-        return;
+    // The same of n columns from x on.
+    fn count_last_chunk(self, y: usize, x: usize, n: usize, extents: &mut [u32])
+        requires { (Counts self.w self.mask.now (y * self.w) ((y + 32) * self.w) extents.old) × (x + n ≤ self.w) × (n ≤ 64) }
+        ensures { Put (capped_count self.entry.w self.entry.mask.now) ((y + 31) * self.entry.w + x) ((y + 31) * self.entry.w + x + n) extents.old extents.new }
+    {
+        let mut chunk = [0u8; CHUNK];
+        let counts = &mut chunk[..n];
+        self.count_columns(y, x, counts);
+        let at = (y + (BAND - 1)) * self.w + x;
+        // Above the first band there is no ink.
+        if y == 0 {
+            widen(counts, at, extents);
+            return;
+        }
+        add_counts(counts, (y - 1) * self.w + x, at, extents);
     }
-    add_counts(&counts, n, (y - 1) * w + x, at, extents);
-}
 
-// The ink that ends at the band's last row, of its own rows alone; in bytes, so that many columns go at a time.
-fn count_columns(mask: &[u8], w: usize, y: usize, x: usize, n: usize, counts: &mut [u8])
-    requires { (0 < w) × ((y + 32) * w ≤ length mask.now) × (x + n ≤ w) × (n ≤ length counts.old) × ((k : ℕ) → k < n → get_or counts.old k 0 ≡ 0) }
-    ensures { (k : ℕ) → k < n → get_or counts.new k 0 ≡ count_from w mask.now y (x + k) 32 }
-{
-    let mut r: usize = 0;
-    while r < BAND {
-        let from = (y + r) * w + x;
-        let to = from + n;
-        count_more(&mask[from..to], counts);
-        r += 1;
+    // The ink that ends at the band's last row, of its own rows alone; in bytes, so that many columns go at a time.
+    #[tactic(auto, using(crate::proofs::ExtentLaws::row_upto, crate::proofs::BandLaws::rows_fit))]
+    fn count_columns(self, y: usize, x: usize, counts: &mut [u8])
+        requires { (0 < self.w) × ((y + 32) * self.w ≤ length self.mask.now) × (x + length counts.old ≤ self.w) × ((k : ℕ) → k < length counts.old → get_or counts.old k 0 ≡ 0) }
+        ensures { (k : ℕ) → k < length counts.old → get_or counts.new k 0 ≡ count_from self.entry.w self.entry.mask.now y (x + k) 32 }
+    {
+        for r in 0..BAND {
+            let from = (y + r) * self.w + x;
+            let to = from + counts.len();
+            count_more(&self.mask[from..to], counts);
+        }
+    }
+
+    // The counts of the band's rows from the row above it, where there is one.
+    fn count_band(self, start: usize, end: usize, extents: &mut [u32])
+        requires { (Counts self.w self.mask.now (start * self.w) (end * self.w) extents.old) × (start ≤ end) }
+        ensures { Put (capped_count self.entry.w self.entry.mask.now) (start * self.entry.w) (end * self.entry.w) extents.old extents.new }
+    {
+        for y in start..end {
+            self.count_row(y, extents);
+        }
+    }
+
+    // Row y, a chunk at a time.
+    fn count_row(self, y: usize, extents: &mut [u32])
+        requires { Counts self.w self.mask.now (y * self.w) (y * self.w + self.w) extents.old }
+        ensures { Put (capped_count self.entry.w self.entry.mask.now) (y * self.entry.w) (y * self.entry.w + self.entry.w) extents.old extents.new }
+    {
+        if y == 0 {
+            self.count_first_row(extents);
+            return;
+        }
+        let at = y * self.w;
+        for chunk in 0..self.w / CHUNK {
+            self.count_chunk(at + chunk * CHUNK, extents);
+        }
+        let end = at + self.w;
+        self.count_dots(end - self.w % CHUNK, end, extents);
+    }
+
+    // Nothing lies above the first row.
+    fn count_first_row(self, extents: &mut [u32])
+        requires { (0 < self.w) × (self.w ≤ length self.mask.now) × (length self.mask.now ≤ length extents.old) }
+        ensures { Put (capped_count self.entry.w self.entry.mask.now) 0 self.entry.w extents.old extents.new }
+    {
+        for i in 0..self.w {
+            extents[i] = count_on(self.mask[i], 0);
+        }
+    }
+
+    // A chunk of a row: where all is blank, nothing is counted.
+    fn count_chunk(self, from: usize, extents: &mut [u32])
+        requires { (Counts self.w self.mask.now from (from + 64) extents.old) × (self.w ≤ from) }
+        ensures { Put (capped_count self.entry.w self.entry.mask.now) from (from + 64) extents.old extents.new }
+    {
+        let to = from + CHUNK;
+        if is_blank(&self.mask[from..to]) {
+            extents[from..to].fill(0);
+            return;
+        }
+        self.count_dots(from, to, extents);
+    }
+
+    // From the dots above.
+    fn count_dots(self, from: usize, to: usize, extents: &mut [u32])
+        requires { (Counts self.w self.mask.now from to extents.old) × (self.w ≤ from) }
+        ensures { Put (capped_count self.entry.w self.entry.mask.now) from to extents.old extents.new }
+    {
+        for i in from..to {
+            extents[i] = count_on(self.mask[i], extents[i - self.w]);
+        }
+    }
+
+    // From the band's last row up: below it all is as it is to be.
+    fn take_band(self, start: usize, end: usize, extents: &mut [u32])
+        requires { (TakesUp self.w self.h self.mask.now (start * self.w) (end * self.w) extents.old) × (start ≤ end) }
+        ensures { Put (column_extent self.entry.w self.entry.h self.entry.mask.now) (start * self.entry.w) (end * self.entry.w) extents.old extents.new }
+    {
+        for y in (start..end).rev() {
+            self.take_row(y, extents);
+        }
+    }
+
+    // Row y from the row below, a chunk at a time; the plane's last row has its extents.
+    fn take_row(self, y: usize, extents: &mut [u32])
+        requires { TakesUp self.w self.h self.mask.now (y * self.w) (y * self.w + self.w) extents.old }
+        ensures { Put (column_extent self.entry.w self.entry.h self.entry.mask.now) (y * self.entry.w) (y * self.entry.w + self.entry.w) extents.old extents.new }
+    {
+        if y + 1 == self.h {
+            return;
+        }
+        let at = y * self.w;
+        let first = at + self.w % TAKEN;
+        for chunk in (0..self.w / TAKEN).rev() {
+            self.take_chunk(first + chunk * TAKEN, extents);
+        }
+        self.take_dots(at, first, extents);
+    }
+
+    // A chunk of a row: where no dot goes on below, the counts are the extents.
+    fn take_chunk(self, from: usize, extents: &mut [u32])
+        requires { (TakesUp self.w self.h self.mask.now from (from + 32) extents.old) × (from + 32 + self.w ≤ self.w * self.h) }
+        ensures { Put (column_extent self.entry.w self.entry.h self.entry.mask.now) from (from + 32) extents.old extents.new }
+    {
+        let to = from + TAKEN;
+        if !joins(&self.mask[from..to], &self.mask[from + self.w..to + self.w]) {
+            return;
+        }
+        self.take_dots(from, to, extents);
+    }
+
+    // From the dots below.
+    fn take_dots(self, from: usize, to: usize, extents: &mut [u32])
+        requires { (TakesUp self.w self.h self.mask.now from to extents.old) × (to + self.w ≤ self.w * self.h) }
+        ensures { Put (column_extent self.entry.w self.entry.h self.entry.mask.now) from to extents.old extents.new }
+    {
+        for i in (from..to).rev() {
+            extents[i] = taken(
+                self.mask[i],
+                self.mask[i + self.w],
+                extents[i],
+                extents[i + self.w],
+            );
+        }
     }
 }
 
@@ -104,25 +228,13 @@ fn count_more(dots: &[u8], counts: &mut [u8])
     }
 }
 
-// Above the first band there is no ink.
-fn put_counts(counts: &[u8], n: usize, at: usize, extents: &mut [u32])
-    requires { (n ≤ length counts.now) × (at + n ≤ length extents.old) }
-    ensures { Put (λ k. get_or counts.now (k - at) 0) at (at + n) extents.old extents.new }
-{
-    let mut i: usize = 0;
-    while i < n {
-        extents[at + i] = counts[i] as u32;
-        i += 1;
-    }
-}
-
 // From the counts of the row above the band.
-fn add_counts(counts: &[u8], n: usize, above: usize, at: usize, extents: &mut [u32])
-    requires { (n ≤ length counts.now) × (above + n ≤ at) × (at + n ≤ length extents.old) × ((k : ℕ) → k < n → get_or extents.old (above + k) 0 ≤ max_extent) }
-    ensures { Put (λ k. band_count (get_or counts.now (k - at) 0) (get_or extents.old (above + (k - at)) 0)) at (at + n) extents.old extents.new }
+fn add_counts(counts: &[u8], above: usize, at: usize, extents: &mut [u32])
+    requires { (above + length counts.now ≤ at) × (at + length counts.now ≤ length extents.old) × ((k : ℕ) → k < length counts.now → get_or extents.old (above + k) 0 ≤ max_extent) }
+    ensures { Put (λ k. band_count (get_or counts.now (k - at) 0) (get_or extents.old (above + (k - at)) 0)) at (at + length counts.now) extents.old extents.new }
 {
-    for i in 0..n {
-        extents[at + i] = count_through(counts[i], extents[above + i]);
+    for (i, count) in counts.iter().enumerate() {
+        extents[at + i] = count_through(*count, extents[above + i]);
     }
 }
 
@@ -132,87 +244,7 @@ fn count_through(n: u8, above: u32) -> u32
     ensures { result ≡ band_count n above }
 {
     let all = (n == ALL) as u32;
-    let sum = n as u32 + all * above;
-    if sum <= MAX_EXTENT { sum } else { MAX_EXTENT }
-}
-
-// The counts of the band's rows from the row above it, where there is one.
-fn count_band(mask: &[u8], w: usize, start: usize, end: usize, extents: &mut [u32])
-    requires { (Counts w mask.now (start * w) (end * w) extents.old) × (start ≤ end) }
-    ensures { Put (capped_count w mask.now) (start * w) (end * w) extents.old extents.new }
-{
-    let mut y = start;
-    while y < end {
-        count_row(mask, w, y, extents);
-        y += 1;
-    }
-}
-
-// Row y, a chunk at a time.
-fn count_row(mask: &[u8], w: usize, y: usize, extents: &mut [u32])
-    requires { Counts w mask.now (y * w) (y * w + w) extents.old }
-    ensures { Put (capped_count w mask.now) (y * w) (y * w + w) extents.old extents.new }
-{
-    if y == 0 {
-        count_first_row(mask, w, extents);
-        return;
-    }
-    let at = y * w;
-    let end = at + w;
-    let mut i = at;
-    while CHUNK <= end - i {
-        count_chunk(mask, w, i, extents);
-        i += CHUNK;
-    }
-    count_dots(mask, w, i, end, extents);
-}
-
-// Nothing lies above the first row.
-fn count_first_row(mask: &[u8], w: usize, extents: &mut [u32])
-    requires { (0 < w) × (w ≤ length mask.now) × (length mask.now ≤ length extents.old) }
-    ensures { Put (capped_count w mask.now) 0 w extents.old extents.new }
-{
-    let mut i: usize = 0;
-    while i < w {
-        extents[i] = count_on(mask[i], 0);
-        i += 1;
-    }
-}
-
-// A chunk of a row: where all is blank, nothing is counted.
-fn count_chunk(mask: &[u8], w: usize, from: usize, extents: &mut [u32])
-    requires { (Counts w mask.now from (from + 64) extents.old) × (w ≤ from) }
-    ensures { Put (capped_count w mask.now) from (from + 64) extents.old extents.new }
-{
-    let to = from + CHUNK;
-    if is_blank(&mask[from..to]) {
-        fill_words(&mut extents[from..to], 0);
-        return;
-    }
-    count_dots(mask, w, from, to, extents);
-}
-
-// Whether no dot is ink.
-fn is_blank(dots: &[u8]) -> bool
-    ensures { result ≡ true → (k : ℕ) → k < length dots.now → is_ink dots.now k ≡ false }
-{
-    let mut blank = true;
-    let mut i: usize = 0;
-    while i < dots.len() {
-        blank = blank & (dots[i] == 0);
-        i += 1;
-    }
-    blank
-}
-
-// From the dots above.
-fn count_dots(mask: &[u8], w: usize, from: usize, to: usize, extents: &mut [u32])
-    requires { (Counts w mask.now from to extents.old) × (w ≤ from) }
-    ensures { Put (capped_count w mask.now) from to extents.old extents.new }
-{
-    for i in from..to {
-        extents[i] = count_on(mask[i], extents[i - w]);
-    }
+    (n as u32 + all * above).min(MAX_EXTENT)
 }
 
 // One more where there is ink, up to the greatest extent, else none; without a branch, so that a row goes many dots at a time.
@@ -223,81 +255,4 @@ fn count_on(b: u8, above: u32) -> u32
     let ink = (0 < b) as u32;
     let more = (above < MAX_EXTENT) as u32;
     ink * (above + more)
-}
-
-// From the band's last row up: below it all is as it is to be.
-fn take_band(mask: &[u8], w: usize, h: usize, start: usize, end: usize, extents: &mut [u32])
-    requires { (TakesUp w h mask.now (start * w) (end * w) extents.old) × (start ≤ end) }
-    ensures { Put (column_extent w h mask.now) (start * w) (end * w) extents.old extents.new }
-{
-    let mut y = end;
-    while start < y {
-        y -= 1;
-        take_row(mask, w, h, y, extents);
-    }
-}
-
-// Row y from the row below, a chunk at a time; the plane's last row has its extents.
-fn take_row(mask: &[u8], w: usize, h: usize, y: usize, extents: &mut [u32])
-    requires { TakesUp w h mask.now (y * w) (y * w + w) extents.old }
-    ensures { Put (column_extent w h mask.now) (y * w) (y * w + w) extents.old extents.new }
-{
-    if y + 1 == h {
-        return;
-    }
-    let at = y * w;
-    let mut to = at + w;
-    while TAKEN <= to - at {
-        let from = to - TAKEN;
-        take_chunk(mask, w, h, from, extents);
-        to = from;
-    }
-    take_dots(mask, w, h, at, to, extents);
-}
-
-// A chunk of a row: where no dot goes on below, the counts are the extents.
-fn take_chunk(mask: &[u8], w: usize, h: usize, from: usize, extents: &mut [u32])
-    requires { (TakesUp w h mask.now from (from + 32) extents.old) × (from + 32 + w ≤ w * h) }
-    ensures { Put (column_extent w h mask.now) from (from + 32) extents.old extents.new }
-{
-    let to = from + TAKEN;
-    let below = from + w;
-    let under = below + TAKEN;
-    if !joins(&mask[from..to], &mask[below..under]) {
-        return;
-    }
-    take_dots(mask, w, h, from, to, extents);
-}
-
-// Whether a dot and the dot below it are ink.
-fn joins(dots: &[u8], below: &[u8]) -> bool
-    requires { length dots.now ≡ length below.now }
-    ensures { result ≡ false → (k : ℕ) → k < length dots.now → (is_ink dots.now k && is_ink below.now k) ≡ false }
-{
-    let mut found = false;
-    let mut i: usize = 0;
-    while i < dots.len() {
-        found = found | ((0 < dots[i]) & (0 < below[i]));
-        i += 1;
-    }
-    found
-}
-
-// From the dots below.
-fn take_dots(mask: &[u8], w: usize, h: usize, from: usize, to: usize, extents: &mut [u32])
-    requires { (TakesUp w h mask.now from to extents.old) × (to + w ≤ w * h) }
-    ensures { Put (column_extent w h mask.now) from to extents.old extents.new }
-{
-    for i in (from..to).rev() {
-        extents[i] = take_on(mask[i], mask[i + w], extents[i], extents[i + w]);
-    }
-}
-
-// The extent of a dot: that of the dot below where both are ink, else its count; without a branch.
-fn take_on(b: u8, below: u8, own: u32, lower: u32) -> u32
-    requires { (own ≤ max_extent) × (lower ≤ max_extent) }
-    ensures { result ≡ cond (ltb 0 b && ltb 0 below) lower own }
-{
-    let more = ((0 < b) & (0 < below)) as u32;
-    more * lower + (1 - more) * own
 }

@@ -4,44 +4,112 @@ ghost use Rattle.memory.specs.rules.Masks.{is_ink};
 ghost use Rattle.extents.specs.stages.Scans.{Starts, RowTo, RowCounted, no_four, short_extent, short_extent_at, PartOfRow};
 ghost use Rattle.extents.specs.stages.Bands.{Put};
 
+use crate::chunks::{taken, widen};
+
 // So many turns in a chunk of 64 dots are many: measured, no promise goes by it.
 const MANY: u8 = 8;
 
 // The dots of a chunk whose extents are told at once.
 const CHUNK: usize = 32;
 
+// A part of a row, from x up to `to`, a dot of the row.
+#[derive(Clone, Copy, Debug, PartialEq, Eq)]
+pub struct Part<'a> {
+    pub row: &'a [u8],
+    pub x: usize,
+    pub to: usize,
+    ghost inside: { (x ≤ to) × (to < length row.now) },
+}
+
+impl Part<'_> {
+    // Whether its runs are short, and there are dots enough around to see it.
+    pub fn is_short(self) -> bool
+        ensures { result ≡ true → (2 ≤ self.entry.x) × (self.entry.to + 3 ≤ length self.entry.row.now) × ((k : ℕ) → self.entry.x ≤ k → k < self.entry.to → no_four self.entry.row.now k) }
+    {
+        2 <= self.x && self.to + 3 <= self.row.len() && self.all_short()
+    }
+
+    // Whether no run that starts from x up to `to` has more than three dots.
+    fn all_short(self) -> bool
+        requires { self.to + 3 ≤ length self.row.now }
+        ensures { result ≡ true → (k : ℕ) → self.entry.x ≤ k → k < self.entry.to → no_four self.entry.row.now k }
+    {
+        let mut short = true;
+        for i in self.x..self.to {
+            let front = (0 < self.row[i]) & (0 < self.row[i + 1]);
+            let back = (0 < self.row[i + 2]) & (0 < self.row[i + 3]);
+            short &= !(front & back);
+        }
+        short
+    }
+
+    // The extents from the start x up to the start `to`, where no run has more than three dots. The last chunk may lie partly over the
+    // one before it.
+    pub fn short_extents(self, extents: &mut [u32])
+        requires { (PartOfRow self.row.now self.x self.to) × (RowTo self.row.now self.x extents.old) × (2 ≤ self.x) × (self.to + 3 ≤ length self.row.now) × ((k : ℕ) → self.x ≤ k → k < self.to → no_four self.row.now k) × (self.x + 32 ≤ self.to) }
+        ensures { RowTo self.entry.row.now self.entry.to extents.new }
+    {
+        for chunk in 0..(self.to - self.x) / CHUNK {
+            short_chunk(self.row, self.x + chunk * CHUNK, extents);
+        }
+        short_chunk(self.row, self.to - CHUNK, extents);
+    }
+
+    // Whether a chunk has many turns, from a dot to the next.
+    pub fn is_crowded(self) -> bool
+        requires { self.to ≤ self.x + 64 }
+    {
+        let mut turns = 0;
+        for i in self.x..self.to {
+            turns += ((0 < self.row[i]) != (0 < self.row[i + 1])) as u8;
+        }
+        MANY <= turns
+    }
+
+    // The extents from the start x up to the start `to`: on, each dot counts the ink that ends at it; back again, each dot that goes on
+    // takes what the next one has.
+    pub fn counted_extents(self, extents: &mut [u32])
+        requires { (PartOfRow self.row.now self.x self.to) × (RowTo self.row.now self.x extents.old) × (self.to ≤ self.x + 64) }
+        ensures { RowTo self.entry.row.now self.entry.to extents.new }
+    {
+        self.count_on(extents);
+        self.take_back(extents);
+    }
+
+    fn count_on(self, extents: &mut [u32])
+        requires { (PartOfRow self.row.now self.x self.to) × (RowTo self.row.now self.x extents.old) × (self.to ≤ self.x + 64) }
+        ensures { RowCounted self.entry.row.now self.entry.x self.entry.to self.entry.to extents.new }
+    {
+        let mut count = 0;
+        for i in self.x..self.to {
+            count = one_more(self.row[i], count);
+            extents[i] = count;
+        }
+    }
+
+    fn take_back(self, extents: &mut [u32])
+        requires { (PartOfRow self.row.now self.x self.to) × (RowCounted self.row.now self.x self.to self.to extents.old) × (self.to ≤ self.x + 64) }
+        ensures { RowTo self.entry.row.now self.entry.to extents.new }
+    {
+        let mut later = 0;
+        for i in (self.x..self.to).rev() {
+            later = taken(self.row[i], self.row[i + 1], extents[i], later);
+            extents[i] = later;
+        }
+    }
+}
+
 // The last start from x up to `to`.
 pub fn start_before(row: &[u8], x: usize, to: usize) -> usize
     requires { (x ≤ to) × (to < length row.now) × Starts (is_ink row.now) x }
     ensures { (x ≤ result) × (result ≤ to) × Starts (is_ink row.now) result }
 {
-    let mut r = to;
-    while x < r {
-        if row[r] == 0 {
+    for r in (x + 1..=to).rev() {
+        if row[r] == 0 || row[r - 1] == 0 {
             return r;
         }
-        if row[r - 1] == 0 {
-            return r;
-        }
-        r -= 1;
     }
-    r
-}
-
-// Whether no run that starts from x up to `to` has more than three dots.
-pub fn all_short(row: &[u8], x: usize, to: usize) -> bool
-    requires { (x ≤ to) × (to + 3 ≤ length row.now) }
-    ensures { result ≡ true → (k : ℕ) → x ≤ k → k < to → no_four row.now k }
-{
-    let mut short = true;
-    let mut i = x;
-    while i < to {
-        let front = (0 < row[i]) & (0 < row[i + 1]);
-        let back = (0 < row[i + 2]) & (0 < row[i + 3]);
-        short = short & !(front & back);
-        i += 1;
-    }
-    short
+    x
 }
 
 // The extent of the third of five dots, in a run of at most three; without a branch, so that many dots are done at once.
@@ -54,104 +122,26 @@ fn short_extent(a: u8, b: u8, dot: u8, d: u8, e: u8) -> u8
     ink * (1 + before + after)
 }
 
-// The extents from the start x up to the start `to`, where no run has more than three dots. The last chunk may lie partly over the one
-// before it.
-pub fn short_extents(row: &[u8], x: usize, to: usize, extents: &mut [u32])
-    requires { (PartOfRow row.now x to) × (RowTo row.now x extents.old) × (2 ≤ x) × (to + 3 ≤ length row.now) × ((k : ℕ) → x ≤ k → k < to → no_four row.now k) × (x + 32 ≤ to) }
-    ensures { RowTo row.now to extents.new }
-{
-    let mut i = x;
-    while CHUNK <= to - i {
-        short_chunk(row, i, extents);
-        i += CHUNK;
-    }
-    short_chunk(row, to - CHUNK, extents);
-}
-
 // The extents of a chunk of dots from x on, in runs of at most three. They are told in bytes first: so many more are done at once.
 fn short_chunk(row: &[u8], x: usize, extents: &mut [u32])
     requires { (2 ≤ x) × (x + 34 ≤ length row.now) × (length extents.old ≡ length row.now) }
     ensures { Put (short_extent_at row.now) x (x + 32) extents.old extents.new }
 {
-    let mut bytes = [0u8; CHUNK];
-    tell_short(row, x, &mut bytes);
-    widen(&bytes, x, extents);
+    widen(&short_bytes(row, x), x, extents);
 }
 
 // The same in bytes.
-fn tell_short(row: &[u8], x: usize, bytes: &mut [u8])
-    requires { (2 ≤ x) × (x + 34 ≤ length row.now) × (length bytes.old ≡ 32) }
-    ensures { (k : ℕ) → k < 32 → get_or bytes.new k 0 ≡ short_extent_at row.now (x + k) }
+fn short_bytes(row: &[u8], x: usize) -> [u8; CHUNK]
+    requires { (2 ≤ x) × (x + 34 ≤ length row.now) }
+    ensures { (k : ℕ) → k < 32 → get_or result k 0 ≡ short_extent_at row.now (x + k) }
 {
     let from = x - 2;
-    let mut k = 0;
-    while k < CHUNK {
+    let mut bytes = [0; CHUNK];
+    for k in 0..CHUNK {
         let i = from + k;
         bytes[k] = short_extent(row[i], row[i + 1], row[i + 2], row[i + 3], row[i + 4]);
-        k += 1;
     }
-}
-
-// The bytes as the words from x on.
-fn widen(bytes: &[u8], x: usize, extents: &mut [u32])
-    requires { (length bytes.now ≡ 32) × (x + 32 ≤ length extents.old) }
-    ensures { Put (λ i. get_or bytes.now (i - x) 0) x (x + 32) extents.old extents.new }
-{
-    let mut k = 0;
-    while k < CHUNK {
-        extents[x + k] = wide(bytes[k]);
-        k += 1;
-    }
-}
-
-// The same number, wider.
-fn wide(x: u8) -> u32
-    ensures { result ≡ x }
-{
-    x as u32
-}
-
-// Whether a chunk has many turns.
-pub fn is_crowded(row: &[u8], x: usize, to: usize) -> bool
-    requires { (x ≤ to) × (to < length row.now) × (to ≤ x + 64) }
-{
-    let mut turns = 0;
-    let mut i = x;
-    while i < to {
-        turns += turn_at(row[i], row[i + 1]);
-        i += 1;
-    }
-    MANY <= turns
-}
-
-// 1 where one of two dots is ink, else 0.
-fn turn_at(a: u8, b: u8) -> u8
-    ensures { result ≤ 1 }
-{
-    if (0 < a) == (0 < b) { 0 } else { 1 }
-}
-
-// The extents from the start x up to the start `to`: on, each dot counts the ink that ends at it; back again, each dot that goes on
-// takes what the next one has.
-pub fn counted_extents(row: &[u8], x: usize, to: usize, extents: &mut [u32])
-    requires { (PartOfRow row.now x to) × (RowTo row.now x extents.old) × (to ≤ x + 64) }
-    ensures { RowTo row.now to extents.new }
-{
-    count_on(row, x, to, extents);
-    take_back(row, x, to, extents);
-}
-
-fn count_on(row: &[u8], x: usize, to: usize, extents: &mut [u32])
-    requires { (PartOfRow row.now x to) × (RowTo row.now x extents.old) × (to ≤ x + 64) }
-    ensures { RowCounted row.now x to to extents.new }
-{
-    let mut count = 0;
-    let mut i = x;
-    while i < to {
-        count = one_more(row[i], count);
-        extents[i] = count;
-        i += 1;
-    }
+    bytes
 }
 
 // One more where there is ink, else none.
@@ -160,24 +150,4 @@ fn one_more(b: u8, count: u32) -> u32
     ensures { result ≡ cond (ltb 0 b) (count + 1) 0 }
 {
     if 0 < b { count + 1 } else { 0 }
-}
-
-fn take_back(row: &[u8], x: usize, to: usize, extents: &mut [u32])
-    requires { (PartOfRow row.now x to) × (RowCounted row.now x to to extents.old) × (to ≤ x + 64) }
-    ensures { RowTo row.now to extents.new }
-{
-    let mut later = 0;
-    let mut i = to;
-    while x < i {
-        i -= 1;
-        later = taken(row[i], row[i + 1], extents[i], later);
-        extents[i] = later;
-    }
-}
-
-// What the next dot has where both are ink, else a dot's own.
-fn taken(b: u8, next: u8, own: u32, later: u32) -> u32
-    ensures { result ≡ cond (ltb 0 b && ltb 0 next) later own }
-{
-    if (0 < b) & (0 < next) { later } else { own }
 }

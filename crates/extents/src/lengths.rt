@@ -9,16 +9,12 @@ pub fn chunk_end(x: usize, end: usize) -> usize
     requires { x < end }
     ensures { (x < result) × (result ≤ end) × (result ≤ x + 64) }
 {
-    if 64 < end - x { x + 64 } else { end }
+    x + (end - x).min(64)
 }
 
 // The length of a run as an extent.
 pub fn capped(run: usize) -> u32
     ensures { result ≡ min run max_extent }
 {
-    if run <= MAX_EXTENT as usize {
-        run as u32
-    } else {
-        MAX_EXTENT
-    }
+    run.min(MAX_EXTENT as usize) as u32
 }

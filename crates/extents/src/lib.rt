@@ -2,6 +2,7 @@
 #![tactic(auto)]
 
 mod bands;
+mod chunks;
 mod crowded;
 mod entry;
 mod lengths;

@@ -9,27 +9,26 @@ ghost use Rattle.memory.specs.rules.Masks.{is_ink};
 ghost use Rattle.extents.specs.rules.Extents.{extent, row_extents};
 ghost use Rattle.extents.specs.stages.Scans.{ScannedTo, MaskFits, RowTo, no_four, single_dot};
 
-use crate::crowded::{all_short, counted_extents, is_crowded, short_extents, start_before};
+use crate::chunks::joins;
+use crate::crowded::{Part, start_before};
 use crate::lengths::{capped, chunk_end};
-use memory::fill_words;
 
 // Along the rows: each row is a part of the mask and of the extents.
+#[tactic(auto, using(crate::proofs::ExtentLaws::row_inside))]
 pub fn row_extents(mask: &[u8], width: u32, height: u32, extents: &mut [u32])
     requires { MaskFits width height (length mask.now) (length extents.old) }
     ensures { extents.new ≡ over (row_extents width height mask.now) extents.old }
 {
     let w = width as usize;
     let h = height as usize;
-    let mut y: usize = 0;
-    while y < h {
+    for y in 0..h {
         let from = y * w;
         let to = from + w;
         extents_of_row(&mask[from..to], &mut extents[from..to]);
-        y += 1;
     }
 }
 
-// One row: each dot as a run of its own, then the runs of those chunks where dots join.
+// One row: each dot as a run of its own, then the runs of those chunks where dots join, from one start to the next.
 fn extents_of_row(row: &[u8], extents: &mut [u32])
     requires { (length row.now ≡ length extents.old) × (length row.now ≤ max_mask_side) }
     ensures { extents.new ≡ table (extent (is_ink row.now) (length row.now)) (length row.now) }
@@ -46,10 +45,8 @@ fn single_dots(row: &[u8], extents: &mut [u32])
     requires { length row.now ≡ length extents.old }
     ensures { extents.new ≡ table (single_dot row.now) (length row.now) }
 {
-    let mut i: usize = 0;
-    while i < row.len() {
-        extents[i] = (0 < row[i]) as u32;
-        i += 1;
+    for (i, dot) in row.iter().enumerate() {
+        extents[i] = (0 < *dot) as u32;
     }
 }
 
@@ -62,50 +59,23 @@ fn extents_from(row: &[u8], x: usize, extents: &mut [u32]) -> usize
     ensures { (x < result) × (RowTo row.now result extents.new) }
 {
     let to = chunk_end(x, row.len() - 1);
-    if !goes_on(row, 1, x, to) {
+    if !joins(&row[x..to], &row[x + 1..to + 1]) {
         return to;
     }
     let start = start_before(row, x, to);
     if start < x + FEW {
         return extents_of_runs(row, x, to, extents);
     }
-    if is_short(row, x, start) {
-        short_extents(row, x, start, extents);
+    let part = Part { row, x, to: start };
+    if part.is_short() {
+        part.short_extents(extents);
         return start;
     }
-    if is_crowded(row, x, start) {
-        counted_extents(row, x, start, extents);
+    if part.is_crowded() {
+        part.counted_extents(extents);
         return start;
     }
     extents_of_runs(row, x, to, extents)
-}
-
-// Whether the runs from x up to `to` are short, and there are dots enough around to see it.
-fn is_short(row: &[u8], x: usize, to: usize) -> bool
-    requires { (x ≤ to) × (to < length row.now) }
-    ensures { result ≡ true → (2 ≤ x) × (to + 3 ≤ length row.now) × ((k : ℕ) → x ≤ k → k < to → no_four row.now k) }
-{
-    if x < 2 {
-        return false;
-    }
-    if row.len() < to + 3 {
-        return false;
-    }
-    all_short(row, x, to)
-}
-
-// Whether a dot of the chunk and the dot w behind it are ink.
-fn goes_on(mask: &[u8], w: usize, from: usize, to: usize) -> bool
-    requires { (from ≤ to) × (to + w ≤ length mask.now) }
-    ensures { result ≡ false → (k : ℕ) → from ≤ k → k < to → (is_ink mask.now k && is_ink mask.now (k + w)) ≡ false }
-{
-    let mut found = false;
-    let mut i = from;
-    while i < to {
-        found = found | ((0 < mask[i]) & (0 < mask[i + w]));
-        i += 1;
-    }
-    found
 }
 
 // Run by run, until one ends at `to` or past it.
@@ -125,38 +95,21 @@ fn extents_of_run(row: &[u8], x: usize, extents: &mut [u32]) -> usize
     requires { (x < length row.now) × (RowTo row.now x extents.old) }
     ensures { (x < result) × (RowTo row.now result extents.new) }
 {
-    let blank = blank_end(row, x);
-    let ink = ink_end(row, blank);
-    fill_words(&mut extents[blank..ink], capped(ink - blank));
+    let blank = run_end(row, x, false);
+    let ink = run_end(row, blank, true);
+    extents[blank..ink].fill(capped(ink - blank));
     ink
 }
 
-// The first place from x on that is ink, or the end.
-fn blank_end(row: &[u8], x: usize) -> usize
+// The first place from x on that is blank where `ink`, else the first that is ink; or the end.
+fn run_end(row: &[u8], x: usize, ink: bool) -> usize
     requires { x ≤ length row.now }
-    ensures { ScannedTo (is_ink row.now) false x (length row.now) result }
+    ensures { ScannedTo (is_ink row.now) ink x (length row.now) result }
 {
-    let mut e = x;
-    while e < row.len() {
-        if row[e] != 0 {
+    for e in x..row.len() {
+        if (0 < row[e]) != ink {
             return e;
         }
-        e += 1;
     }
-    e
-}
-
-// The first place from x on that is blank, or the end.
-fn ink_end(row: &[u8], x: usize) -> usize
-    requires { x ≤ length row.now }
-    ensures { ScannedTo (is_ink row.now) true x (length row.now) result }
-{
-    let mut e = x;
-    while e < row.len() {
-        if row[e] == 0 {
-            return e;
-        }
-        e += 1;
-    }
-    e
+    row.len()
 }

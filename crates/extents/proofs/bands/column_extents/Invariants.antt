@@ -1,9 +1,6 @@
-use Prim.Native.Nat.{◌≤◌}
+use Prim.Native.Nat.{min, ◌*◌}
 use Rattle.extents.proofs.BandLaws.{BandsDone}
 use Rattle.extents.proofs.bands.column_extents.Given as goal
 
-abbrev pub invariant-loop-end : goal.invariant-loop-end
-invariant-loop-end l = (l.end ≤ l.height) × BandsDone l.width l.height l.mask l.end l.initial.extents l.extents
-
-abbrev pub decreases-loop-end : goal.decreases-loop-end
-decreases-loop-end l = l.end
+abbrev pub invariant-loop-band : goal.invariant-loop-band
+invariant-loop-band l = BandsDone l.width l.height l.mask (min l.height (l.band * 32)) l.initial.extents l.extents

@@ -1,50 +1,28 @@
 use native.Mathlib.Omega.{arith}
+use mathlib.Core.Path.{◌∙◌}
+use Rattle.extents.proofs.PutLaws.{filled}
 use Rattle.extents.proofs.ExtentLaws.{row-further, row-run, row-size}
 use Rattle.extents.proofs.rows.extents_of_run.Goals as goal
-
-pub ink_end-ink-requires : goal.ink_end-ink-requires
-ink_end-ink-requires c = let b = c.blank_end-blank.ensures in b.high
 
 pub offset_bounds-extents-blank : goal.offset_bounds-extents-blank
 offset_bounds-extents-blank c =
     let a = c.args in
-    let b = c.blank_end-blank.ensures in
-    let i = c.ink_end-ink.ensures in
+    let b = c.run_end-blank.ensures in
+    let i = c.run_end-ink.ensures in
     omega (arith, row-size a.row.now a.x a.extents.now c.requires.1, b.low, b.high, i.low, i.high)
 
-pub slice_bounds-fill_words-count : goal.slice_bounds-fill_words-count
-slice_bounds-fill_words-count c =
+pub slice_bounds-fill-end : goal.slice_bounds-fill-end
+slice_bounds-fill-end c =
     let a = c.args in
-    let b = c.blank_end-blank.ensures in
-    let i = c.ink_end-ink.ensures in
-    omega (arith, row-size a.row.now a.x a.extents.now c.requires.1, b.low, b.high, i.low, i.high)
-
-pub slice_bounds-fill_words-start : goal.slice_bounds-fill_words-start
-slice_bounds-fill_words-start c =
-    let a = c.args in
-    let b = c.blank_end-blank.ensures in
-    let i = c.ink_end-ink.ensures in
-    omega (arith, row-size a.row.now a.x a.extents.now c.requires.1, b.low, b.high, i.low, i.high)
-
-pub slice_bounds-fill_words-end : goal.slice_bounds-fill_words-end
-slice_bounds-fill_words-end c =
-    let a = c.args in
-    let b = c.blank_end-blank.ensures in
-    let i = c.ink_end-ink.ensures in
-    omega (arith, row-size a.row.now a.x a.extents.now c.requires.1, b.low, b.high, i.low, i.high)
-
-pub overflow_sub-ink : goal.overflow_sub-ink
-overflow_sub-ink c =
-    let a = c.args in
-    let b = c.blank_end-blank.ensures in
-    let i = c.ink_end-ink.ensures in
+    let b = c.run_end-blank.ensures in
+    let i = c.run_end-ink.ensures in
     omega (arith, row-size a.row.now a.x a.extents.now c.requires.1, b.low, b.high, i.low, i.high)
 
 pub returns : goal.returns
 returns c =
     let a = c.args in
-    let b = c.blank_end-blank.ensures in
-    let i = c.ink_end-ink.ensures in (
-      row-further a.row.now a.x c.blank_end-blank.result c.ink_end-ink.result c.requires.1.starts b i c.requires.0,
-      row-run a.row.now a.x a.extents.now c.requires.1 c.blank_end-blank.result c.ink_end-ink.result c.capped.result c.fill_words.new.dst b i c.fill_words.ensures c.capped.ensures,
+    let b = c.run_end-blank.ensures in
+    let i = c.run_end-ink.ensures in (
+      row-further a.row.now a.x c.run_end-blank.result c.run_end-ink.result c.requires.1.starts b i c.requires.0,
+      row-run a.row.now a.x a.extents.now c.requires.1 c.run_end-blank.result c.run_end-ink.result c.capped.result c.fill.new.self b i (c.fill.ensures.after (λ y h. h) ∙ filled _ _) c.capped.ensures,
     )

@@ -1,62 +1,26 @@
-use Prim.Native.Nat.{◌+◌, ◌*◌}
+use Prim.Native.Nat.{◌*◌}
 use native.Mathlib.Omega.{arith}
-use mathlib.Core.Path.{◌≡◌, refl, sym, ap, ◌∙◌}
+use mathlib.Core.Path.{◌≡◌, sym, ap, ◌∙◌}
 use native.Mathlib.Nat.{zero-mul, mul_comm}
-use lib.ListN.{length, get_or}
+use lib.ListN.{get_or}
 use Rattle.memory.specs.rules.Lists.{table}
 use Rattle.memory.specs.rules.Words.{over}
 use Rattle.extents.specs.stages.Scans.{row_extent, until}
 use Rattle.extents.specs.rules.Extents.{row_extents}
-use Rattle.extents.proofs.OverLaws.{over_none, over-all, length_over}
-use Rattle.memory.proofs.PartLaws.{length_part}
-use Rattle.extents.proofs.ExtentLaws.{row_inside, rows-loop}
+use Rattle.extents.proofs.OverLaws.{over_none, over-all}
+use Rattle.extents.proofs.ExtentLaws.{rows-loop}
 use Rattle.extents.proofs.rows.row_extents.Goals as goal
 
 pub loop-y-init : goal.loop-y-init
 loop-y-init c =
     let a = c.args in
-    (omega arith, over_none (row_extent a.width a.mask.now) (a.width * a.height) a.extents.now (omega arith) ∙ ap (λ k. over (table (until k (row_extent a.width a.mask.now) (λ k. get_or a.extents.now k 0)) (a.width * a.height)) a.extents.now) (sym (zero-mul a.width)), refl)
-
-pub overflow_mul-from : goal.overflow_mul-from
-overflow_mul-from c = let z = row_inside c.args.width c.args.height c.loop-y.y (omega arith) in omega arith
-
-pub overflow_add-to : goal.overflow_add-to
-overflow_add-to c = let z = row_inside c.args.width c.args.height c.loop-y.y (omega arith) in omega arith
-
-pub slice_bounds-extents_of_row-count : goal.slice_bounds-extents_of_row-count
-slice_bounds-extents_of_row-count c = let z = row_inside c.args.width c.args.height c.loop-y.y (omega arith) in omega arith
-
-pub slice_bounds-extents_of_row-start : goal.slice_bounds-extents_of_row-start
-slice_bounds-extents_of_row-start c = let z = row_inside c.args.width c.args.height c.loop-y.y (omega arith) in omega arith
-
-pub slice_bounds-extents_of_row-end : goal.slice_bounds-extents_of_row-end
-slice_bounds-extents_of_row-end c = let z = row_inside c.args.width c.args.height c.loop-y.y (omega arith) in omega arith
-
-pub offset_bounds-extents-from : goal.offset_bounds-extents-from
-offset_bounds-extents-from c = let z = row_inside c.args.width c.args.height c.loop-y.y (omega arith) in omega arith
-
-pub slice_bounds-extents_of_row-count-in-loop-y : goal.slice_bounds-extents_of_row-count-in-loop-y
-slice_bounds-extents_of_row-count-in-loop-y c = let z = row_inside c.args.width c.args.height c.loop-y.y (omega arith) in omega arith
-
-pub slice_bounds-extents_of_row-start-in-loop-y : goal.slice_bounds-extents_of_row-start-in-loop-y
-slice_bounds-extents_of_row-start-in-loop-y c = let z = row_inside c.args.width c.args.height c.loop-y.y (omega arith) in omega arith
-
-pub slice_bounds-extents_of_row-end-in-loop-y : goal.slice_bounds-extents_of_row-end-in-loop-y
-slice_bounds-extents_of_row-end-in-loop-y c = let z = row_inside c.args.width c.args.height c.loop-y.y (omega arith) in omega arith
-
-pub extents_of_row-requires : goal.extents_of_row-requires
-extents_of_row-requires c =
-    let a = c.args in
-    let z = row_inside a.width a.height c.loop-y.y (omega arith) in
-    let p = length_part (c.loop-y.y * a.width) (c.loop-y.y * a.width + a.width) a.mask.now (omega arith) (omega arith) in
-    let q = length_part (c.loop-y.y * a.width) (c.loop-y.y * a.width + a.width) c.loop-y.extents (omega arith) (omega arith) in
-    (omega arith, omega arith)
+    over_none (row_extent a.width a.mask.now) (a.width * a.height) a.extents.now (omega arith) ∙ ap (λ k. over (table (until k (row_extent a.width a.mask.now) (λ k. get_or a.extents.now k 0)) (a.width * a.height)) a.extents.now) (sym (zero-mul a.width))
 
 pub loop-y-preserved : goal.loop-y-preserved
 loop-y-preserved c =
     let a = c.args in
-    let e = rows-loop a.width a.height c.loop-y.y a.mask.now a.extents.now c.loop-y.extents c.extents_of_row.new.extents (omega arith) (omega arith) (omega arith) (omega arith) c.loop-y.invariant.1 c.extents_of_row.ensures in
-    (omega arith, e, ap length e ∙ length_over _ (a.width * a.height) a.extents.now (omega arith))
+    let e = rows-loop a.width a.height c.loop-y.y a.mask.now a.extents.now c.loop-y.extents c.extents_of_row.new.extents (omega arith) (omega arith) (omega arith) (omega arith) c.loop-y.invariant c.extents_of_row.ensures in
+    e
 
 pub returns : goal.returns
 unfolding row_extents
@@ -64,6 +28,6 @@ returns c =
     let a = c.args in
     let f = row_extent a.width a.mask.now in
     let y : c.loop-y.y ≡ a.height = omega arith in
-    c.loop-y.invariant.1
+    c.loop-y.invariant
     ∙ (ap (λ k. over (table (until k f (λ j. get_or a.extents.now j 0)) (a.width * a.height)) a.extents.now) (ap (λ k. k * a.width) y ∙ mul_comm a.height a.width)
     ∙ over-all f (λ j. get_or a.extents.now j 0) (a.width * a.height) a.extents.now (omega arith))

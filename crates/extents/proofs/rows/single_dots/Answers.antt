@@ -1,24 +1,12 @@
 use native.Mathlib.Omega.{arith}
-use mathlib.Core.Path.{refl, sym, ap, ◌∙◌}
-use lib.ListN.{length-set}
-use Rattle.memory.specs.rules.Lists.{table}
-use Rattle.memory.proofs.TableLaws.{table_more, table-whole}
+use Rattle.memory.proofs.TableLaws.{table_more}
 use Rattle.extents.specs.stages.Scans.{single_dot}
 use Rattle.extents.proofs.ExtentLaws.{single-bit, table-begun}
 use Rattle.extents.proofs.rows.single_dots.Goals as goal
 
 pub loop-i-init : goal.loop-i-init
-loop-i-init c = (omega arith, table-begun (single_dot c.args.row.now) c.args.extents.now, refl)
+loop-i-init c = table-begun (single_dot c.args.row.now) c.args.extents.now
 
 pub loop-i-preserved : goal.loop-i-preserved
 loop-i-preserved c =
-    let a = c.args in (
-      omega arith,
-      table_more (single_dot a.row.now) a.extents.now c.loop-i.extents c.loop-i.i _ (omega arith) c.loop-i.invariant.1 (single-bit a.row.now c.loop-i.i),
-      simp length-set c.loop-i.invariant.2,
-    )
-
-pub returns : goal.returns
-returns c =
-    let a = c.args in
-    table-whole (single_dot a.row.now) a.extents.now c.loop-i.extents c.loop-i.i c.loop-i.invariant.1 (omega arith) ∙ ap (table (single_dot a.row.now)) (sym c.requires)
+    let a = c.args in table_more (single_dot a.row.now) a.extents.now c.loop-i.extents c.loop-i.i _ (omega arith) c.loop-i.invariant (single-bit a.row.now c.loop-i.i)

@@ -1,7 +1,0 @@
-use Prim.Native.Nat.{◌≤◌, ◌-◌}
-use Rattle.extents.specs.stages.Scans.{capped_count}
-use Rattle.extents.specs.stages.Bands.{Put}
-use Rattle.extents.proofs.bands.count_dots.Given as goal
-
-abbrev pub invariant-loop-i : goal.invariant-loop-i
-invariant-loop-i l = (l.from ≤ l.i) × (l.i ≤ l.to) × Put (capped_count l.w l.mask) l.from l.i l.initial.extents l.extents

@@ -1,9 +1,0 @@
-use native.Mathlib.Omega.{arith}
-use Rattle.extents.proofs.BandLaws.{take_none, chunk-apart}
-use Rattle.extents.proofs.bands.take_chunk.Goals as goal
-
-pub returns-then-not-joins : goal.returns-then-not-joins
-returns-then-not-joins c =
-    let a = c.args in
-    let p = c.requires in
-    take_none p.0 (chunk-apart a.from 32 a.w a.mask.now (omega (arith, p.0.inside, p.0.size)) (c.joins.ensures c.if-not-joins.true))

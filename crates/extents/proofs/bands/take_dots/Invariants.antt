@@ -1,7 +1,0 @@
-use Prim.Native.Nat.{◌≤◌, ◌-◌}
-use Rattle.extents.specs.stages.Scans.{column_extent}
-use Rattle.extents.specs.stages.Bands.{Put}
-use Rattle.extents.proofs.bands.take_dots.Given as goal
-
-abbrev pub invariant-loop-i : goal.invariant-loop-i
-invariant-loop-i l = (l.from ≤ l.i) × (l.i ≤ l.to) × Put (column_extent l.w l.h l.mask) l.i l.to l.initial.extents l.extents
