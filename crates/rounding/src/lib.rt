@@ -98,10 +98,8 @@ fn block_sum(values: &[f64]) -> f64
     ensures { result ≡ block_sum values.now }
 {
     let mut sum = 0.0;
-    let mut i = 0;
-    while i < values.len() {
-        sum = sum + values[i];
-        i += 1;
+    for x in values {
+        sum += *x;
     }
     sum
 }
