@@ -8,8 +8,6 @@ pub mod NearestWhole
 pub mod Signs
 -- rounding, by the range that a float is in
 pub mod HalfAway
--- the saturating casts, by the range that a float is in
-pub mod Casts
 -- the casts after rounding, over whole numbers
 pub mod RoundedCasts
 -- what `round` of lib.Ieee gives, against a fraction
