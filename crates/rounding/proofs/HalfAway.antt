@@ -4,6 +4,7 @@ use native.Mathlib.Nat.{div-le_of_le-mul}
 use lib.Dec.{eqb_refl}
 use lib.Arith.{lt_of_le-ne}
 use lib.Ieee.{Float, nan, inf, fin, binary64, up, down, round, mul, neg, lt, le, fits, of_int, in_float}
+use Rattle.std.specs.Float.{float_round, round_with}
 use lib.Ieee.Fits.{and_r, round-fits, down_pos}
 use lib.Ieee.Exact.{HasValue, round_exact}
 use lib.Ieee.Scale.{round_same}
@@ -13,6 +14,14 @@ use Rattle.rounding.specs.rules.Rounding.{nearest_whole, round_half_away}
 use Rattle.rounding.proofs.Fractions.{half, two_to, Within, held, large-whole}
 use Rattle.rounding.proofs.NearestWhole.{nearest_whole-of-whole, nearest_whole-below-half}
 use Rattle.rounding.proofs.Signs.{not-not, neg-round}
+
+-- ---- it is the library's
+pub round_half_away-is : (x : Float) → float_round binary64 x ≡ round_half_away x
+unfolding round_half_away round_with
+round_half_away-is nan = refl
+round_half_away-is (inf s) = refl
+round_half_away-is (fin false m e) = refl
+round_half_away-is (fin true m e) = refl
 
 -- ---- the whole number as a float
 pub round_half_away-of-positive : (x : Float) → T (positive x) → round_half_away x ≡ of_int binary64 (pos (nearest_whole (num x) (den x)))

@@ -1,11 +1,8 @@
 // Rounding to whole numbers, the casts after it, and the sum of a list in a fixed order (math.rs).
 #![tactic(auto)]
 
-ghost use Rattle.std.specs.Prelude.{◌≡◌, true, false, T, pos, negsuc};
-ghost use Rattle.std.specs.Float.Ieee as Ieee;
-ghost use Rattle.std.specs.Float.{fin};
-ghost use Rattle.std.specs.Float.Ieee.Positive.{num, den};
-ghost use Rattle.rounding.specs.rules.Rounding.{nearest_whole, round_half_away, round_to_unsigned, round_to_signed, round_output};
+ghost use Rattle.std.specs.Prelude.{◌≡◌};
+ghost use Rattle.rounding.specs.rules.Rounding.{round_half_away, round_to_unsigned, round_to_signed, round_output};
 ghost use Rattle.rounding.specs.rules.Sums.{block_sum, pairwise_sum};
 
 use std::num;
@@ -13,35 +10,14 @@ use std::num;
 // A report's floats keep six decimals.
 const OUTPUT_SCALE: f64 = 1_000_000.0;
 
-// From here on a float is a whole number already.
-const ALL_WHOLE: f64 = 4503599627370496.0;
-
 // The most values that are summed left to right.
 const BLOCK: usize = 8;
 
-// Rust's `x.round()`. The negative side goes by the positive one.
+// Rust's `x.round()`.
 pub fn round(x: f64) -> f64
     ensures { result ≡ round_half_away x }
 {
-    if x >= 0.5 {
-        if x < ALL_WHOLE {
-            nearest_whole(x) as f64
-        } else {
-            x
-        }
-    } else {
-        let y = -x;
-        if y >= 0.5 {
-            if y < ALL_WHOLE {
-                -(nearest_whole(y) as f64)
-            } else {
-                x
-            }
-        } else {
-            // a zero with the sign of x, or a NaN
-            x * 0.0
-        }
-    }
+    x.round()
 }
 
 // Rust's `x.round() as u32`.
@@ -104,15 +80,4 @@ fn block_sum(values: &[f64]) -> f64
         sum += *x;
     }
     sum
-}
-
-// The whole number nearest to x, a half up, for 0.5 <= x < 2^52, where doubling x is exact.
-fn nearest_whole(x: f64) -> u64
-    requires at_least_half { T (Ieee.le (fin false 1 (negsuc 0)) x) }
-    requires below { T (Ieee.lt x (fin false 1 (pos 52))) }
-    ensures { result ≡ nearest_whole (num x) (den x) }
-{
-    let twice = x + x;
-    let h: u64 = num::truncating_f64_to_u64(twice);
-    h / 2 + h % 2
 }
