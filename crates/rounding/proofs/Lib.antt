@@ -1,12 +1,10 @@
 -- tests of the code as facts
 pub mod Tests
--- positive floats as fractions
-pub mod Fractions
 -- the nearest whole number of a fraction
 pub mod NearestWhole
 -- floats with the sign turned
 pub mod Signs
--- rounding, by the range that a float is in
+-- rounding: the library's, and its value
 pub mod HalfAway
 -- the casts after rounding, over whole numbers
 pub mod RoundedCasts
