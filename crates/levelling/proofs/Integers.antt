@@ -1,12 +1,12 @@
 -- Differences of natural numbers as integers, the lesser of two integers, and how the machine keeps them.
 use mathlib.Core.Path.{◌≡◌, refl, sym, ap, ◌∙◌, subst}
-use mathlib.Core.Bool.{Bool, true, false, cond, true≢false}
+use mathlib.Core.Bool.{Bool, true, false, cond}
 use Prim.Native.Nat.{ℕ, zero, suc, ◌+◌, ◌-◌, ◌≤◌, ◌<◌, min, max}
 use native.Mathlib.Decide.{dec_le}
 use native.Mathlib.Omega.{arith}
-use borrow.Author.Tests.{lt-ltb, le-ltb, ltb-true, ltb-false}
+use borrow.Author.Tests.{lt-ltb, le-ltb}
 use lib.Dec.{T, ltb}
-use lib.Signed.{mag, non_neg, lt_z}
+use lib.Signed.{mag, non_neg}
 use mir.Syntax.{w32, w64}
 use mir.Val.{Fits, SFits, to_z, of_z}
 use mir.ValLaws.{to_z_pos, to_z-of_z}
@@ -70,16 +70,6 @@ negated-lesser zero zero l = ap pos (let e : min 0 0 ≡ 0 = omega arith in e)
 negated-lesser (suc a) zero l = absurd (omega arith)
 negated-lesser zero (suc b) l = refl
 negated-lesser (suc a) (suc b) l = ap negsuc (let e : max a b ≡ b = omega arith in e)
-
-pub lesser-by-test : (a b : ℤ) (t : Bool) → lt_z a b ≡ t → cond t a b ≡ minℤ a b
-lesser-by-test (pos a) (pos b) true e = ap pos (let l = ltb-true a b e in let q : a ≡ min a b = omega arith in q)
-lesser-by-test (pos a) (pos b) false e = ap pos (let l = ltb-false a b e in let q : b ≡ min a b = omega arith in q)
-lesser-by-test (pos a) (negsuc b) true e = absurd (true≢false (sym e))
-lesser-by-test (pos a) (negsuc b) false e = refl
-lesser-by-test (negsuc a) (pos b) true e = refl
-lesser-by-test (negsuc a) (pos b) false e = absurd (true≢false e)
-lesser-by-test (negsuc a) (negsuc b) true e = ap negsuc (let l = ltb-true b a e in let q : a ≡ max a b = omega arith in q)
-lesser-by-test (negsuc a) (negsuc b) false e = ap negsuc (let l = ltb-false b a e in let q : b ≡ max a b = omega arith in q)
 
 -- ---- a difference of two words, as the machine has it
 pub natural-sub : (a b : ℕ) → natural (sub_ℕ a b) ≡ a - b

@@ -1,13 +1,13 @@
--- A slope from -1 to 1, and its two drifts by sign and size; the skew's magnitude, as the code compares it.
+-- A slope from -1 to 1, and its two drifts by sign and size; the skew's magnitude.
 use mathlib.Core.Path.{◌≡◌, refl, sym, ap, ◌∙◌}
-use mathlib.Core.Bool.{Bool, true, false, not, ◌&&◌, ◌||◌, or-true, or_comm}
+use mathlib.Core.Bool.{Bool, true, false, not, ◌&&◌, ◌||◌}
 use Prim.Native.Nat.{ℕ, ◌+◌, ◌*◌, ◌^◌, ◌≤◌, ◌<◌}
 use native.Mathlib.Decide.{dec_lt}
 use native.Mathlib.Omega.{arith}
 use borrow.Author.Tests.{lt-ltb, le-ltb, eq-eqb}
 use lib.IntN.{nat_abs}
 use lib.Dec.{T, ltb, eqb, eqb→eq, lt→ltb}
-use lib.Ieee.{Float, nan, inf, fin, le, lt, eq, neg, up, down, below, level}
+use lib.Ieee.{Float, nan, inf, fin, le, neg, up, down}
 use lib.Ieee.Fits.{down_pos}
 use Rattle.rounding.specs.rules.Drift.{WithinOne, drift}
 use Rattle.rounding.proofs.Tests.{at_most, first_so}
