@@ -53,35 +53,35 @@ module _ (which : Drift) (slope : Float) (k : ℕ) (least : ℤ) (L : LeastOf wh
 module _
     (s : Shear) (which : Drift) (slope : Float) (n : ℕ) (W : WithinOne slope) (some : 0 < n) (few : n ≤ 2 ^ 15)
     (e : (s.which ≡ which) × (s.slope ≡ slope) × (s.least ≡ least_end (drift_of which slope) n))
-    where
-  one : WithinOne s.slope
-  one = subst WithinOne (sym e.1) W
+  where
+    one : WithinOne s.slope
+    one = subst WithinOne (sym e.1) W
 
-  ends : s.least ≡ least_end (drift_of s.which s.slope) n
-  ends = e.2 ∙ (λ i. least_end (drift_of (sym e.0 i) (sym e.1 i)) n)
+    ends : s.least ≡ least_end (drift_of s.which s.slope) n
+    ends = e.2 ∙ (λ i. least_end (drift_of (sym e.0 i) (sym e.1 i)) n)
 
-  drifts : shear_of (table (drift_of s.which s.slope) n) ≡ shear_of (table (drift_of which slope) n)
-  drifts = λ i. shear_of (table (drift_of (e.0 i) (e.1 i)) n)
+    drifts : shear_of (table (drift_of s.which s.slope) n) ≡ shear_of (table (drift_of which slope) n)
+    drifts = λ i. shear_of (table (drift_of (e.0 i) (e.1 i)) n)
 
-  pub least-of : (k : ℕ) → k ≤ n → LeastOf s.which s.slope k s.least
-  least-of k l = record { n = n; enough = l; few = few; one = one; least_is = ends }
+    pub least-of : (k : ℕ) → k ≤ n → LeastOf s.which s.slope k s.least
+    least-of k l = record { n = n; enough = l; few = few; one = one; least_is = ends }
 
-  filled : table (entry_of s.which s.slope s.least) n ≡ shear_of (table (drift_of s.which s.slope) n)
-  filled = ap (λ z. table (entry_of s.which s.slope z) n) ends ∙ shear-by-least _ _ _ _ (drifts-one-way s.which s.slope one n some few)
+    filled : table (entry_of s.which s.slope s.least) n ≡ shear_of (table (drift_of s.which s.slope) n)
+    filled = ap (λ z. table (entry_of s.which s.slope z) n) ends ∙ shear-by-least _ _ _ _ (drifts-one-way s.which s.slope one n some few)
 
-  pub shear-filled : table (entry_of s.which s.slope s.least) n ≡ shear_of (table (drift_of which slope) n)
-  shear-filled = filled ∙ drifts
+    pub shear-filled : table (entry_of s.which s.slope s.least) n ≡ shear_of (table (drift_of which slope) n)
+    shear-filled = filled ∙ drifts
 
-  pub ends-greatest : max (entry_of s.which s.slope s.least 0) (entry_of s.which s.slope s.least (n - 1)) ≡ greatest (shear_of (table (drift_of which slope) n))
-  ends-greatest =
-      let O = drifts-one-way s.which s.slope one n some few in
-      let at : (i : ℕ) → i < n → entry_of s.which s.slope s.least i ≡ shear_entry (falls s.which s.slope) (drift_size s.slope) n i =
-      λ i l. ap natural (ap (λ z. drift_of s.which s.slope i -ℤ z) ends ∙ minus-least _ _ _ _ O i l) in
-      (λ t. max (at 0 some t) (at (n - 1) (omega arith) t)) ∙ greatest-of-ends _ _ _ _ O ∙ ap greatest drifts
+    pub ends-greatest : max (entry_of s.which s.slope s.least 0) (entry_of s.which s.slope s.least (n - 1)) ≡ greatest (shear_of (table (drift_of which slope) n))
+    ends-greatest =
+        let O = drifts-one-way s.which s.slope one n some few in
+        let at : (i : ℕ) → i < n → entry_of s.which s.slope s.least i ≡ shear_entry (falls s.which s.slope) (drift_size s.slope) n i =
+        λ i l. ap natural (ap (λ z. drift_of s.which s.slope i -ℤ z) ends ∙ minus-least _ _ _ _ O i l) in
+        (λ t. max (at 0 some t) (at (n - 1) (omega arith) t)) ∙ greatest-of-ends _ _ _ _ O ∙ ap greatest drifts
 
-  module _ (words : List ℕ) (room : n ≤ length words) where
-    pub shear-same : ((i : ℕ) → i < n → get_or words i 0 ≡ entry_of s.which s.slope s.least i) → true ≡ same_words (take n words) (shear_of (table (drift_of which slope) n))
-    shear-same h = words_same words (entry_of s.which s.slope s.least) n room h ∙ ap (same_words (take n words)) shear-filled
+    module _ (words : List ℕ) (room : n ≤ length words) where
+      pub shear-same : ((i : ℕ) → i < n → get_or words i 0 ≡ entry_of s.which s.slope s.least i) → true ≡ same_words (take n words) (shear_of (table (drift_of which slope) n))
+      shear-same h = words_same words (entry_of s.which s.slope s.least) n room h ∙ ap (same_words (take n words)) shear-filled
 
-    pub shear-other : (i : ℕ) → i < n → (get_or words i 0 ≡ entry_of s.which s.slope s.least i → ⊥) → false ≡ same_words (take n words) (shear_of (table (drift_of which slope) n))
-    shear-other i l h = words-other words (entry_of s.which s.slope s.least) n room i l h ∙ ap (same_words (take n words)) shear-filled
+      pub shear-other : (i : ℕ) → i < n → (get_or words i 0 ≡ entry_of s.which s.slope s.least i → ⊥) → false ≡ same_words (take n words) (shear_of (table (drift_of which slope) n))
+      shear-other i l h = words-other words (entry_of s.which s.slope s.least) n room i l h ∙ ap (same_words (take n words)) shear-filled

@@ -32,7 +32,11 @@ struct Shear {
 pub fn applied(sheet: LayoutParams, skew: f64, v: f64) -> f64
     ensures { result ≡ Shears.applied sheet skew v }
 {
-    if sheet.shear_min_deg <= skew.abs() { v } else { 0.0 }
+    if sheet.shear_min_deg <= skew.abs() {
+        v
+    } else {
+        0.0
+    }
 }
 
 // The shear of n drifts over the front of out.
@@ -81,7 +85,11 @@ impl Shear {
         ensures { (result.which ≡ which) × (result.slope ≡ slope) × (result.least ≡ least_end (drift_of which slope) n) }
     {
         let least = drift_of(which, 0, slope).min(drift_of(which, n - 1, slope));
-        Shear { which, slope, least }
+        Shear {
+            which,
+            slope,
+            least,
+        }
     }
 
     // Entry i: drift i minus the least.

@@ -70,7 +70,9 @@ impl PagePlane<'_> {
         requires inside { c + n ≤ self.now.sides.page_w }
         ensures { (done : ℕ → Bool) (s : List ℕ) → out.old ≡ partly (frame_moved self.now) self.now.fill self.now.page.now done s → out.new ≡ partly (frame_moved self.now) self.now.fill self.now.page.now (or_rows done self.now.sides.page_w c n self.now.sides.page_h) s }
     {
-        let way = Pieces::<CHUNK, Pieces<QUARTER, Dots>> { finer: Pieces { finer: Dots } };
+        let way = Pieces::<CHUNK, Pieces<QUARTER, Dots>> {
+            finer: Pieces { finer: Dots },
+        };
         for y in 0..self.sides.page_h {
             way.move_part(self, Part { y, c, n }, out);
         }
@@ -100,11 +102,16 @@ impl<const N: usize, W: Way> Way for Pieces<N, W> {
             let c = part.c + piece * N;
             let from = row + c;
             if !all_equal(&plane.page[from..from + N], plane.fill) {
-                self.finer.move_part(plane, Part { y: part.y, c, n: N }, out);
+                self.finer
+                    .move_part(plane, Part { y: part.y, c, n: N }, out);
             }
         }
         let done = whole * N;
-        let rest = Part { y: part.y, c: part.c + done, n: part.n - done };
+        let rest = Part {
+            y: part.y,
+            c: part.c + done,
+            n: part.n - done,
+        };
         Dots.move_part(plane, rest, out);
     }
 }

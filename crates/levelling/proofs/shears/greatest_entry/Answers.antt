@@ -1,6 +1,5 @@
-use mathlib.Core.Path.{◌≡◌, ◌∙◌}
-use Prim.Native.Nat.{ℕ, max}
-use native.Mathlib.Omega.{arith}
+use mathlib.Core.Path.{◌∙◌}
+use Prim.Native.Nat.{max}
 use Rattle.levelling.proofs.ShearTests.{ends-greatest}
 use Rattle.levelling.proofs.shears.greatest_entry.Goals as goal
 
