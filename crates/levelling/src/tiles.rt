@@ -81,14 +81,22 @@ impl PagePlane<'_> {
 
 impl Way for Dots {
     fn move_part(&self, plane: &PagePlane, part: Part, out: &mut [u8]) {
-        let from = part.y * plane.sides.page_w;
+        // taken apart, since the compiler would read each field again behind each store
+        let PagePlane {
+            page,
+            fill,
+            sides,
+            shear,
+            shear_x,
+        } = *plane;
+        let from = part.y * sides.page_w;
         for i in 0..part.n {
             let column = part.c + i;
-            let dot = plane.page[from + column];
-            if dot != plane.fill {
-                let r = part.y + plane.shear[column] as usize;
-                let x = column + plane.shear_x[r] as usize;
-                out[r * plane.sides.w + x] = dot;
+            let dot = page[from + column];
+            if dot != fill {
+                let r = part.y + shear[column] as usize;
+                let x = column + shear_x[r] as usize;
+                out[r * sides.w + x] = dot;
             }
         }
     }
@@ -96,12 +104,14 @@ impl Way for Dots {
 
 impl<const N: usize, W: Way> Way for Pieces<N, W> {
     fn move_part(&self, plane: &PagePlane, part: Part, out: &mut [u8]) {
+        let page = plane.page;
+        let fill = plane.fill;
         let row = part.y * plane.sides.page_w;
         let whole = part.n / N;
         for piece in 0..whole {
             let c = part.c + piece * N;
             let from = row + c;
-            if !all_equal(&plane.page[from..from + N], plane.fill) {
+            if !all_equal(&page[from..from + N], fill) {
                 self.finer
                     .move_part(plane, Part { y: part.y, c, n: N }, out);
             }
