@@ -1,8 +1,8 @@
 // Which skew is applied, and the shear of a table of drifts.
-ghost use Rattle.std.specs.Prelude.{◌≡◌, ◌+◌, ◌^◌, ◌-◌, ◌≤◌, ◌<◌, length, take};
+ghost use Rattle.std.specs.Prelude.{◌≡◌, ◌+◌, ◌^◌, ◌≤◌, ◌<◌, length, take};
 ghost use Rattle.memory.specs.rules.Lists.{table, greatest};
 ghost use Rattle.memory.specs.rules.Words.{over, same_words};
-ghost use Rattle.rounding.specs.rules.Drift.{drift, drift_x, WithinOne};
+ghost use Rattle.rounding.specs.rules.Drift.{WithinOne};
 ghost use Rattle.levelling.specs.rules.Shears as Shears;
 ghost use Rattle.levelling.specs.rules.Shears.{drift_of, shear_of};
 ghost use Rattle.levelling.specs.stages.Entries.{least_end, LeastOf, entry_of};
