@@ -73,30 +73,24 @@ impl PagePlane<'_> {
         let way = Pieces::<CHUNK, Pieces<QUARTER, Dots>> {
             finer: Pieces { finer: Dots },
         };
-        for y in 0..self.sides.page_h {
-            way.move_part(self, Part { y, c, n }, out);
+        // a copy, which no store to `out` can change: its fields are read once
+        let plane = *self;
+        for y in 0..plane.sides.page_h {
+            way.move_part(&plane, Part { y, c, n }, out);
         }
     }
 }
 
 impl Way for Dots {
     fn move_part(&self, plane: &PagePlane, part: Part, out: &mut [u8]) {
-        // taken apart, since the compiler would read each field again behind each store
-        let PagePlane {
-            page,
-            fill,
-            sides,
-            shear,
-            shear_x,
-        } = *plane;
-        let from = part.y * sides.page_w;
+        let from = part.y * plane.sides.page_w;
         for i in 0..part.n {
             let column = part.c + i;
-            let dot = page[from + column];
-            if dot != fill {
-                let r = part.y + shear[column] as usize;
-                let x = column + shear_x[r] as usize;
-                out[r * sides.w + x] = dot;
+            let dot = plane.page[from + column];
+            if dot != plane.fill {
+                let r = part.y + plane.shear[column] as usize;
+                let x = column + plane.shear_x[r] as usize;
+                out[r * plane.sides.w + x] = dot;
             }
         }
     }
@@ -104,14 +98,12 @@ impl Way for Dots {
 
 impl<const N: usize, W: Way> Way for Pieces<N, W> {
     fn move_part(&self, plane: &PagePlane, part: Part, out: &mut [u8]) {
-        let page = plane.page;
-        let fill = plane.fill;
         let row = part.y * plane.sides.page_w;
         let whole = part.n / N;
         for piece in 0..whole {
             let c = part.c + piece * N;
             let from = row + c;
-            if !all_equal(&page[from..from + N], fill) {
+            if !all_equal(&plane.page[from..from + N], plane.fill) {
                 self.finer
                     .move_part(plane, Part { y: part.y, c, n: N }, out);
             }
