@@ -57,6 +57,7 @@ impl PagePlane<'_> {
     {
         let page_w = self.sides.page_w;
         let mut c = 0;
+        // a walk from plateau to plateau: no range gives its columns
         while c < page_w {
             let e = ends[c] as usize;
             let s = self.shear[c] as usize;
