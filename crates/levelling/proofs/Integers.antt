@@ -1,15 +1,14 @@
 -- Differences of natural numbers as integers, the lesser of two integers, and how the machine keeps them.
 use mathlib.Core.Path.{◌≡◌, refl, sym, ap, ◌∙◌, subst}
-use mathlib.Core.Bool.{Bool, true, false, cond, true≢false}
 use Prim.Native.Nat.{ℕ, zero, suc, ◌+◌, ◌-◌, ◌≤◌, ◌<◌, min, max}
 use native.Mathlib.Decide.{dec_le}
 use native.Mathlib.Omega.{arith}
-use borrow.Author.Tests.{lt-ltb, le-ltb, ltb-true, ltb-false}
-use lib.Dec.{T, ltb}
-use lib.Signed.{mag, non_neg, lt_z}
+use borrow.Author.Tests.{lt-ltb, le-ltb}
+use lib.Dec.{T}
+use lib.Signed.{non_neg}
 use mir.Syntax.{w32, w64}
 use mir.Val.{Fits, SFits, to_z, of_z}
-use mir.ValLaws.{to_z_pos, to_z-of_z}
+use mir.ValLaws.{to_z-of_z}
 use lib.IntN.{ℤ, pos, negsuc, sub_ℕ, neg_ℤ, nat_abs, ◌-ℤ◌, pos-ne-negsuc}
 use Rattle.levelling.specs.rules.Shears.{minℤ, natural}
 
@@ -71,16 +70,6 @@ negated-lesser (suc a) zero l = absurd (omega arith)
 negated-lesser zero (suc b) l = refl
 negated-lesser (suc a) (suc b) l = ap negsuc (let e : max a b ≡ b = omega arith in e)
 
-pub lesser-by-test : (a b : ℤ) (t : Bool) → lt_z a b ≡ t → cond t a b ≡ minℤ a b
-lesser-by-test (pos a) (pos b) true e = ap pos (let l = ltb-true a b e in let q : a ≡ min a b = omega arith in q)
-lesser-by-test (pos a) (pos b) false e = ap pos (let l = ltb-false a b e in let q : b ≡ min a b = omega arith in q)
-lesser-by-test (pos a) (negsuc b) true e = absurd (true≢false (sym e))
-lesser-by-test (pos a) (negsuc b) false e = refl
-lesser-by-test (negsuc a) (pos b) true e = refl
-lesser-by-test (negsuc a) (pos b) false e = absurd (true≢false e)
-lesser-by-test (negsuc a) (negsuc b) true e = ap negsuc (let l = ltb-true b a e in let q : a ≡ max a b = omega arith in q)
-lesser-by-test (negsuc a) (negsuc b) false e = ap negsuc (let l = ltb-false b a e in let q : b ≡ max a b = omega arith in q)
-
 -- ---- a difference of two words, as the machine has it
 pub natural-sub : (a b : ℕ) → natural (sub_ℕ a b) ≡ a - b
 natural-sub a b = go (dec_le b a)
@@ -88,28 +77,6 @@ natural-sub a b = go (dec_le b a)
     go : Dec (b ≤ a) → natural (sub_ℕ a b) ≡ a - b
     go (yes l) = ap natural (sub-at-least a b l)
     go (no l) = rw (lt-ltb a b (omega arith)) (let e : 0 ≡ a - b = omega arith in e)
-
-minus-is-sub : (a b : ℕ) → pos a -ℤ pos b ≡ sub_ℕ a b
-minus-is-sub a zero = (let e : a + 0 ≡ a - 0 = omega arith in ap pos e) ∙ sym (sub-at-least a 0 (omega arith))
-minus-is-sub a (suc b) = refl
-
-module _ (a b : ℕ) (A : a < 4294967296) (B : b < 4294967296) where
-  pub words-difference : to_z w64 a -ℤ to_z w64 b ≡ sub_ℕ a b
-  words-difference = (λ i. to_z_pos w64 a (omega arith) i -ℤ to_z_pos w64 b (omega arith) i) ∙ minus-is-sub a b
-
-  small : mag (sub_ℕ a b) < 9223372036854775808
-  small = go (ltb a b)
-    where
-      go : (t : Bool) → mag (cond t (negsuc (b - suc a)) (pos (a - b))) < 9223372036854775808
-      go true = omega arith
-      go false = omega arith
-
-  pub words-difference-fits : SFits w64 (to_z w64 a -ℤ to_z w64 b)
-  words-difference-fits = subst (SFits w64) (sym words-difference) (record { sfits = small })
-
-  -- kept in a field, it is the same
-  pub words-difference-kept : (z : ℤ) → z ≡ sub_ℕ a b → to_z w64 (of_z w64 z) ≡ sub_ℕ a b
-  words-difference-kept z e = ap (λ v. to_z w64 (of_z w64 v)) e ∙ to_z-of_z w64 (sub_ℕ a b) (record { sfits = small })
 
 -- a signed number that is not below 0, and small: it may be cast to an unsigned one
 module _ {z : ℤ} {n : ℕ} (e : z ≡ pos n) (small : n < 2147483648) where

@@ -1,16 +1,16 @@
 -- A frame row by its columns: added dots at both ends, and between them the page's columns, by plateaus that move by the same number of rows.
-use mathlib.Core.Path.{◌≡◌, refl, sym, ap, ◌∙◌, subst}
+use mathlib.Core.Path.{◌≡◌, refl, sym, ap, ◌∙◌}
 use mathlib.Core.List.{List, ◌++◌, append_assoc}
 use mathlib.Core.Bool.{cond, ◌&&◌}
 use Prim.Native.Nat.{ℕ, ◌+◌, ◌-◌, ◌*◌, ◌/◌, ◌%◌, ◌≤◌, ◌<◌, min}
 use native.Mathlib.Nat.{add_assoc, suc-mul, mul_comm}
 use native.Mathlib.Numerals.{add-one}
-use native.Mathlib.Decide.{dec_lt, dec_le, ℕ_discrete}
+use native.Mathlib.Decide.{dec_le}
 use native.Mathlib.Omega.{arith}
 use borrow.Author.Tests.{lt-ltb, le-ltb, lt-leb, le-leb}
 use lib.IntN.{pos, sub_ℕ}
-use lib.ListN.{get_or, length, take, drop, set}
-use lib.Seq.{get_or-set_same, get_or-set_other, take_at, drop_at}
+use lib.ListN.{get_or, length, take, drop}
+use lib.Seq.{take_at, drop_at}
 use borrow.Rule.Slice.PartMut.{put_mid}
 use lib.Dec.{ltb, leb}
 use Rattle.memory.specs.rules.Lists.{table}
@@ -24,7 +24,7 @@ use Rattle.levelling.specs.declared.Point.{Point}
 use Rattle.levelling.proofs.Integers.{sub-at-least}
 use Rattle.levelling.specs.rules.Mapping.{to_page}
 use Rattle.levelling.specs.rules.Planes.{within, level_at, levelled}
-use Rattle.levelling.specs.stages.Moves.{column_at, Plateau, Plateaus}
+use Rattle.levelling.specs.stages.Moves.{column_at, Plateau}
 
 -- ---- a column of a frame row
 column-above : (page : List ℕ) (fill w h r s c : ℕ) → r < s → column_at page fill w h r s c ≡ fill
@@ -63,22 +63,6 @@ module _ (page : List ℕ) (fill w h r s c n : ℕ) where
       over-all (take (a + n - a) (drop a page)) out (ap length part ∙ (length-table _ n ∙ sym o)) ∙ part
 
 -- ---- where the plateaus end
-pub plateau-alone : (shear : List ℕ) (c : ℕ) → c < length shear → Plateau shear c (c + 1)
-plateau-alone shear c l = record { some = omega arith; inside = omega arith; level = λ k a b. ap (λ i. get_or shear i 0) (let e : k ≡ c = omega arith in e) }
-
-pub plateau-longer : (shear : List ℕ) (c e : ℕ) → get_or shear (c + 1) 0 ≡ get_or shear c 0 → Plateau shear (c + 1) e → Plateau shear c e
-plateau-longer shear c e q S = record { some = (let s = S.some in omega arith); inside = S.inside; level = λ k a b. go k a b (dec_lt c k) }
-  where
-    go : (k : ℕ) → c ≤ k → k < e → Dec (c < k) → get_or shear k 0 ≡ get_or shear c 0
-    go k a b (yes l) = S.level k (omega arith) b ∙ q
-    go k a b (no l) = ap (λ i. get_or shear i 0) (let e : k ≡ c = omega arith in e)
-
-pub plateaus-more : (shear ends : List ℕ) (c e : ℕ) → c < length ends → Plateaus shear ends (c + 1) → Plateau shear c e → Plateaus shear (set ends c e) c
-plateaus-more shear ends c e l S T k a b = go (ℕ_discrete k c)
-  where
-    go : Dec (k ≡ c) → Plateau shear k (get_or (set ends c e) k 0)
-    go (yes q) = subst (λ i. Plateau shear i (get_or (set ends c e) i 0)) (sym q) (subst (Plateau shear c) (sym (get_or-set_same ends c e 0 l)) T)
-    go (no q) = subst (Plateau shear k) (sym (get_or-set_other ends c k e 0 q)) (S k (omega arith) b)
 
 -- ---- the page's columns, one more plateau put in
 abbrev pub columns_at : List ℕ → ℕ → ℕ → ℕ → List ℕ → ℕ → ℕ → ℕ

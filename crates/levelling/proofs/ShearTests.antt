@@ -14,6 +14,7 @@ use Rattle.memory.proofs.WordLaws.{words_same, words-other}
 use Rattle.rounding.specs.rules.Drift.{WithinOne}
 use Rattle.rounding.proofs.DriftLaws.{drift-within}
 use Rattle.levelling.specs.declared.shears.Drift.{Drift}
+use Rattle.levelling.specs.declared.shears.Shear.{Shear}
 use Rattle.levelling.specs.rules.Shears.{natural, drift_of, shear_of}
 use Rattle.levelling.specs.stages.Entries.{least_end, LeastOf, entry_of}
 use Rattle.levelling.proofs.SlopeLaws.{drift_size, falls}
@@ -48,24 +49,39 @@ module _ (which : Drift) (slope : Float) (k : ℕ) (least : ℤ) (L : LeastOf wh
       let at : (i : ℕ) → i < k → entry_of which slope least i ≡ shear_entry (falls which slope) (drift_size slope) L.n i = λ i l. ap natural (closed i l) in
       at a (omega arith) ∙ (level-between _ _ _ _ (way (omega arith)) a b c l m (omega arith) (sym (at a (omega arith)) ∙ (q ∙ at c h)) ∙ sym (at b (omega arith)))
 
--- ---- the least of n drifts
-module _ (which : Drift) (slope : Float) (n : ℕ) (least : ℤ) (W : WithinOne slope) (some : 0 < n) (few : n ≤ 2 ^ 15) (q : least ≡ least_end (drift_of which slope) n) where
-  pub least-of : (k : ℕ) → k ≤ n → LeastOf which slope k least
-  least-of k l = record { n = n; enough = l; few = few; one = W; least_is = q }
+-- ---- a shear of n drifts, as the code holds it
+module _
+    (s : Shear) (which : Drift) (slope : Float) (n : ℕ) (W : WithinOne slope) (some : 0 < n) (few : n ≤ 2 ^ 15)
+    (e : (s.which ≡ which) × (s.slope ≡ slope) × (s.least ≡ least_end (drift_of which slope) n))
+  where
+    one : WithinOne s.slope
+    one = subst WithinOne (sym e.1) W
 
-  pub shear-filled : table (entry_of which slope least) n ≡ shear_of (table (drift_of which slope) n)
-  shear-filled = ap (λ z. table (entry_of which slope z) n) q ∙ shear-by-least _ _ _ _ (drifts-one-way which slope W n some few)
+    ends : s.least ≡ least_end (drift_of s.which s.slope) n
+    ends = e.2 ∙ (λ i. least_end (drift_of (sym e.0 i) (sym e.1 i)) n)
 
-  pub ends-greatest : max (entry_of which slope least 0) (entry_of which slope least (n - 1)) ≡ greatest (shear_of (table (drift_of which slope) n))
-  ends-greatest =
-      let O = drifts-one-way which slope W n some few in
-      let at : (i : ℕ) → i < n → entry_of which slope least i ≡ shear_entry (falls which slope) (drift_size slope) n i =
-      λ i l. ap natural (ap (λ z. drift_of which slope i -ℤ z) q ∙ minus-least _ _ _ _ O i l) in
-      (λ t. max (at 0 some t) (at (n - 1) (omega arith) t)) ∙ greatest-of-ends _ _ _ _ O
+    drifts : shear_of (table (drift_of s.which s.slope) n) ≡ shear_of (table (drift_of which slope) n)
+    drifts = λ i. shear_of (table (drift_of (e.0 i) (e.1 i)) n)
 
-  module _ (words : List ℕ) (room : n ≤ length words) where
-    pub shear-same : ((i : ℕ) → i < n → get_or words i 0 ≡ entry_of which slope least i) → true ≡ same_words (take n words) (shear_of (table (drift_of which slope) n))
-    shear-same h = words_same words (entry_of which slope least) n room h ∙ ap (same_words (take n words)) shear-filled
+    pub least-of : (k : ℕ) → k ≤ n → LeastOf s.which s.slope k s.least
+    least-of k l = record { n = n; enough = l; few = few; one = one; least_is = ends }
 
-    pub shear-other : (i : ℕ) → i < n → (get_or words i 0 ≡ entry_of which slope least i → ⊥) → false ≡ same_words (take n words) (shear_of (table (drift_of which slope) n))
-    shear-other i l h = words-other words (entry_of which slope least) n room i l h ∙ ap (same_words (take n words)) shear-filled
+    filled : table (entry_of s.which s.slope s.least) n ≡ shear_of (table (drift_of s.which s.slope) n)
+    filled = ap (λ z. table (entry_of s.which s.slope z) n) ends ∙ shear-by-least _ _ _ _ (drifts-one-way s.which s.slope one n some few)
+
+    pub shear-filled : table (entry_of s.which s.slope s.least) n ≡ shear_of (table (drift_of which slope) n)
+    shear-filled = filled ∙ drifts
+
+    pub ends-greatest : max (entry_of s.which s.slope s.least 0) (entry_of s.which s.slope s.least (n - 1)) ≡ greatest (shear_of (table (drift_of which slope) n))
+    ends-greatest =
+        let O = drifts-one-way s.which s.slope one n some few in
+        let at : (i : ℕ) → i < n → entry_of s.which s.slope s.least i ≡ shear_entry (falls s.which s.slope) (drift_size s.slope) n i =
+        λ i l. ap natural (ap (λ z. drift_of s.which s.slope i -ℤ z) ends ∙ minus-least _ _ _ _ O i l) in
+        (λ t. max (at 0 some t) (at (n - 1) (omega arith) t)) ∙ greatest-of-ends _ _ _ _ O ∙ ap greatest drifts
+
+    module _ (words : List ℕ) (room : n ≤ length words) where
+      pub shear-same : ((i : ℕ) → i < n → get_or words i 0 ≡ entry_of s.which s.slope s.least i) → true ≡ same_words (take n words) (shear_of (table (drift_of which slope) n))
+      shear-same h = words_same words (entry_of s.which s.slope s.least) n room h ∙ ap (same_words (take n words)) shear-filled
+
+      pub shear-other : (i : ℕ) → i < n → (get_or words i 0 ≡ entry_of s.which s.slope s.least i → ⊥) → false ≡ same_words (take n words) (shear_of (table (drift_of which slope) n))
+      shear-other i l h = words-other words (entry_of s.which s.slope s.least) n room i l h ∙ ap (same_words (take n words)) shear-filled

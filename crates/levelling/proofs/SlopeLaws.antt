@@ -1,19 +1,20 @@
--- A slope from -1 to 1, and its two drifts by sign and size; the skew's magnitude, as the code compares it.
+-- A slope from -1 to 1, and its two drifts by sign and size; the skew's magnitude.
 use mathlib.Core.Path.{◌≡◌, refl, sym, ap, ◌∙◌}
-use mathlib.Core.Bool.{Bool, true, false, not, ◌&&◌, ◌||◌, or-true, or_comm}
+use mathlib.Core.Bool.{Bool, true, false, not, ◌&&◌, ◌||◌}
 use Prim.Native.Nat.{ℕ, ◌+◌, ◌*◌, ◌^◌, ◌≤◌, ◌<◌}
 use native.Mathlib.Decide.{dec_lt}
 use native.Mathlib.Omega.{arith}
 use borrow.Author.Tests.{lt-ltb, le-ltb, eq-eqb}
 use lib.IntN.{nat_abs}
 use lib.Dec.{T, ltb, eqb, eqb→eq, lt→ltb}
-use lib.Ieee.{Float, nan, inf, fin, le, lt, eq, neg, up, down, below, level}
+use lib.Ieee.{Float, nan, inf, fin, le, neg, up, down}
 use lib.Ieee.Fits.{down_pos}
 use Rattle.rounding.specs.rules.Drift.{WithinOne, drift}
 use Rattle.rounding.proofs.Tests.{at_most, first_so}
 use Rattle.rounding.proofs.Signs.{negative}
 use Rattle.rounding.proofs.DriftLaws.{signed, drift-signed, drift-negated, drift_x-is-drift}
 use Rattle.levelling.specs.declared.shears.Drift.{Drift}
+use Rattle.std.specs.Float.{float_with_sign}
 use Rattle.levelling.specs.rules.Shears.{magnitude, drift_of}
 use Rattle.levelling.proofs.Integers.{nat_abs-negated}
 
@@ -65,39 +66,9 @@ drift_of-signed Drift.Column slope w i few =
     drift_x-is-drift slope i
     ∙ (drift-signed (neg slope) (within-negated slope w) i few ∙ (λ k. signed (negative-negated slope w k) (size-negated slope w i few k)))
 
--- ---- the magnitude, as the code compares it: with the float or with its negation
-either-sign : (t : Bool) (a b : ℕ) → (below t a false b || level t a false b) ≡ ((below t a true b || level t a true b) || (below t a false b || level t a false b))
-either-sign true a b = reached ∙ sym (ap (λ v. (below true a true b || level true a true b) || v) reached ∙ or-true (below true a true b || level true a true b))
-  where
-    reached : (ltb 0 (a + b) || level true a false b) ≡ true
-    reached = go (dec_lt 0 (a + b))
-      where
-        go : Dec (0 < a + b) → (ltb 0 (a + b) || level true a false b) ≡ true
-        go (yes k) = rw (lt-ltb 0 (a + b) k)
-        go (no k) = rw (le-ltb 0 (a + b) (omega arith), eq-eqb a b (omega arith), eq-eqb a 0 (omega arith))
-either-sign false a b = go (ltb a b) (eqb a b) (eqb a 0)
-  where
-    go : (p q z : Bool) → (p || (q && true)) ≡ ((q && z) || (p || (q && true)))
-    go p false z = refl
-    go true true true = refl
-    go true true false = refl
-    go false true true = refl
-    go false true false = refl
-
-pub magnitude-reaches : (least x : Float) → le least (magnitude x) ≡ (le least x || le least (neg x))
-unfolding lt eq le neg magnitude
-magnitude-reaches nan nan = refl
-magnitude-reaches nan (inf s) = refl
-magnitude-reaches nan (fin s m e) = refl
-magnitude-reaches (inf t) nan = refl
-magnitude-reaches (inf true) (inf true) = refl
-magnitude-reaches (inf true) (inf false) = refl
-magnitude-reaches (inf false) (inf true) = refl
-magnitude-reaches (inf false) (inf false) = refl
-magnitude-reaches (inf true) (fin s m e) = refl
-magnitude-reaches (inf false) (fin s m e) = refl
-magnitude-reaches (fin t n d) nan = refl
-magnitude-reaches (fin t n d) (inf true) = refl
-magnitude-reaches (fin t n d) (inf false) = refl
-magnitude-reaches (fin t n d) (fin true m e) = either-sign t (n * up d * down e) (m * up e * down d)
-magnitude-reaches (fin t n d) (fin false m e) = either-sign t (n * up d * down e) (m * up e * down d) ∙ or_comm (le (fin t n d) (fin true m e)) (le (fin t n d) (fin false m e))
+-- ---- the magnitude is the library's
+pub magnitude-is : (x : Float) → float_with_sign false x ≡ magnitude x
+unfolding magnitude float_with_sign
+magnitude-is nan = refl
+magnitude-is (inf s) = refl
+magnitude-is (fin s m e) = refl

@@ -120,14 +120,6 @@ module _ (f : Frame) (fill : ℕ) (p : List ℕ) (c y v : ℕ) (lc : c < f.page_
           ∙ sym (get_or-table _ (f.w * f.h) i fill q)))
 
 -- ---- ranges
-range_none : (b : Bool) (a i : ℕ) → (b || (leb a i && ltb i (a + 0))) ≡ b
-range_none true a i = refl
-range_none false a i = go (dec_le a i)
-  where
-    go : Dec (a ≤ i) → (leb a i && ltb i (a + 0)) ≡ false
-    go (yes l) = rw (le-leb a i l, le-ltb i (a + 0) (omega arith))
-    go (no l) = rw (lt-leb a i (omega arith))
-
 range-more : (b : Bool) (a n i : ℕ) → ((b || (leb a i && ltb i (a + n))) || eqb i (a + n)) ≡ (b || (leb a i && ltb i (a + suc n)))
 range-more true a n i = refl
 range-more false a n i = go (dec_le a i) (dec_lt i (a + n)) (ℕ_discrete i (a + n))
@@ -175,10 +167,6 @@ module _ (page_w page_h : ℕ) (shear shear_x : List ℕ) (w h fill : ℕ) (page
       ∙ ap (λ l. over l s)
       (levelled-set F fill p c y (get_or page (y * page_w + c) fill) lc ly lp lx lr
       ∙ ap (levelled F fill) (shown-set done fill page (y * page_w + c) (omega (arith, fits.page_size, dot-inside page_w page_h c y lc ly))))
-
-  -- a part of no dots
-  pub part_none : (done : ℕ → Bool) (s : List ℕ) (y c : ℕ) → partly F fill page done s ≡ partly F fill page (or_range done (y * page_w + c) (y * page_w + c + 0)) s
-  part_none done s y c = ap (λ p. over (levelled F fill p) s) (shown-ext _ _ fill page (λ j k. sym (range_none (done j) (y * page_w + c) j)))
 
   -- the next dot of a part, number n of those from column c on, stored at its place
   pub dot-stored : (done : ℕ → Bool) (s : List ℕ) (y c n : ℕ) (before after : List ℕ) → y < page_h → c + n < page_w

@@ -6,3 +6,5 @@ pub mod Moves
 pub mod Corners
 -- the lengths of what a plane is moved from and to
 pub mod Rooms
+-- a page plane as the code holds it
+pub mod Held

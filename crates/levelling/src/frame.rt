@@ -8,14 +8,14 @@ ghost use Rattle.levelling.specs.rules.Frames.{PageSides, frame};
 use crate::shears::{Drift, fill_shear, greatest_entry};
 
 // The sides of the frame.
-#[derive(Clone, Copy)]
+#[derive(Clone, Copy, Debug, PartialEq, Eq)]
 pub struct FrameSize {
     pub w: u32,
     pub h: u32,
 }
 
 // The sides of a page and of its frame, as lengths.
-#[derive(Clone, Copy)]
+#[derive(Clone, Copy, Debug, PartialEq, Eq)]
 pub struct Sides {
     pub page_w: usize,
     pub page_h: usize,

@@ -4,6 +4,7 @@
 
 mod frame;
 mod mapping;
+mod page_plane;
 mod plane;
 mod plateaus;
 mod shears;
@@ -15,7 +16,7 @@ pub use plane::level_plane;
 pub use shears::{Drift, applied, is_shear};
 
 // A point in page coordinates. It may lie outside the page, so its coordinates are signed.
-#[derive(Clone, Copy)]
+#[derive(Clone, Copy, Debug, PartialEq, Eq)]
 pub struct Point {
     pub x: i64,
     pub y: i64,

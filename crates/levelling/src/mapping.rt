@@ -8,17 +8,25 @@ ghost use Rattle.levelling.specs.stages.Corners.{dot_to_page};
 use crate::Point;
 use memory::Rect;
 
+// The way back: the shear of each page column and of each frame row, and the page's sides.
+#[derive(Clone, Copy, Debug, PartialEq, Eq)]
+struct Back<'a> {
+    shear: &'a [u32],
+    shear_x: &'a [u32],
+    page_w: u32,
+    page_h: u32,
+}
+
 // Frame point (x, y) in page coordinates; it may lie outside the page.
 pub fn to_page(shear: &[u32], shear_x: &[u32], page_w: u32, x: u32, y: u32) -> Point
     requires { (0 < page_w) × (length shear.now ≡ page_w) × (y < length shear_x.now) }
     ensures { (page_h w h : ℕ) → result ≡ to_page (frame_of page_w page_h shear.now shear_x.now w h) x y }
 {
-    let row = y as usize;
-    let left = shear_x[row];
-    let column = onto_side(x, left, page_w) as usize;
+    let left = shear_x[y as usize];
+    let column = onto_side(x, left, page_w);
     Point {
         x: difference(x, left),
-        y: difference(y, shear[column]),
+        y: difference(y, shear[column as usize]),
     }
 }
 
@@ -27,29 +35,31 @@ pub fn rect_to_page(shear: &[u32], shear_x: &[u32], page_w: u32, page_h: u32, r:
     requires { (0 < page_w) × (0 < page_h) × (length shear.now ≡ page_w) × (r.y0 < length shear_x.now) × (r.y1 < length shear_x.now) }
     ensures { (w h : ℕ) → result ≡ rect_to_page (frame_of page_w page_h shear.now shear_x.now w h) r }
 {
-    let above = dot_to_page(shear, shear_x, page_w, page_h, r.x0, r.y0).union(dot_to_page(
-        shear, shear_x, page_w, page_h, r.x1, r.y0,
-    ));
-    let below = dot_to_page(shear, shear_x, page_w, page_h, r.x0, r.y1).union(dot_to_page(
-        shear, shear_x, page_w, page_h, r.x1, r.y1,
-    ));
+    let back = Back {
+        shear,
+        shear_x,
+        page_w,
+        page_h,
+    };
+    let above = back.dot(r.x0, r.y0).union(back.dot(r.x1, r.y0));
+    let below = back.dot(r.x0, r.y1).union(back.dot(r.x1, r.y1));
     above.union(below)
 }
 
-// The page dot that frame point (x, y) maps to, moved onto the page, as a box.
-fn dot_to_page(shear: &[u32], shear_x: &[u32], page_w: u32, page_h: u32, x: u32, y: u32) -> Rect
-    requires { (0 < page_w) × (0 < page_h) × (length shear.now ≡ page_w) × (y < length shear_x.now) }
-    ensures { (w h : ℕ) → result ≡ dot_to_page (frame_of page_w page_h shear.now shear_x.now w h) x y }
-{
-    let row = y as usize;
-    let column = onto_side(x, shear_x[row], page_w);
-    let at = column as usize;
-    let row = onto_side(y, shear[at], page_h);
-    Rect {
-        x0: column,
-        y0: row,
-        x1: column,
-        y1: row,
+impl Back<'_> {
+    // The page dot that frame point (x, y) maps to, moved onto the page, as a box.
+    fn dot(&self, x: u32, y: u32) -> Rect
+        requires { (0 < self.now.page_w) × (0 < self.now.page_h) × (length self.now.shear.now ≡ self.now.page_w) × (y < length self.now.shear_x.now) }
+        ensures { (w h : ℕ) → result ≡ dot_to_page (frame_of self.now.page_w self.now.page_h self.now.shear.now self.now.shear_x.now w h) x y }
+    {
+        let column = onto_side(x, self.shear_x[y as usize], self.page_w);
+        let row = onto_side(y, self.shear[column as usize], self.page_h);
+        Rect {
+            x0: column,
+            y0: row,
+            x1: column,
+            y1: row,
+        }
     }
 }
 
@@ -58,11 +68,7 @@ fn onto_side(a: u32, b: u32, n: u32) -> u32
     requires { 0 < n }
     ensures { result ≡ min (a - b) (n - 1) }
 {
-    if a < b {
-        return 0;
-    }
-    let d = a - b;
-    if d < n { d } else { n - 1 }
+    a.saturating_sub(b).min(n - 1)
 }
 
 // a - b, which may lie below 0.

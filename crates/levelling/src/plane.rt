@@ -7,8 +7,7 @@ ghost use Rattle.levelling.specs.stages.Rooms.{PlaneFits};
 ghost use Rattle.levelling.specs.rules.Planes.{levelled};
 
 use crate::Sides;
-use crate::plateaus::level_by_plateaus;
-use crate::tiles::level_by_tiles;
+use crate::page_plane::PagePlane;
 
 // Plateaus shorter than this on the average are slower than tiles: measured, no promise goes by it.
 const SHORT: usize = 16;
@@ -25,23 +24,24 @@ pub fn level_plane(
     requires { (PlaneFits (frame_of sides.page_w sides.page_h shear.now shear_x.now sides.w sides.h) page.now out.old) × (sides.page_w ≤ max_page_side) }
     ensures { out.new ≡ over (levelled (frame_of sides.page_w sides.page_h shear.now shear_x.now sides.w sides.h) fill page.now) out.old }
 {
+    let plane = PagePlane {
+        page,
+        fill,
+        sides,
+        shear,
+        shear_x,
+    };
     if is_steep(shear) {
-        level_by_tiles(page, fill, sides, shear, shear_x, out);
-        return;
+        plane.level_by_tiles(out);
+    } else {
+        plane.level_by_plateaus(out);
     }
-    level_by_plateaus(page, fill, sides, shear, shear_x, out);
 }
 
 // Whether a shear's plateaus are short: it runs one way, so it has one more than its ends differ.
 fn is_steep(shear: &[u32]) -> bool {
-    let n = shear.len();
-    if n == 0 {
-        return false;
+    match (shear.first(), shear.last()) {
+        (Some(first), Some(last)) => shear.len() / SHORT < first.abs_diff(*last) as usize,
+        _ => false,
     }
-    let first = shear[0] as usize;
-    let last = shear[n - 1] as usize;
-    if first < last {
-        return n / SHORT < last - first;
-    }
-    n / SHORT < first - last
 }

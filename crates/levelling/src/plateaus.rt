@@ -5,12 +5,12 @@ ghost use Rattle.std.specs.Prelude.{◌≡◌, ◌+◌, ◌*◌, ◌^◌, ◌≤
 ghost use Rattle.memory.specs.rules.Limits.{max_page_side};
 ghost use Rattle.memory.specs.rules.Lists.{table};
 ghost use Rattle.memory.specs.rules.Words.{over};
-ghost use Rattle.levelling.specs.rules.Frames.{frame_of};
-ghost use Rattle.levelling.specs.stages.Rooms.{PlaneFits};
 ghost use Rattle.levelling.specs.rules.Planes.{levelled};
+ghost use Rattle.levelling.specs.stages.Rooms.{PlaneFits};
 ghost use Rattle.levelling.specs.stages.Moves.{Plateau, Plateaus, column_at};
+ghost use Rattle.levelling.specs.stages.Held.{frame_held};
 
-use crate::Sides;
+use crate::page_plane::PagePlane;
 use memory::{MAX_PAGE_SIDE, copy_bytes, fill_bytes};
 
 // The columns of the widest page.
@@ -19,77 +19,66 @@ const COLUMNS: usize = MAX_PAGE_SIDE as usize;
 // What is copied is a multiple of this where it can be: so many bytes are copied without a loop, and an odd rest one by one.
 const CHUNK: usize = 64;
 
-// A page plane moved into the frame, row by row.
-pub fn level_by_plateaus(
-    page: &[u8],
-    fill: u8,
-    sides: Sides,
-    shear: &[u32],
-    shear_x: &[u32],
-    out: &mut [u8],
-)
-    requires planes { PlaneFits (frame_of sides.page_w sides.page_h shear.now shear_x.now sides.w sides.h) page.now out.old }
-    requires narrow { sides.page_w ≤ max_page_side }
-    ensures { out.new ≡ over (levelled (frame_of sides.page_w sides.page_h shear.now shear_x.now sides.w sides.h) fill page.now) out.old }
-{
-    let mut ends = [0u32; COLUMNS];
-    plateau_ends(shear, &mut ends);
-    level_rows(page, fill, sides, shear, shear_x, &ends, out);
-}
-
-// The rows of the frame, one after the other: the page's columns between added dots.
-fn level_rows(
-    page: &[u8],
-    fill: u8,
-    sides: Sides,
-    shear: &[u32],
-    shear_x: &[u32],
-    ends: &[u32],
-    out: &mut [u8],
-)
-    requires planes { PlaneFits (frame_of sides.page_w sides.page_h shear.now shear_x.now sides.w sides.h) page.now out.old }
-    requires room { sides.page_w ≤ length ends.now }
-    requires plateaus { Plateaus shear.now ends.now 0 }
-    ensures { out.new ≡ over (levelled (frame_of sides.page_w sides.page_h shear.now shear_x.now sides.w sides.h) fill page.now) out.old }
-{
-    let page_w = sides.page_w;
-    let w = sides.w;
-    let h = sides.h;
-    let mut r = 0;
-    while r < h {
-        let start = r * w;
-        let left = start + shear_x[r] as usize;
-        let right = left + page_w;
-        let end = start + w;
-        fill_bytes(&mut out[start..left], fill);
-        level_columns(page, fill, sides, shear, ends, r, &mut out[left..right]);
-        fill_bytes(&mut out[right..end], fill);
-        r += 1;
+impl PagePlane<'_> {
+    // The plane moved into the frame, row by row.
+    pub fn level_by_plateaus(&self, out: &mut [u8])
+        requires planes { PlaneFits (frame_held self.now) self.now.page.now out.old }
+        requires narrow { self.now.sides.page_w ≤ max_page_side }
+        ensures { out.new ≡ over (levelled (frame_held self.now) self.now.fill self.now.page.now) out.old }
+    {
+        let mut ends = [0u32; COLUMNS];
+        plateau_ends(self.shear, &mut ends);
+        self.level_rows(&ends, out);
     }
-}
 
-// The page's columns in frame row r, plateau by plateau.
-fn level_columns(
-    page: &[u8],
-    fill: u8,
-    sides: Sides,
-    shear: &[u32],
-    ends: &[u32],
-    r: usize,
-    out: &mut [u8],
-)
-    requires room { (length page.now ≡ sides.page_w * sides.page_h) × (length shear.now ≡ sides.page_w) × (length out.old ≡ sides.page_w) × (sides.page_w ≤ length ends.now) }
-    requires plateaus { Plateaus shear.now ends.now 0 }
-    ensures { out.new ≡ table (λ c. column_at page.now fill sides.page_w sides.page_h r (get_or shear.now c 0) c) sides.page_w }
-{
-    let page_w = sides.page_w;
-    let mut c = 0;
-    while c < page_w {
-        let e = ends[c] as usize;
-        let s = shear[c] as usize;
-        let to = chunk_end(c, e, page_w);
-        level_plateau(page, fill, sides, r, s, c, &mut out[c..to]);
-        c = e;
+    // The rows of the frame, one after the other: the page's columns between added dots.
+    fn level_rows(&self, ends: &[u32], out: &mut [u8])
+        requires planes { PlaneFits (frame_held self.now) self.now.page.now out.old }
+        requires room { self.now.sides.page_w ≤ length ends.now }
+        requires plateaus { Plateaus self.now.shear.now ends.now 0 }
+        ensures { out.new ≡ over (levelled (frame_held self.now) self.now.fill self.now.page.now) out.old }
+    {
+        let w = self.sides.w;
+        for r in 0..self.sides.h {
+            let start = r * w;
+            let left = start + self.shear_x[r] as usize;
+            let right = left + self.sides.page_w;
+            fill_bytes(&mut out[start..left], self.fill);
+            self.level_columns(ends, r, &mut out[left..right]);
+            fill_bytes(&mut out[right..start + w], self.fill);
+        }
+    }
+
+    // The page's columns in frame row r, plateau by plateau.
+    fn level_columns(&self, ends: &[u32], r: usize, out: &mut [u8])
+        requires room { (length self.now.page.now ≡ self.now.sides.page_w * self.now.sides.page_h) × (length self.now.shear.now ≡ self.now.sides.page_w) × (length out.old ≡ self.now.sides.page_w) × (self.now.sides.page_w ≤ length ends.now) }
+        requires plateaus { Plateaus self.now.shear.now ends.now 0 }
+        ensures { out.new ≡ table (λ c. column_at self.now.page.now self.now.fill self.now.sides.page_w self.now.sides.page_h r (get_or self.now.shear.now c 0) c) self.now.sides.page_w }
+    {
+        let page_w = self.sides.page_w;
+        let mut c = 0;
+        // a walk from plateau to plateau: no range gives its columns
+        while c < page_w {
+            let e = ends[c] as usize;
+            let s = self.shear[c] as usize;
+            let to = chunk_end(c, e, page_w);
+            self.level_plateau(r, s, c, &mut out[c..to]);
+            c = e;
+        }
+    }
+
+    // The columns c, c + 1, .. of frame row r, which all move by s rows.
+    fn level_plateau(&self, r: usize, s: usize, c: usize, out: &mut [u8])
+        requires page_size { length self.now.page.now ≡ self.now.sides.page_w * self.now.sides.page_h }
+        requires inside { c + length out.old ≤ self.now.sides.page_w }
+        ensures { out.new ≡ table (λ i. column_at self.now.page.now self.now.fill self.now.sides.page_w self.now.sides.page_h r s (c + i)) (length out.old) }
+    {
+        if r < s || self.sides.page_h <= r - s {
+            fill_bytes(out, self.fill);
+            return;
+        }
+        let from = (r - s) * self.sides.page_w + c;
+        copy_columns(out, &self.page[from..from + out.len()]);
     }
 }
 
@@ -98,27 +87,8 @@ fn chunk_end(c: usize, e: usize, page_w: usize) -> usize
     requires { (c ≤ e) × (e ≤ page_w) × (e < 2 ^ 32) }
     ensures { (e ≤ result) × (result ≤ page_w) }
 {
-    let n = (e - c + (CHUNK - 1)) / CHUNK * CHUNK;
+    let n = (e - c).next_multiple_of(CHUNK);
     if n <= page_w - c { c + n } else { e }
-}
-
-// The columns c, c + 1, .. of frame row r, which all move by s rows.
-fn level_plateau(page: &[u8], fill: u8, sides: Sides, r: usize, s: usize, c: usize, out: &mut [u8])
-    requires page_size { length page.now ≡ sides.page_w * sides.page_h }
-    requires inside { c + length out.old ≤ sides.page_w }
-    ensures { out.new ≡ table (λ i. column_at page.now fill sides.page_w sides.page_h r s (c + i)) (length out.old) }
-{
-    if r < s {
-        fill_bytes(out, fill);
-        return;
-    }
-    if sides.page_h <= r - s {
-        fill_bytes(out, fill);
-        return;
-    }
-    let from = (r - s) * sides.page_w + c;
-    let to = from + out.len();
-    copy_columns(out, &page[from..to]);
 }
 
 // The whole of src over the front of dst: most plateaus are one chunk, and its known length spares the loop.
@@ -148,9 +118,7 @@ fn plateau_ends(shear: &[u32], ends: &mut [u32])
     requires { (length shear.now ≤ length ends.old) × (length shear.now ≤ max_page_side) }
     ensures { Plateaus shear.now ends.new 0 }
 {
-    let mut c = shear.len();
-    while 0 < c {
-        c -= 1;
+    for c in (0..shear.len()).rev() {
         ends[c] = plateau_end(shear, ends, c);
     }
 }
@@ -162,10 +130,9 @@ fn plateau_end(shear: &[u32], ends: &[u32], c: usize) -> u32
     ensures { Plateau shear.now c result }
 {
     let next = c + 1;
-    if next < shear.len() {
-        if shear[next] == shear[c] {
-            return ends[next];
-        }
+    if next < shear.len() && shear[next] == shear[c] {
+        ends[next]
+    } else {
+        next as u32
     }
-    next as u32
 }

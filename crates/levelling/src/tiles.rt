@@ -3,12 +3,12 @@
 // Filling and moving the frame band by band was slower, since the page is then read in short parts, and so were narrower tiles.
 ghost use Rattle.std.specs.Prelude.{◌≡◌, Bool, true, List, ℕ, ◌+◌, ◌≤◌, ◌<◌, length, get_or};
 ghost use Rattle.memory.specs.rules.Words.{over};
-ghost use Rattle.levelling.specs.rules.Frames.{frame_of};
-ghost use Rattle.levelling.specs.stages.Rooms.{PlaneFits};
 ghost use Rattle.levelling.specs.rules.Planes.{levelled};
-ghost use Rattle.levelling.specs.stages.Moves.{PartFits, MovesPart, partly, or_rows};
+ghost use Rattle.levelling.specs.stages.Rooms.{PlaneFits};
+ghost use Rattle.levelling.specs.stages.Moves.{partly, or_rows};
+ghost use Rattle.levelling.specs.stages.Held.{frame_held, frame_moved, FitsPart, MovesHeld};
 
-use crate::Sides;
+use crate::page_plane::PagePlane;
 use memory::fill_bytes;
 
 // The columns of a tile, and the most frame rows that one tile goes to at a time: more are slow to store to, which was measured.
@@ -19,238 +19,112 @@ const CHUNK: usize = 64;
 
 const QUARTER: usize = 16;
 
-// A tile of a page: n columns, from column c on.
-#[derive(Clone, Copy)]
-struct Tile {
-    c: usize,
-    n: usize,
-}
-
 // A part of a page row: n dots of row y, from column c on.
-#[derive(Clone, Copy)]
+#[derive(Clone, Copy, Debug, PartialEq, Eq)]
 struct Part {
     y: usize,
     c: usize,
     n: usize,
 }
 
-// A page plane moved into the frame, tile by tile.
-pub fn level_by_tiles(
-    page: &[u8],
-    fill: u8,
-    sides: Sides,
-    shear: &[u32],
-    shear_x: &[u32],
-    out: &mut [u8],
-)
-    requires { PlaneFits (frame_of sides.page_w sides.page_h shear.now shear_x.now sides.w sides.h) page.now out.old }
-    ensures { out.new ≡ over (levelled (frame_of sides.page_w sides.page_h shear.now shear_x.now sides.w sides.h) fill page.now) out.old }
-{
-    let page_w = sides.page_w;
-    let dots = sides.w * sides.h;
-    fill_bytes(&mut out[0..dots], fill);
-    let added = sides.h - sides.page_h;
-    let mut c = 0;
-    while c < page_w {
-        let n = tile_columns(page_w - c, added);
-        move_tile(page, fill, sides, shear, shear_x, Tile { c, n }, out);
-        c += n;
-    }
+// A way to move a part of a page row: each dot that is not as added dots are goes to its place.
+trait Way {
+    fn move_part(&self, plane: &PagePlane, part: Part, out: &mut [u8])
+        requires fits { FitsPart plane.now part out.old }
+        ensures { MovesHeld plane.now part out.old out.new };
 }
 
-// The columns of the next tile, of those that are left: all, where the shear adds few rows.
-fn tile_columns(left: usize, added: usize) -> usize
-    ensures { (result ≤ left) × (0 < left → 0 < result) }
-{
-    if added <= TILE {
-        return left;
-    }
-    if left < TILE { left } else { TILE }
+// Dot by dot.
+#[derive(Clone, Copy, Debug, PartialEq, Eq)]
+struct Dots;
+
+// Piece by piece of N dots, the finer way. A piece of dots that are as added dots are lies at its places already.
+#[derive(Drop)]
+struct Pieces<const N: usize, W> {
+    finer: W,
+    ghost some: { 0 < N },
 }
 
-// The tile's dots, page row by page row.
-fn move_tile(
-    page: &[u8],
-    fill: u8,
-    sides: Sides,
-    shear: &[u32],
-    shear_x: &[u32],
-    tile: Tile,
-    out: &mut [u8],
-)
-    requires planes { PlaneFits (frame_of sides.page_w sides.page_h shear.now shear_x.now sides.w (length shear_x.now)) page.now out.old }
-    requires inside { tile.c + tile.n ≤ sides.page_w }
-    ensures { (done : ℕ → Bool) (s : List ℕ) → out.old ≡ partly (frame_of sides.page_w sides.page_h shear.now shear_x.now sides.w (length shear_x.now)) fill page.now done s → out.new ≡ partly (frame_of sides.page_w sides.page_h shear.now shear_x.now sides.w (length shear_x.now)) fill page.now (or_rows done sides.page_w tile.c tile.n sides.page_h) s }
-{
-    let page_h = sides.page_h;
-    let c = tile.c;
-    let n = tile.n;
-    let mut y = 0;
-    while y < page_h {
-        move_part(page, fill, sides, shear, shear_x, Part { y, c, n }, out);
-        y += 1;
-    }
-}
-
-// A part of a page row, chunk by chunk.
-fn move_part(
-    page: &[u8],
-    fill: u8,
-    sides: Sides,
-    shear: &[u32],
-    shear_x: &[u32],
-    part: Part,
-    out: &mut [u8],
-)
-    requires { PartFits sides.page_w shear.now shear_x.now sides.w page.now out.old part.y part.c part.n }
-    ensures { MovesPart sides.page_w shear.now shear_x.now sides.w fill page.now part.y part.c part.n out.old out.new }
-{
-    let y = part.y;
-    let c = part.c;
-    let n = part.n;
-    let mut i = 0;
-    while CHUNK <= n - i {
-        let column = c + i;
-        let chunk = Part {
-            y,
-            c: column,
-            n: CHUNK,
-        };
-        move_chunk(page, fill, sides, shear, shear_x, chunk, out);
-        i += CHUNK;
-    }
-    let column = c + i;
-    let left = n - i;
-    let rest = Part {
-        y,
-        c: column,
-        n: left,
-    };
-    move_dots(page, fill, sides, shear, shear_x, rest, out);
-}
-
-// A part of one chunk. Where all its dots are as added dots are, they lie at their places already.
-fn move_chunk(
-    page: &[u8],
-    fill: u8,
-    sides: Sides,
-    shear: &[u32],
-    shear_x: &[u32],
-    part: Part,
-    out: &mut [u8],
-)
-    requires chunk { part.n ≡ 64 }
-    requires fits { PartFits sides.page_w shear.now shear_x.now sides.w page.now out.old part.y part.c part.n }
-    ensures { MovesPart sides.page_w shear.now shear_x.now sides.w fill page.now part.y part.c part.n out.old out.new }
-{
-    let from = part.y * sides.page_w + part.c;
-    let to = from + CHUNK;
-    if all_equal(&page[from..to], fill) {
-        return;
-    }
-    move_quarters(page, fill, sides, shear, shear_x, part, out);
-}
-
-// A part of a page row, quarter by quarter.
-fn move_quarters(
-    page: &[u8],
-    fill: u8,
-    sides: Sides,
-    shear: &[u32],
-    shear_x: &[u32],
-    part: Part,
-    out: &mut [u8],
-)
-    requires { PartFits sides.page_w shear.now shear_x.now sides.w page.now out.old part.y part.c part.n }
-    ensures { MovesPart sides.page_w shear.now shear_x.now sides.w fill page.now part.y part.c part.n out.old out.new }
-{
-    let y = part.y;
-    let c = part.c;
-    let n = part.n;
-    let mut i = 0;
-    while QUARTER <= n - i {
-        let column = c + i;
-        let quarter = Part {
-            y,
-            c: column,
-            n: QUARTER,
-        };
-        move_quarter(page, fill, sides, shear, shear_x, quarter, out);
-        i += QUARTER;
-    }
-    let column = c + i;
-    let left = n - i;
-    let rest = Part {
-        y,
-        c: column,
-        n: left,
-    };
-    move_dots(page, fill, sides, shear, shear_x, rest, out);
-}
-
-// A part of one quarter, in the same way.
-fn move_quarter(
-    page: &[u8],
-    fill: u8,
-    sides: Sides,
-    shear: &[u32],
-    shear_x: &[u32],
-    part: Part,
-    out: &mut [u8],
-)
-    requires quarter { part.n ≡ 16 }
-    requires fits { PartFits sides.page_w shear.now shear_x.now sides.w page.now out.old part.y part.c part.n }
-    ensures { MovesPart sides.page_w shear.now shear_x.now sides.w fill page.now part.y part.c part.n out.old out.new }
-{
-    let from = part.y * sides.page_w + part.c;
-    let to = from + QUARTER;
-    if all_equal(&page[from..to], fill) {
-        return;
-    }
-    move_dots(page, fill, sides, shear, shear_x, part, out);
-}
-
-// A part of a page row, each dot to its place where it is not as added dots are.
-fn move_dots(
-    page: &[u8],
-    fill: u8,
-    sides: Sides,
-    shear: &[u32],
-    shear_x: &[u32],
-    part: Part,
-    out: &mut [u8],
-)
-    requires { PartFits sides.page_w shear.now shear_x.now sides.w page.now out.old part.y part.c part.n }
-    ensures { MovesPart sides.page_w shear.now shear_x.now sides.w fill page.now part.y part.c part.n out.old out.new }
-{
-    let y = part.y;
-    let c = part.c;
-    let n = part.n;
-    let page_w = sides.page_w;
-    let w = sides.w;
-    let from = y * page_w;
-    let mut i = 0;
-    while i < n {
-        let column = c + i;
-        let dot = page[from + column];
-        if dot != fill {
-            let r = y + shear[column] as usize;
-            let x = column + shear_x[r] as usize;
-            out[r * w + x] = dot;
+impl PagePlane<'_> {
+    // The plane moved into the frame, tile by tile, or at once where the shear adds few rows.
+    pub fn level_by_tiles(&self, out: &mut [u8])
+        requires { PlaneFits (frame_held self.now) self.now.page.now out.old }
+        ensures { out.new ≡ over (levelled (frame_held self.now) self.now.fill self.now.page.now) out.old }
+    {
+        let page_w = self.sides.page_w;
+        let dots = self.sides.w * self.sides.h;
+        fill_bytes(&mut out[..dots], self.fill);
+        if self.sides.h - self.sides.page_h <= TILE {
+            self.move_tile(0, page_w, out);
+            return;
         }
-        i += 1;
+        for tile in 0..page_w.div_ceil(TILE) {
+            let c = tile * TILE;
+            self.move_tile(c, TILE.min(page_w - c), out);
+        }
+    }
+
+    // The n columns from c on, page row by page row.
+    fn move_tile(&self, c: usize, n: usize, out: &mut [u8])
+        requires planes { PlaneFits (frame_moved self.now) self.now.page.now out.old }
+        requires inside { c + n ≤ self.now.sides.page_w }
+        ensures { (done : ℕ → Bool) (s : List ℕ) → out.old ≡ partly (frame_moved self.now) self.now.fill self.now.page.now done s → out.new ≡ partly (frame_moved self.now) self.now.fill self.now.page.now (or_rows done self.now.sides.page_w c n self.now.sides.page_h) s }
+    {
+        let way = Pieces::<CHUNK, Pieces<QUARTER, Dots>> {
+            finer: Pieces { finer: Dots },
+        };
+        // a copy, which no store to `out` can change: its fields are read once
+        let plane = *self;
+        for y in 0..plane.sides.page_h {
+            way.move_part(&plane, Part { y, c, n }, out);
+        }
     }
 }
 
-// Whether every byte is v.
+impl Way for Dots {
+    fn move_part(&self, plane: &PagePlane, part: Part, out: &mut [u8]) {
+        let from = part.y * plane.sides.page_w;
+        for i in 0..part.n {
+            let column = part.c + i;
+            let dot = plane.page[from + column];
+            if dot != plane.fill {
+                let r = part.y + plane.shear[column] as usize;
+                let x = column + plane.shear_x[r] as usize;
+                out[r * plane.sides.w + x] = dot;
+            }
+        }
+    }
+}
+
+impl<const N: usize, W: Way> Way for Pieces<N, W> {
+    fn move_part(&self, plane: &PagePlane, part: Part, out: &mut [u8]) {
+        let row = part.y * plane.sides.page_w;
+        let whole = part.n / N;
+        for piece in 0..whole {
+            let c = part.c + piece * N;
+            let from = row + c;
+            if !all_equal(&plane.page[from..from + N], plane.fill) {
+                self.finer
+                    .move_part(plane, Part { y: part.y, c, n: N }, out);
+            }
+        }
+        let done = whole * N;
+        let rest = Part {
+            y: part.y,
+            c: part.c + done,
+            n: part.n - done,
+        };
+        Dots.move_part(plane, rest, out);
+    }
+}
+
+// Whether every byte is v: no early end, so that the machine looks at many at once.
 fn all_equal(part: &[u8], v: u8) -> bool
     ensures { result ≡ true → (i : ℕ) → i < length part.now → get_or part.now i 0 ≡ v }
 {
     let mut equal = true;
-    let mut i = 0;
-    while i < part.len() {
-        equal = equal & (part[i] == v);
-        i += 1;
+    for x in part {
+        equal &= *x == v;
     }
     equal
 }

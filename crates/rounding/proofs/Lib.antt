@@ -1,15 +1,11 @@
 -- tests of the code as facts
 pub mod Tests
--- positive floats as fractions
-pub mod Fractions
 -- the nearest whole number of a fraction
 pub mod NearestWhole
 -- floats with the sign turned
 pub mod Signs
--- rounding, by the range that a float is in
+-- rounding: the library's, and its value
 pub mod HalfAway
--- the saturating casts, by the range that a float is in
-pub mod Casts
 -- the casts after rounding, over whole numbers
 pub mod RoundedCasts
 -- what `round` of lib.Ieee gives, against a fraction

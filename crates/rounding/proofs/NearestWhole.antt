@@ -1,28 +1,13 @@
--- `nearest_whole` over whole numbers: by twice the fraction, at a whole number, below a half, in order, and between its neighbours.
-use Rattle.std.proofs.Common.{◌≡◌, ℕ, suc, ◌+◌, ◌*◌, ◌/◌, ◌%◌, ◌<◌, ◌≤◌, sym, ap, ◌∙◌, le_trans, le_of_eq, lt_of_lt_of_le, mul_assoc, mul_comm, div-lt_iff_lt-mul, add-mul, le-div_iff_mul-le, mul_left_comm, arith}
-use native.Mathlib.Nat.{div-div-eq-div-mul, add-div_right, div-eq_of_lt}
+-- `nearest_whole` over whole numbers: at a whole number, in order, and between its neighbours.
+use Rattle.std.proofs.Common.{◌≡◌, ℕ, suc, ◌+◌, ◌*◌, ◌/◌, ◌<◌, ◌≤◌, sym, ap, ◌∙◌, le_trans, le_of_eq, lt_of_lt_of_le, mul_assoc, mul_comm, div-lt_iff_lt-mul, add-mul, le-div_iff_mul-le, mul_left_comm, arith}
 use lib.Ieee.Nearest.{div_mono}
 use Rattle.rounding.specs.rules.Rounding.{nearest_whole}
-
-pub nearest_whole-by-twice : (n d : ℕ) → 0 < d → 2 * n / d / 2 + 2 * n / d % 2 ≡ nearest_whole n d
-nearest_whole-by-twice n d h =
-    let q = 2 * n / d in
-    up-half q ∙ ap (λ (z : ℕ). z / 2) (sym (add-div_right (2 * n) h)) ∙ div-div-eq-div-mul (2 * n + d) d 2 ∙ ap (λ (z : ℕ). (2 * n + d) / z) (mul_comm d 2)
-  where
-    up-half : (q : ℕ) → q / 2 + q % 2 ≡ (q + 1) / 2
-    up-half q = omega arith
 
 pub nearest_whole-of-whole : (n : ℕ) → n ≡ nearest_whole n 1
 nearest_whole-of-whole n = go n
   where
     go : (n : ℕ) → n ≡ (2 * n + 1) / 2
     go n = omega arith
-
-pub nearest_whole-below-half : (n d : ℕ) → 2 * n < d → nearest_whole n d ≡ 0
-nearest_whole-below-half n d h = div-eq_of_lt (go n d h)
-  where
-    go : (n d : ℕ) → 2 * n < d → 2 * n + d < 2 * d
-    go n d h = omega arith
 
 two_pos : (d : ℕ) → 0 < d → 0 < 2 * d
 two_pos d h = omega arith

@@ -1,4 +1,4 @@
--- A float with its sign turned: after `round`, twice, and as a factor.
+-- A float with its sign turned: after `round`, and as a factor.
 use Rattle.std.proofs.Common.{◌≡◌, ℕ, zero, suc, ◌+◌, ◌*◌, ◌^◌, Bool, true, false, cond, not, eqb, ltb, sym, refl, ap, ◌∙◌}
 use lib.Ieee.{Float, nan, inf, fin, Format, prec, low, emax, up, down, odd, units, round, mul, neg, unlike}
 use lib.Ieee.Fits.{round_is}
@@ -24,16 +24,6 @@ neg-units f s q k = neg-cond (ltb (q * 2 ^ k) (2 ^ (low f + suc (emax f)))) (suc
 
 pub neg-round : (f : Format) (s : Bool) (a b : ℕ) → neg (round f s a b) ≡ round f (not s) a b
 neg-round f s a b = ap neg (round_is f s a b) ∙ neg-units f s _ _ ∙ sym (round_is f (not s) a b)
-
-pub not-not : (s : Bool) → not (not s) ≡ s
-not-not true = refl
-not-not false = refl
-
-pub neg-neg : (x : Float) → neg (neg x) ≡ x
-unfolding neg
-neg-neg nan = refl
-neg-neg (inf s) = ap inf (not-not s)
-neg-neg (fin s m e) = ap (λ (t : Bool). fin t m e) (not-not s)
 
 unlike-not : (s t : Bool) → unlike (not s) t ≡ unlike s (not t)
 unlike-not true true = refl

@@ -1,73 +1,51 @@
 // Rounding to whole numbers, the casts after it, and the sum of a list in a fixed order (math.rs).
 #![tactic(auto)]
 
-ghost use Rattle.std.specs.Prelude.{◌≡◌, true, false, T, pos, negsuc};
-ghost use Rattle.std.specs.Float.Ieee as Ieee;
-ghost use Rattle.std.specs.Float.{fin};
-ghost use Rattle.std.specs.Float.Ieee.Positive.{num, den};
-ghost use Rattle.rounding.specs.rules.Rounding.{nearest_whole, round_half_away, round_to_unsigned, round_to_signed, round_output};
+ghost use Rattle.std.specs.Prelude.{◌≡◌};
+ghost use Rattle.rounding.specs.rules.Rounding.{round_half_away, round_to_unsigned, round_to_signed, round_output};
 ghost use Rattle.rounding.specs.rules.Sums.{block_sum, pairwise_sum};
+
+use std::num;
 
 // A report's floats keep six decimals.
 const OUTPUT_SCALE: f64 = 1_000_000.0;
 
-// From here on a float is a whole number already.
-const ALL_WHOLE: f64 = 4503599627370496.0;
-
 // The most values that are summed left to right.
 const BLOCK: usize = 8;
 
-// Rust's `x.round()`. The negative side goes by the positive one.
+// Rust's `x.round()`.
 pub fn round(x: f64) -> f64
     ensures { result ≡ round_half_away x }
 {
-    if x >= 0.5 {
-        if x < ALL_WHOLE {
-            nearest_whole(x) as f64
-        } else {
-            x
-        }
-    } else {
-        let y = -x;
-        if y >= 0.5 {
-            if y < ALL_WHOLE {
-                -(nearest_whole(y) as f64)
-            } else {
-                x
-            }
-        } else {
-            // a zero with the sign of x, or a NaN
-            x * 0.0
-        }
-    }
+    x.round()
 }
 
 // Rust's `x.round() as u32`.
 pub fn round_to_u32(x: f64) -> u32
     ensures { result ≡ round_to_unsigned 32 x }
 {
-    saturating_u32(round(x))
+    num::saturating_f64_to_u32(round(x))
 }
 
 // Rust's `x.round() as usize`.
 pub fn round_to_usize(x: f64) -> usize
     ensures { result ≡ round_to_unsigned 64 x }
 {
-    saturating_u64(round(x)) as usize
+    num::saturating_f64_to_usize(round(x))
 }
 
 // Rust's `x.round() as i32`.
 pub fn round_to_i32(x: f64) -> i32
     ensures { result ≡ round_to_signed 31 x }
 {
-    saturating_i32(round(x))
+    num::saturating_f64_to_i32(round(x))
 }
 
 // Rust's `x.round() as i64`.
 pub fn round_to_i64(x: f64) -> i64
     ensures { result ≡ round_to_signed 63 x }
 {
-    saturating_i64(round(x))
+    num::saturating_f64_to_i64(round(x))
 }
 
 // x with six decimals, and 0.0 for either zero.
@@ -98,87 +76,8 @@ fn block_sum(values: &[f64]) -> f64
     ensures { result ≡ block_sum values.now }
 {
     let mut sum = 0.0;
-    let mut i = 0;
-    while i < values.len() {
-        sum = sum + values[i];
-        i += 1;
+    for x in values {
+        sum += *x;
     }
     sum
-}
-
-// The whole number nearest to x, a half up, for 0.5 <= x < 2^52, where doubling x is exact.
-fn nearest_whole(x: f64) -> u64
-    requires at_least_half { T (Ieee.le (fin false 1 (negsuc 0)) x) }
-    requires below { T (Ieee.lt x (fin false 1 (pos 52))) }
-    ensures { result ≡ nearest_whole (num x) (den x) }
-{
-    let twice = x + x;
-    let h: u64 = std::num::truncating_f64_to_u64(twice);
-    h / 2 + h % 2
-}
-
-// Rust's `x as u32`.
-fn saturating_u32(x: f64) -> u32
-    ensures { result ≡ Ieee.to_unsigned 32 x }
-{
-    if x > -1.0 {
-        if x < 4294967296.0 {
-            saturating_u64(x) as u32
-        } else {
-            4294967295
-        }
-    } else {
-        0
-    }
-}
-
-// Rust's `x as u64`.
-fn saturating_u64(x: f64) -> u64
-    ensures { result ≡ Ieee.to_unsigned 64 x }
-{
-    if x > -1.0 {
-        if x < 18446744073709551616.0 {
-            std::num::truncating_f64_to_u64(x)
-        } else {
-            18446744073709551615
-        }
-    } else {
-        0
-    }
-}
-
-// Rust's `x as i32`.
-fn saturating_i32(x: f64) -> i32
-    ensures { result ≡ Ieee.to_signed 31 x }
-{
-    if x >= -2147483648.0 {
-        if x < 2147483648.0 {
-            saturating_i64(x) as i32
-        } else {
-            2147483647
-        }
-    } else if x < 0.0 {
-        -2147483648
-    } else {
-        // a NaN
-        0
-    }
-}
-
-// Rust's `x as i64`.
-fn saturating_i64(x: f64) -> i64
-    ensures { result ≡ Ieee.to_signed 63 x }
-{
-    if x >= -9223372036854775808.0 {
-        if x < 9223372036854775808.0 {
-            std::num::truncating_f64_to_i64(x)
-        } else {
-            9223372036854775807
-        }
-    } else if x < 0.0 {
-        -9223372036854775808
-    } else {
-        // a NaN
-        0
-    }
 }

@@ -15,5 +15,5 @@ boxed f r a b c d upper lower all ea eb ec ed eu el e =
 pub returns : goal.returns
 returns c = let a = c.args in
     λ w h.
-    boxed (frame_of a.page_w a.page_h a.shear.now a.shear_x.now w h) a.r c.dot_to_page.result c.dot_to_page-2.result c.dot_to_page-3.result c.dot_to_page-4.result c.union-above.result c.union-below.result c.union.result
-    (c.dot_to_page.ensures w h) (c.dot_to_page-2.ensures w h) (c.dot_to_page-3.ensures w h) (c.dot_to_page-4.ensures w h) c.union-above.ensures c.union-below.ensures c.union.ensures
+    boxed (frame_of a.page_w a.page_h a.shear.now a.shear_x.now w h) a.r c.dot.result c.dot-2.result c.dot-3.result c.dot-4.result c.union-above.result c.union-below.result c.union.result
+    (c.dot.ensures w h) (c.dot-2.ensures w h) (c.dot-3.ensures w h) (c.dot-4.ensures w h) c.union-above.ensures c.union-below.ensures c.union.ensures

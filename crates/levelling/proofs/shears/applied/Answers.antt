@@ -1,21 +1,19 @@
-use mathlib.Core.Path.{◌≡◌, sym, ap, ◌∙◌}
-use mathlib.Core.Bool.{Bool, true, false, cond, ◌||◌}
-use lib.Ieee.{Float, le, neg}
+use Rattle.std.proofs.Common.{◌≡◌, Bool, true, false, cond, sym, ap, ◌∙◌}
+use lib.Ieee.{Float, le}
+use Rattle.std.specs.Float.{float_with_sign}
 use Rattle.rounding.specs.rules.Rounding.{positive_zero}
 use Rattle.params.specs.declared.LayoutParams.{LayoutParams}
 use Rattle.levelling.specs.rules.Shears.{applied}
-use Rattle.levelling.proofs.SlopeLaws.{magnitude-reaches}
+use Rattle.levelling.proofs.SlopeLaws.{magnitude-is}
 use Rattle.levelling.proofs.shears.applied.Goals as goal
 
 -- by the test that the code makes
-by-test : (sheet : LayoutParams) (skew v : Float) (b : Bool) → (le sheet.shear_min_deg skew || le sheet.shear_min_deg (neg skew)) ≡ b → cond b v positive_zero ≡ applied sheet skew v
+by-test : (sheet : LayoutParams) (skew v size : Float) (b : Bool) → size ≡ float_with_sign false skew → le sheet.shear_min_deg size ≡ b → cond b v positive_zero ≡ applied sheet skew v
 unfolding applied
-by-test sheet skew v b t = ap (λ s. cond s v positive_zero) (sym t ∙ sym (magnitude-reaches sheet.shear_min_deg skew))
+by-test sheet skew v size b e t = ap (λ s. cond s v positive_zero) (sym t ∙ ap (le sheet.shear_min_deg) (e ∙ magnitude-is skew))
 
-pub returns-then-least-skew : goal.returns-then-least-skew
-returns-then-least-skew c = let a = c.args in
-    by-test a.sheet a.skew a.v true c.if-least-skew.true
+pub returns-then-sheet-abs : goal.returns-then-sheet-abs
+returns-then-sheet-abs c = by-test c.args.sheet c.args.skew c.args.v _ true c.abs.ensures.value c.if-sheet-abs.true
 
-pub returns-else-least-skew : goal.returns-else-least-skew
-returns-else-least-skew c = let a = c.args in
-    by-test a.sheet a.skew a.v false c.if-least-skew.false
+pub returns-else-sheet-abs : goal.returns-else-sheet-abs
+returns-else-sheet-abs c = by-test c.args.sheet c.args.skew c.args.v _ false c.abs.ensures.value c.if-sheet-abs.false

@@ -1,13 +1,10 @@
 use mathlib.Core.Path.{◌≡◌}
 use mathlib.Core.List.{◌++◌}
-use Prim.Native.Nat.{◌-◌, ◌≤◌}
-use lib.ListN.{length, drop}
+use Prim.Native.Nat.{◌*◌, min}
+use lib.ListN.{drop}
 use Rattle.memory.specs.rules.Lists.{table}
 use Rattle.levelling.specs.stages.Entries.{entry_of}
 use Rattle.levelling.proofs.shears.fill_shear.Given as goal
 
-abbrev pub invariant-loop-c : goal.invariant-loop-c
-invariant-loop-c l = (l.c ≤ l.n) × (l.out ≡ table (entry_of l.which l.slope l.least) l.c ++ drop l.c l.initial.out) × (length l.out ≡ length l.initial.out)
-
-abbrev pub decreases-loop-c : goal.decreases-loop-c
-decreases-loop-c l = l.n - l.c
+abbrev pub invariant-loop-step : goal.invariant-loop-step
+invariant-loop-step l = l.out ≡ table (entry_of l.shear.which l.shear.slope l.shear.least) (min (l.step * 16) l.n) ++ drop (min (l.step * 16) l.n) l.initial.out
