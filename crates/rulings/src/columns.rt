@@ -73,11 +73,9 @@ fn mark_rows(ink: &[u8], words: &mut [u32], t: Rulings, a: usize, b: usize) -> b
     let inner = t.sweep.inner;
     fill_words(&mut words[a..b], 0);
     let mut found = false;
-    let mut y: usize = 0;
-    while y < inner {
+    for y in 0..inner {
         let here = mark_row(ink, words, t, a, b, y);
         found = found | here;
-        y += 1;
     }
     found
 }
@@ -100,11 +98,9 @@ fn mark_reached(ink: &[u8], words: &mut [u32], t: Rulings, a: usize, b: usize, y
     ensures { (Risen t.sweep ink.now t.run_min t.thick_max a b y (y + 1) (drop t.marks words.old) (drop t.marks words.new)) × (take t.marks words.new ≡ take t.marks words.old) × (result ≡ false → drop t.marks words.new ≡ drop t.marks words.old) }
 {
     let mut found = false;
-    let mut o = a;
-    while o < b {
+    for o in a..b {
         let here = mark_place(ink, words, t, o, y);
         found = found | here;
-        o += 1;
     }
     found
 }
@@ -132,11 +128,9 @@ fn cut_places(ink: &[u8], words: &mut [u32], t: Rulings, o: usize, from: usize, 
     ensures { (Marked t.sweep (length ink.now) (is_thin t.sweep ink.now t.thick_max) 2 (drop t.marks words.old) (drop t.marks words.new) (o * t.sweep.inner + from) (o * t.sweep.inner + to)) × (take t.marks words.new ≡ take t.marks words.old) × (result ≡ false → drop t.marks words.new ≡ drop t.marks words.old) }
 {
     let mut found = false;
-    let mut i = from;
-    while i < to {
+    for i in from..to {
         let here = cut_place(ink, words, t, i, o);
         found = found | here;
-        i += 1;
     }
     found
 }
@@ -179,10 +173,8 @@ fn any_reached(words: &[u32], a: usize, b: usize, run_min: u32) -> bool
     ensures { result ≡ false → (o : ℕ) → a ≤ o → o < b → get_or words.now o 0 < run_min }
 {
     let mut found = false;
-    let mut o = a;
-    while o < b {
-        found = found | (run_min <= words[o]);
-        o += 1;
+    for since in &words[a..b] {
+        found = found | (run_min <= *since);
     }
     found
 }
@@ -213,10 +205,8 @@ fn count_between(ink: &[u8], words: &mut [u32], row: usize, from: usize, to: usi
     requires { (0 < from) × (from ≤ to) × (row + to < length ink.now) × (to ≤ length words.old) × ((o : ℕ) → from ≤ o → o < to → get_or words.old o 0 < 4294967295) }
     ensures { CountedOn ink.now row from to words.old words.new }
 {
-    let mut o = from;
-    while o < to {
+    for o in from..to {
         words[o] = count_on(ink[row + o], ink[row + o - 1], ink[row + o + 1], words[o]);
-        o += 1;
     }
 }
 
@@ -234,14 +224,7 @@ fn any_long_run(ink: &[u8], g: Sweep, a: usize, b: usize, run_min: usize) -> boo
     requires { (Laid g (length ink.now)) × (a ≤ b) × (b ≤ g.outer) × (0 < run_min) × (run_min ≤ 4294967295) }
     ensures { result ≡ false → (o i : ℕ) → a ≤ o → o < b → i < g.inner → run_through (widened_scanline g ink.now o) g.inner i < run_min }
 {
-    let mut o = a;
-    while o < b {
-        if has_long_run(ink, g, o, run_min) {
-            return true;
-        }
-        o += 1;
-    }
-    false
+    (a..b).any(|o| has_long_run(ink, g, o, run_min))
 }
 
 // A run of at least run_min from x on covers the place run_min - 1 further, so that few places of most columns are looked at.

@@ -12,7 +12,7 @@ ghost use Rattle.rulings.specs.stages.Sweeps.{RulingsRoom, sweep_down, sweep_acr
 
 use crate::columns::mark_columns;
 use extents::capped;
-use memory::{area, fill_words, min_usize};
+use memory::{area, fill_words};
 
 // Place i of scanline o lies at o * across + i * along; there are `outer` scanlines of `inner` places.
 #[derive(Clone, Copy)]
@@ -117,11 +117,9 @@ fn mark_scanlines(ink: &[u8], words: &mut [u32], t: Rulings) -> bool
     let outer = t.sweep.outer;
     fill_words(&mut words[0..inner], 0);
     let mut found = false;
-    let mut o: usize = 0;
-    while o < outer {
+    for o in 0..outer {
         let here = mark_scanline(ink, words, t, o);
         found = found | here;
-        o += 1;
     }
     found
 }
@@ -170,11 +168,9 @@ fn cut_run(ink: &[u8], words: &mut [u32], t: Rulings, o: usize, from: usize, to:
     ensures { (Marked t.sweep (length ink.now) (is_thin t.sweep ink.now t.thick_max) 1 (drop t.marks words.old) (drop t.marks words.new) (o * t.sweep.inner + from) (o * t.sweep.inner + to)) × (Cached t.sweep ink.now t.thick_max o (take t.marks words.new)) × (result ≡ false → drop t.marks words.new ≡ drop t.marks words.old) }
 {
     let mut found = false;
-    let mut i = from;
-    while i < to {
+    for i in from..to {
         let here = cut_dot(ink, words, t, i, o);
         found = found | here;
-        i += 1;
     }
     found
 }
@@ -186,16 +182,14 @@ fn cut_on(ink: &[u8], words: &mut [u32], t: Rulings, o: usize, from: usize) -> W
 {
     let inner = t.sweep.inner;
     let mut found = false;
-    let mut i = from;
-    while i < inner {
+    for i in from..inner {
         if !is_widened(ink, t.sweep, i, o) {
             return Walk { to: i, found };
         }
         let here = cut_dot(ink, words, t, i, o);
         found = found | here;
-        i += 1;
     }
-    Walk { to: i, found }
+    Walk { to: inner, found }
 }
 
 // One dot, marked where it is ink and thin across.
@@ -240,15 +234,13 @@ pub fn ink_before(ink: &[u8], g: Sweep, i: usize, o: usize, most: usize) -> usiz
     requires { (Laid g (length ink.now)) × (i < g.inner) × (o < g.outer) }
     ensures { result ≡ min (behind (plane_of g ink.now i) o) most }
 {
-    let end = min_usize(most, o);
-    let mut n: usize = 0;
-    while n < end {
+    let end = most.min(o);
+    for n in 0..end {
         if !is_ink(ink, g, i, o - 1 - n) {
             return n;
         }
-        n += 1;
     }
-    n
+    end
 }
 
 // How many in a row from scanline o on, of at most `most`.
@@ -256,15 +248,13 @@ pub fn ink_after(ink: &[u8], g: Sweep, i: usize, o: usize, most: usize) -> usize
     requires { (Laid g (length ink.now)) × (i < g.inner) × (o ≤ g.outer) }
     ensures { result ≡ min (ahead (plane_of g ink.now i) o (g.outer - o)) most }
 {
-    let end = min_usize(most, g.outer - o);
-    let mut n: usize = 0;
-    while n < end {
+    let end = most.min(g.outer - o);
+    for n in 0..end {
         if !is_ink(ink, g, i, o + n) {
             return n;
         }
-        n += 1;
     }
-    n
+    end
 }
 
 // The first place, from `from` on, of the widened run that ends before `to`.
@@ -272,14 +262,12 @@ pub fn run_start(ink: &[u8], g: Sweep, o: usize, from: usize, to: usize) -> usiz
     requires { (Laid g (length ink.now)) × (o < g.outer) × (from ≤ to) × (to ≤ g.inner) }
     ensures { ScannedBack (widened_scanline g ink.now o) from to result }
 {
-    let mut s = to;
-    while from < s {
-        if !is_widened(ink, g, s - 1, o) {
-            return s;
+    for s in (from..to).rev() {
+        if !is_widened(ink, g, s, o) {
+            return s + 1;
         }
-        s -= 1;
     }
-    s
+    from
 }
 
 // Ink at place i of scanline o, of the scanline before or of the scanline after.

@@ -1,7 +1,6 @@
 use Rattle.rulings.proofs.SweepLaws.{still_both}
 use mathlib.Core.Path.{◌∙◌, ◌≡◌, refl, subst}
 use Prim.Native.Nat.{◌+◌}
-use native.Mathlib.Nat.{le_refl}
 use native.Mathlib.Omega.{arith}
 use lib.ListN.{drop}
 use Rattle.rulings.specs.stages.Sweeps.{Risen}
@@ -12,7 +11,7 @@ pub loop-o-init : goal.loop-o-init
 loop-o-init c =
     let a = c.args in
     let p = c.requires in
-    (le_refl _, omega arith, risen-still a.t.sweep a.ink.now a.t.run_min a.t.thick_max a.a a.a a.y (drop a.t.marks a.words.now) (λ o h k. absurd (omega arith)), refl, refl, λ e. refl)
+    (risen-still a.t.sweep a.ink.now a.t.run_min a.t.thick_max a.a a.a a.y (drop a.t.marks a.words.now) (λ o h k. absurd (omega arith)), refl, refl, λ e. refl)
 
 pub mark_place-here-requires : goal.mark_place-here-requires
 mark_place-here-requires c =
@@ -22,26 +21,24 @@ mark_place-here-requires c =
       omega arith,
       p.3,
       p.4,
-      risen-small a.t.sweep a.ink.now a.t.run_min a.t.thick_max a.a c.loop-o.o a.y (a.y + 1) 6 (drop a.t.marks a.words.now) (drop a.t.marks c.loop-o.words) c.loop-o.invariant.2 p.5,
-      (counted-kept a.t.sweep a.ink.now a.a a.b (a.y + 1) a.t.marks a.words.now c.loop-o.words (omega arith) c.loop-o.invariant.3 p.6).each c.loop-o.o c.loop-o.invariant.0 (omega arith),
+      risen-small a.t.sweep a.ink.now a.t.run_min a.t.thick_max a.a c.loop-o.o a.y (a.y + 1) 6 (drop a.t.marks a.words.now) (drop a.t.marks c.loop-o.words) c.loop-o.invariant.0 p.5,
+      (counted-kept a.t.sweep a.ink.now a.a a.b (a.y + 1) a.t.marks a.words.now c.loop-o.words (omega arith) c.loop-o.invariant.1 p.6).each c.loop-o.o (omega arith) (omega arith),
       p.7,
-      omega (arith, c.loop-o.invariant.4, p.8),
+      omega (arith, c.loop-o.invariant.2, p.8),
     )
 
 pub loop-o-preserved : goal.loop-o-preserved
 loop-o-preserved c =
     let a = c.args in
     let p = c.requires in (
+      risen-scanlines a.t.sweep a.ink.now a.t.run_min a.t.thick_max a.a c.loop-o.o (c.loop-o.o + 1) a.y (a.y + 1) (drop a.t.marks a.words.now) (drop a.t.marks c.loop-o.words) _ (omega arith) (omega arith) c.loop-o.invariant.0 c.mark_place-here.ensures.0,
+      c.mark_place-here.ensures.1 ∙ c.loop-o.invariant.1,
       omega arith,
-      omega arith,
-      risen-scanlines a.t.sweep a.ink.now a.t.run_min a.t.thick_max a.a c.loop-o.o (c.loop-o.o + 1) a.y (a.y + 1) (drop a.t.marks a.words.now) (drop a.t.marks c.loop-o.words) _ c.loop-o.invariant.0 (omega arith) c.loop-o.invariant.2 c.mark_place-here.ensures.0,
-      c.mark_place-here.ensures.1 ∙ c.loop-o.invariant.3,
-      omega arith,
-      still_both c.loop-o.found c.mark_place-here.result _ (drop a.t.marks c.loop-o.words) _ c.loop-o.invariant.5 c.mark_place-here.ensures.2,
+      still_both c.loop-o.found c.mark_place-here.result _ (drop a.t.marks c.loop-o.words) _ c.loop-o.invariant.3 c.mark_place-here.ensures.2,
     )
 
 pub returns : goal.returns
 returns c =
     let a = c.args in
     let e : c.loop-o.o ≡ a.b = omega arith in
-    (subst (λ k. Risen a.t.sweep a.ink.now a.t.run_min a.t.thick_max a.a k a.y (a.y + 1) (drop a.t.marks a.words.now) (drop a.t.marks c.loop-o.words)) e c.loop-o.invariant.2, c.loop-o.invariant.3, c.loop-o.invariant.5)
+    (subst (λ k. Risen a.t.sweep a.ink.now a.t.run_min a.t.thick_max a.a k a.y (a.y + 1) (drop a.t.marks a.words.now) (drop a.t.marks c.loop-o.words)) e c.loop-o.invariant.0, c.loop-o.invariant.1, c.loop-o.invariant.3)

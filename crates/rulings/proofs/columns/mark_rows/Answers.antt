@@ -15,7 +15,7 @@ loop-y-init c =
     let p = c.requires in
     let s = put_mid a.a (a.b - a.a) a.words.now c.fill_words.new.dst in
     let f = stored-filled 0 a.a a.b a.words.now c.fill_words.new.dst (omega arith) (omega arith) c.fill_words.ensures in
-    (omega arith, risen-none a.t.sweep a.ink.now a.t.run_min a.t.thick_max a.a a.b 0 (drop a.t.marks s), counted-zero a.t.sweep a.ink.now a.a a.b s (λ o k b. stored_at f o k (omega arith)), refl, λ e. refl)
+    (risen-none a.t.sweep a.ink.now a.t.run_min a.t.thick_max a.a a.b 0 (drop a.t.marks s), counted-zero a.t.sweep a.ink.now a.a a.b s (λ o k b. stored_at f o k (omega arith)), refl, λ e. refl)
 
 pub mark_row-here-requires : goal.mark_row-here-requires
 mark_row-here-requires c =
@@ -30,10 +30,10 @@ mark_row-here-requires c =
       p.3,
       omega arith,
       p.4,
-      risen-small a.t.sweep a.ink.now a.t.run_min a.t.thick_max a.a a.b 0 c.loop-y.y 4 (drop a.t.marks s) (drop a.t.marks c.loop-y.words) c.loop-y.invariant.1 (subst (λ r. UpTo a.t.sweep (length a.ink.now) r 4) (sym D) p.5),
-      c.loop-y.invariant.2,
+      risen-small a.t.sweep a.ink.now a.t.run_min a.t.thick_max a.a a.b 0 c.loop-y.y 4 (drop a.t.marks s) (drop a.t.marks c.loop-y.words) c.loop-y.invariant.0 (subst (λ r. UpTo a.t.sweep (length a.ink.now) r 4) (sym D) p.5),
+      c.loop-y.invariant.1,
       p.6,
-      omega (arith, c.loop-y.invariant.3, f.within.len, p.7),
+      omega (arith, c.loop-y.invariant.2, f.within.len, p.7),
     )
 
 pub loop-y-preserved : goal.loop-y-preserved
@@ -42,11 +42,10 @@ loop-y-preserved c =
     let p = c.requires in
     let s = put_mid a.a (a.b - a.a) a.words.now c.fill_words.new.dst in
     let f = stored-filled 0 a.a a.b a.words.now c.fill_words.new.dst (omega arith) (omega arith) c.fill_words.ensures in (
-      omega arith,
-      risen-places a.t.sweep a.ink.now a.t.run_min a.t.thick_max a.a a.b 0 c.loop-y.y (c.loop-y.y + 1) (drop a.t.marks s) (drop a.t.marks c.loop-y.words) _ c.loop-y.invariant.1 c.mark_row-here.ensures.0,
+      risen-places a.t.sweep a.ink.now a.t.run_min a.t.thick_max a.a a.b 0 c.loop-y.y (c.loop-y.y + 1) (drop a.t.marks s) (drop a.t.marks c.loop-y.words) _ c.loop-y.invariant.0 c.mark_row-here.ensures.0,
       c.mark_row-here.ensures.1,
       omega arith,
-      still_both c.loop-y.found c.mark_row-here.result _ (drop a.t.marks c.loop-y.words) _ c.loop-y.invariant.4 c.mark_row-here.ensures.2,
+      still_both c.loop-y.found c.mark_row-here.result _ (drop a.t.marks c.loop-y.words) _ c.loop-y.invariant.3 c.mark_row-here.ensures.2,
     )
 
 pub returns : goal.returns
@@ -57,5 +56,5 @@ returns c =
     let f = stored-filled 0 a.a a.b a.words.now c.fill_words.new.dst (omega arith) (omega arith) c.fill_words.ensures in
     let D : drop a.t.marks s ≡ drop a.t.marks a.words.now = within-drop f.within a.t.marks (omega arith) in
     let e : c.loop-y.y ≡ a.t.sweep.inner = omega arith in
-    let M = subst (λ k. Risen a.t.sweep a.ink.now a.t.run_min a.t.thick_max a.a a.b 0 k (drop a.t.marks s) (drop a.t.marks c.loop-y.words)) e c.loop-y.invariant.1 in
-    (subst (λ r. Risen a.t.sweep a.ink.now a.t.run_min a.t.thick_max a.a a.b 0 a.t.sweep.inner r (drop a.t.marks c.loop-y.words)) D M, λ e. c.loop-y.invariant.4 e ∙ D)
+    let M = subst (λ k. Risen a.t.sweep a.ink.now a.t.run_min a.t.thick_max a.a a.b 0 k (drop a.t.marks s) (drop a.t.marks c.loop-y.words)) e c.loop-y.invariant.0 in
+    (subst (λ r. Risen a.t.sweep a.ink.now a.t.run_min a.t.thick_max a.a a.b 0 a.t.sweep.inner r (drop a.t.marks c.loop-y.words)) D M, λ e. c.loop-y.invariant.3 e ∙ D)

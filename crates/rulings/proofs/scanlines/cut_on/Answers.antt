@@ -1,12 +1,11 @@
 use mathlib.Core.Bool.{not}
-use mathlib.Core.Path.{ap}
-use mathlib.Core.Path.{refl}
+use mathlib.Core.Path.{◌≡◌, ap, refl, subst}
 use mathlib.Core.Bool.{true}
 use native.Mathlib.Omega.{arith}
 use native.Mathlib.Nat.{le_refl}
 use Prim.Native.Nat.{◌+◌, ◌*◌}
 use lib.ListN.{length, drop}
-use Rattle.rulings.specs.stages.Sweeps.{widened_scanline, is_thin}
+use Rattle.rulings.specs.stages.Sweeps.{widened_scanline, is_thin, Marked}
 use Rattle.extents.proofs.ExtentLaws.{scan-none, scan-more}
 use Rattle.rulings.proofs.SweepLaws.{still_both, test-off, test_on, marked-none, unmarked-later, run-loop}
 use Rattle.rulings.proofs.scanlines.cut_on.Goals as goal
@@ -14,33 +13,37 @@ use Rattle.rulings.proofs.scanlines.cut_on.Goals as goal
 pub loop-i-init : goal.loop-i-init
 loop-i-init c =
     let p = c.requires in let a = c.args in
-    (le_refl _, p.2, scan-none (widened_scanline a.t.sweep a.ink.now a.o) true a.from, marked-none a.t.sweep (length a.ink.now) (is_thin a.t.sweep a.ink.now a.t.thick_max) 1 (drop a.t.marks a.words.now) _ _ (λ i j li lj x y. absurd (omega arith)), p.4, refl, λ e. refl)
+    (scan-none (widened_scanline a.t.sweep a.ink.now a.o) true a.from, marked-none a.t.sweep (length a.ink.now) (is_thin a.t.sweep a.ink.now a.t.thick_max) 1 (drop a.t.marks a.words.now) _ _ (λ i j li lj x y. absurd (omega arith)), p.4, refl, λ e. refl)
 
 pub is_widened-requires : goal.is_widened-requires
 is_widened-requires c = let p = c.requires in let a = c.args in (p.0, omega arith, p.1)
 
 pub returns-then-not-is_widened : goal.returns-then-not-is_widened
 returns-then-not-is_widened c =
-    (record { low = c.loop-i.invariant.0; high = c.loop-i.invariant.1; all = c.loop-i.invariant.2; stop = λ _. test-off _ _ c.is_widened.ensures (ap not c.if-not-is_widened.true) }, c.loop-i.invariant.3, c.loop-i.invariant.4, c.loop-i.invariant.6)
+    (record { low = (omega arith); high = (omega arith); all = c.loop-i.invariant.0; stop = λ _. test-off _ _ c.is_widened.ensures (ap not c.if-not-is_widened.true) }, c.loop-i.invariant.1, c.loop-i.invariant.2, c.loop-i.invariant.4)
 
 pub cut_dot-here-requires : goal.cut_dot-here-requires
 cut_dot-here-requires c =
     let p = c.requires in let a = c.args in
-    let u = unmarked-later a.t.sweep (length a.ink.now) (is_thin a.t.sweep a.ink.now a.t.thick_max) 1 (drop a.t.marks a.words.now) (drop a.t.marks c.loop-i.words) (a.o * a.t.sweep.inner + a.from) (a.o * a.t.sweep.inner + c.loop-i.i) (omega arith) c.loop-i.invariant.3 p.3 in
-    (p.0, omega arith, p.1, u.room, u.small c.loop-i.i a.o (omega arith) p.1 (le_refl _), c.loop-i.invariant.4, omega (arith, c.loop-i.invariant.5, p.5))
+    let u = unmarked-later a.t.sweep (length a.ink.now) (is_thin a.t.sweep a.ink.now a.t.thick_max) 1 (drop a.t.marks a.words.now) (drop a.t.marks c.loop-i.words) (a.o * a.t.sweep.inner + a.from) (a.o * a.t.sweep.inner + c.loop-i.i) (omega arith) c.loop-i.invariant.1 p.3 in
+    (p.0, omega arith, p.1, u.room, u.small c.loop-i.i a.o (omega arith) p.1 (le_refl _), c.loop-i.invariant.2, omega (arith, c.loop-i.invariant.3, p.5))
 
 pub loop-i-preserved : goal.loop-i-preserved
 loop-i-preserved c =
     let p = c.requires in let a = c.args in (
-      omega arith,
-      omega arith,
-      scan-more (widened_scanline a.t.sweep a.ink.now a.o) true a.from c.loop-i.i c.loop-i.invariant.2 (test_on _ _ c.is_widened.ensures (ap not c.if-not-is_widened.false)),
-      run-loop a.t.sweep (length a.ink.now) (is_thin a.t.sweep a.ink.now a.t.thick_max) 1 (drop a.t.marks a.words.now) (drop a.t.marks c.loop-i.words) _ a.from c.loop-i.i a.o p.0 c.loop-i.invariant.0 (omega arith) p.1 p.3.room c.loop-i.invariant.3 c.cut_dot-here.ensures.0,
+      scan-more (widened_scanline a.t.sweep a.ink.now a.o) true a.from c.loop-i.i c.loop-i.invariant.0 (test_on _ _ c.is_widened.ensures (ap not c.if-not-is_widened.false)),
+      run-loop a.t.sweep (length a.ink.now) (is_thin a.t.sweep a.ink.now a.t.thick_max) 1 (drop a.t.marks a.words.now) (drop a.t.marks c.loop-i.words) _ a.from c.loop-i.i a.o p.0 (omega arith) (omega arith) p.1 p.3.room c.loop-i.invariant.1 c.cut_dot-here.ensures.0,
       c.cut_dot-here.ensures.1,
       omega arith,
-      still_both c.loop-i.found c.cut_dot-here.result _ (drop a.t.marks c.loop-i.words) _ c.loop-i.invariant.6 c.cut_dot-here.ensures.2,
+      still_both c.loop-i.found c.cut_dot-here.result _ (drop a.t.marks c.loop-i.words) _ c.loop-i.invariant.4 c.cut_dot-here.ensures.2,
     )
 
 pub returns : goal.returns
 returns c =
-    (record { low = c.loop-i.invariant.0; high = c.loop-i.invariant.1; all = c.loop-i.invariant.2; stop = λ k. absurd (omega arith) }, c.loop-i.invariant.3, c.loop-i.invariant.4, c.loop-i.invariant.6)
+    let a = c.args in
+    let e : c.loop-i.i ≡ a.t.sweep.inner = omega arith in (
+      record { low = c.requires.2; high = le_refl _; all = λ k x y. c.loop-i.invariant.0 k x (omega arith); stop = λ k. absurd (omega arith) },
+      subst (λ k. Marked a.t.sweep (length a.ink.now) (is_thin a.t.sweep a.ink.now a.t.thick_max) 1 (drop a.t.marks a.words.now) (drop a.t.marks c.loop-i.words) (a.o * a.t.sweep.inner + a.from) (a.o * a.t.sweep.inner + k)) e c.loop-i.invariant.1,
+      c.loop-i.invariant.2,
+      c.loop-i.invariant.4,
+    )

@@ -10,29 +10,27 @@ use Rattle.rulings.proofs.scanlines.cut_run.Goals as goal
 pub loop-i-init : goal.loop-i-init
 loop-i-init c =
     let a = c.args in
-    (le_refl _, omega arith, marked-none a.t.sweep (length a.ink.now) (is_thin a.t.sweep a.ink.now a.t.thick_max) 1 (drop a.t.marks a.words.now) _ _ (λ i j li lj x y. absurd (omega arith)), c.requires.5, refl, λ e. refl)
+    (marked-none a.t.sweep (length a.ink.now) (is_thin a.t.sweep a.ink.now a.t.thick_max) 1 (drop a.t.marks a.words.now) _ _ (λ i j li lj x y. absurd (omega arith)), c.requires.5, refl, λ e. refl)
 
 pub cut_dot-here-requires : goal.cut_dot-here-requires
 cut_dot-here-requires c =
     let p = c.requires in
     let a = c.args in
-    let u = unmarked-later a.t.sweep (length a.ink.now) (is_thin a.t.sweep a.ink.now a.t.thick_max) 1 (drop a.t.marks a.words.now) (drop a.t.marks c.loop-i.words) (a.o * a.t.sweep.inner + a.from) (a.o * a.t.sweep.inner + c.loop-i.i) (omega arith) c.loop-i.invariant.2 p.4 in
-    (p.0, omega arith, p.1, u.room, u.small c.loop-i.i a.o (omega arith) p.1 (le_refl _), c.loop-i.invariant.3, omega (arith, c.loop-i.invariant.4, p.6))
+    let u = unmarked-later a.t.sweep (length a.ink.now) (is_thin a.t.sweep a.ink.now a.t.thick_max) 1 (drop a.t.marks a.words.now) (drop a.t.marks c.loop-i.words) (a.o * a.t.sweep.inner + a.from) (a.o * a.t.sweep.inner + c.loop-i.i) (omega arith) c.loop-i.invariant.0 p.4 in
+    (p.0, omega arith, p.1, u.room, u.small c.loop-i.i a.o (omega arith) p.1 (le_refl _), c.loop-i.invariant.1, omega (arith, c.loop-i.invariant.2, p.6))
 
 pub loop-i-preserved : goal.loop-i-preserved
 loop-i-preserved c =
     let p = c.requires in
     let a = c.args in (
-      omega arith,
-      omega arith,
-      run-loop a.t.sweep (length a.ink.now) (is_thin a.t.sweep a.ink.now a.t.thick_max) 1 (drop a.t.marks a.words.now) (drop a.t.marks c.loop-i.words) _ a.from c.loop-i.i a.o p.0 c.loop-i.invariant.0 (omega arith) p.1 p.4.room c.loop-i.invariant.2 c.cut_dot-here.ensures.0,
+      run-loop a.t.sweep (length a.ink.now) (is_thin a.t.sweep a.ink.now a.t.thick_max) 1 (drop a.t.marks a.words.now) (drop a.t.marks c.loop-i.words) _ a.from c.loop-i.i a.o p.0 (omega arith) (omega arith) p.1 p.4.room c.loop-i.invariant.0 c.cut_dot-here.ensures.0,
       c.cut_dot-here.ensures.1,
       omega arith,
-      still_both c.loop-i.found c.cut_dot-here.result _ (drop a.t.marks c.loop-i.words) _ c.loop-i.invariant.5 c.cut_dot-here.ensures.2,
+      still_both c.loop-i.found c.cut_dot-here.result _ (drop a.t.marks c.loop-i.words) _ c.loop-i.invariant.3 c.cut_dot-here.ensures.2,
     )
 
 pub returns : goal.returns
 returns c =
     let a = c.args in
     let e : c.loop-i.i ≡ a.to = omega arith in
-    (subst (λ k. Marked a.t.sweep (length a.ink.now) (is_thin a.t.sweep a.ink.now a.t.thick_max) 1 (drop a.t.marks a.words.now) (drop a.t.marks c.loop-i.words) (a.o * a.t.sweep.inner + a.from) (a.o * a.t.sweep.inner + k)) e c.loop-i.invariant.2, c.loop-i.invariant.3, c.loop-i.invariant.5)
+    (subst (λ k. Marked a.t.sweep (length a.ink.now) (is_thin a.t.sweep a.ink.now a.t.thick_max) 1 (drop a.t.marks a.words.now) (drop a.t.marks c.loop-i.words) (a.o * a.t.sweep.inner + a.from) (a.o * a.t.sweep.inner + k)) e c.loop-i.invariant.0, c.loop-i.invariant.1, c.loop-i.invariant.3)

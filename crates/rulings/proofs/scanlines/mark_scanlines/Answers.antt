@@ -15,7 +15,6 @@ loop-o-init c =
     let f = stored-filled 0 0 a.t.sweep.inner a.words.now c.fill_words.new.dst (omega arith) (omega arith) c.fill_words.ensures in
     let r : a.t.sweep.inner + a.t.sweep.inner ≤ a.t.marks = c.requires.3 in
     let z : a.t.marks ≤ length a.words.now = c.requires.4 in (
-      omega arith,
       marked-none a.t.sweep (length a.ink.now) (is_ruling a.t.sweep a.ink.now a.t.run_min a.t.thick_max) 1 _ _ _ (λ i j li lj x y. absurd (omega arith)),
       cached-none a.t.sweep a.ink.now a.t.thick_max (take a.t.marks (put_mid 0 (a.t.sweep.inner - 0) a.words.now c.fill_words.new.dst)) (omega (arith, length-take-le a.t.marks (put_mid 0 (a.t.sweep.inner - 0) a.words.now c.fill_words.new.dst) (omega (arith, f.within.len)))) (λ i l. get_or-take a.t.marks (put_mid 0 (a.t.sweep.inner - 0) a.words.now c.fill_words.new.dst) i 0 (omega arith) ∙ stored_at f i (omega arith) (omega arith)),
       refl,
@@ -31,19 +30,18 @@ mark_scanline-here-requires c =
       omega arith,
       p.1,
       unmarked-later a.t.sweep (length a.ink.now) (is_ruling a.t.sweep a.ink.now a.t.run_min a.t.thick_max) 1 (drop a.t.marks a.words.now) (drop a.t.marks c.loop-o.words) 0 (c.loop-o.o * a.t.sweep.inner) (omega arith)
-          (subst (λ s. Marked a.t.sweep (length a.ink.now) (is_ruling a.t.sweep a.ink.now a.t.run_min a.t.thick_max) 1 s (drop a.t.marks c.loop-o.words) 0 (c.loop-o.o * a.t.sweep.inner)) (within-drop f.within a.t.marks (omega arith)) c.loop-o.invariant.1) p.2,
-      c.loop-o.invariant.2,
-      omega (arith, c.loop-o.invariant.3, f.within.len, p.4),
+          (subst (λ s. Marked a.t.sweep (length a.ink.now) (is_ruling a.t.sweep a.ink.now a.t.run_min a.t.thick_max) 1 s (drop a.t.marks c.loop-o.words) 0 (c.loop-o.o * a.t.sweep.inner)) (within-drop f.within a.t.marks (omega arith)) c.loop-o.invariant.0) p.2,
+      c.loop-o.invariant.1,
+      omega (arith, c.loop-o.invariant.2, f.within.len, p.4),
     )
 
 pub loop-o-preserved : goal.loop-o-preserved
 loop-o-preserved c =
     let a = c.args in (
-      omega arith,
-      scanlines-loop a.t.sweep (length a.ink.now) (is_ruling a.t.sweep a.ink.now a.t.run_min a.t.thick_max) 1 c.loop-o.o _ (drop a.t.marks c.loop-o.words) _ c.loop-o.invariant.1 c.mark_scanline-here.ensures.0,
+      scanlines-loop a.t.sweep (length a.ink.now) (is_ruling a.t.sweep a.ink.now a.t.run_min a.t.thick_max) 1 c.loop-o.o _ (drop a.t.marks c.loop-o.words) _ c.loop-o.invariant.0 c.mark_scanline-here.ensures.0,
       cached-later a.t.sweep a.ink.now a.t.thick_max c.loop-o.o (c.loop-o.o + 1) _ (omega arith) c.mark_scanline-here.ensures.1,
       omega arith,
-      still_both c.loop-o.found c.mark_scanline-here.result _ (drop a.t.marks c.loop-o.words) _ c.loop-o.invariant.4 c.mark_scanline-here.ensures.2,
+      still_both c.loop-o.found c.mark_scanline-here.result _ (drop a.t.marks c.loop-o.words) _ c.loop-o.invariant.3 c.mark_scanline-here.ensures.2,
     )
 
 pub returns : goal.returns
@@ -51,6 +49,6 @@ returns c =
     let a = c.args in
     let e : c.loop-o.o ≡ a.t.sweep.outer = omega arith in
     let f = stored-filled 0 0 a.t.sweep.inner a.words.now c.fill_words.new.dst (omega arith) (omega arith) c.fill_words.ensures in
-    let M = subst (λ k. Marked a.t.sweep (length a.ink.now) (is_ruling a.t.sweep a.ink.now a.t.run_min a.t.thick_max) 1 (drop a.t.marks (put_mid 0 (a.t.sweep.inner - 0) a.words.now c.fill_words.new.dst)) (drop a.t.marks c.loop-o.words) 0 (k * a.t.sweep.inner)) e c.loop-o.invariant.1 in
+    let M = subst (λ k. Marked a.t.sweep (length a.ink.now) (is_ruling a.t.sweep a.ink.now a.t.run_min a.t.thick_max) 1 (drop a.t.marks (put_mid 0 (a.t.sweep.inner - 0) a.words.now c.fill_words.new.dst)) (drop a.t.marks c.loop-o.words) 0 (k * a.t.sweep.inner)) e c.loop-o.invariant.0 in
     let D = (within-drop f.within a.t.marks (omega arith)) in
-    (subst (λ s. Marked a.t.sweep (length a.ink.now) (is_ruling a.t.sweep a.ink.now a.t.run_min a.t.thick_max) 1 s (drop a.t.marks c.loop-o.words) 0 (a.t.sweep.outer * a.t.sweep.inner)) D M, λ e. c.loop-o.invariant.4 e ∙ D)
+    (subst (λ s. Marked a.t.sweep (length a.ink.now) (is_ruling a.t.sweep a.ink.now a.t.run_min a.t.thick_max) 1 s (drop a.t.marks c.loop-o.words) 0 (a.t.sweep.outer * a.t.sweep.inner)) D M, λ e. c.loop-o.invariant.3 e ∙ D)

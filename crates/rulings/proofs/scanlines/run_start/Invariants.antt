@@ -5,7 +5,4 @@ use Rattle.rulings.specs.stages.Sweeps.{widened_scanline}
 use Rattle.rulings.proofs.scanlines.run_start.Given as goal
 
 abbrev pub invariant-loop-s : goal.invariant-loop-s
-invariant-loop-s l = (l.from ≤ l.s) × (l.s ≤ l.to) × ((k : ℕ) → l.s ≤ k → k < l.to → widened_scanline l.g l.ink l.o k ≡ true)
-
-abbrev pub decreases-loop-s : goal.decreases-loop-s
-decreases-loop-s l = l.s
+invariant-loop-s l = ((k : ℕ) → l.s ≤ k → k < l.to → widened_scanline l.g l.ink l.o k ≡ true)
