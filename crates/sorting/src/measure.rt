@@ -83,11 +83,9 @@ fn count_heights(
     ensures { HeightsCounted sheet w h sizes heights count result words.old words.new }
 {
     let mut n: u32 = 0;
-    let mut k: usize = 0;
-    while k < count {
+    for k in 0..count {
         let c = component_at(&words[..], sizes, k);
         n += count_height(words, heights, sheet, w, h, c);
-        k += 1;
     }
     n
 }
@@ -127,11 +125,9 @@ pub fn write_kinds(words: &mut [u32], plan: Plan, count: usize, sheet: LayoutPar
     ensures { Stored (λ k. kind_of sheet (unit_value unit) plan.width plan.height (sized_at words.old plan.sizes k)) plan.kinds count words.old words.new }
 {
     let kinds = plan.kinds;
-    let mut k: usize = 0;
-    while k < count {
+    for k in 0..count {
         let c = component_at(&words[..], plan.sizes, k);
         words[kinds + k] = kind_of(sheet, unit, plan.width, plan.height, c);
-        k += 1;
     }
 }
 
@@ -140,13 +136,11 @@ pub fn pack_boxes(words: &mut [u32], sizes: usize, count: usize, to: usize)
     requires { (SizesInside 32768 32768 words.old sizes count) × (to + 2 * count ≤ sizes) }
     ensures { Stored (box_word words.old sizes) to (2 * count) words.old words.new }
 {
-    let mut k: usize = 0;
-    while k < count {
+    for k in 0..count {
         let c = component_at(&words[..], sizes, k);
         let at = to + 2 * k;
         words[at] = c.x0 + SIDE * c.x1;
         words[at + 1] = c.y0 + SIDE * c.y1;
-        k += 1;
     }
 }
 
@@ -171,10 +165,8 @@ pub fn total_area(words: &[u32], sizes: usize, count: usize) -> u32
     ensures { result ≡ total (table (λ k. (sized_at words.now sizes k).area) count) }
 {
     let mut sum: u32 = 0;
-    let mut k: usize = 0;
-    while k < count {
+    for k in 0..count {
         sum += words[sizes + SIZE_WORDS * k];
-        k += 1;
     }
     sum
 }

@@ -1,5 +1,5 @@
 use native.Mathlib.Omega.{arith}
-use Prim.Native.Nat.{ℕ, zero-le}
+use Prim.Native.Nat.{ℕ}
 use mathlib.Core.Path.{◌≡◌, sym, ◌∙◌, subst}
 use Rattle.sorting.specs.rules.Units.{measurable}
 use Rattle.memory.specs.rules.Rects.{height}
@@ -11,13 +11,13 @@ use Rattle.sorting.proofs.HeightLaws.{counted_none, counted_same, counted-few, c
 use Rattle.sorting.proofs.measure.count_heights.Goals as goal
 
 pub loop-k-init : goal.loop-k-init
-loop-k-init c = let a = c.args in (zero-le, counted_none a.sheet a.w a.h a.words.now a.sizes a.heights c.requires.5)
+loop-k-init c = let a = c.args in counted_none a.sheet a.w a.h a.words.now a.sizes a.heights c.requires.5
 
 pub component_at-c-requires : goal.component_at-c-requires
-component_at-c-requires c = let r = c.requires.0.room in let l = c.loop-k.invariant.1.within.len in omega arith
+component_at-c-requires c = let r = c.requires.0.room in let l = c.loop-k.invariant.within.len in omega arith
 
 pub count_height-n-requires : goal.count_height-n-requires
-count_height-n-requires c = let a = c.args in let H = c.loop-k.invariant.1 in let r = c.requires.0.room in let m = c.requires.1 in let n = c.requires.2 in let g = c.requires.3 in
+count_height-n-requires c = let a = c.args in let H = c.loop-k.invariant in let r = c.requires.0.room in let m = c.requires.1 in let n = c.requires.2 in let g = c.requires.3 in
     let e = c.component_at-c.ensures ∙ counted_same a.sheet a.w a.h a.words.now a.sizes H m c.loop-k.k in
     let b = c.requires.0.inside c.loop-k.k (omega arith) in
     let B : Inside a.w a.h (box_of c.component_at-c.result) = subst (λ (z : Component). Inside a.w a.h (box_of z)) (sym e) b in
@@ -26,12 +26,12 @@ count_height-n-requires c = let a = c.args in let H = c.loop-k.invariant.1 in le
     (B, omega arith, omega arith, omega arith)
 
 pub overflow_add-n : goal.overflow_add-n
-overflow_add-n c = let a = c.args in let H = c.loop-k.invariant.1 in let f = (counted-few a.sheet a.w a.h a.words.now a.sizes H c.requires.1).0 in
+overflow_add-n c = let a = c.args in let H = c.loop-k.invariant in let f = (counted-few a.sheet a.w a.h a.words.now a.sizes H c.requires.1).0 in
     let o = c.count_height-n.ensures.0 in let z = one_at_most (measurable a.sheet a.w a.h c.component_at-c.result) in omega arith
 
 pub loop-k-preserved : goal.loop-k-preserved
-loop-k-preserved c = let a = c.args in let H = c.loop-k.invariant.1 in let r = c.requires.0.room in let m = c.requires.1 in
-    (omega arith, counted-more a.sheet a.w a.h a.words.now a.sizes H m c.component_at-c.result c.count_height-n.result _ c.component_at-c.ensures (c.requires.0.inside c.loop-k.k (omega arith)) (omega arith) c.count_height-n.ensures.0 c.count_height-n.ensures.1)
+loop-k-preserved c = let a = c.args in let H = c.loop-k.invariant in let r = c.requires.0.room in let m = c.requires.1 in
+    counted-more a.sheet a.w a.h a.words.now a.sizes H m c.component_at-c.result c.count_height-n.result _ c.component_at-c.ensures (c.requires.0.inside c.loop-k.k (omega arith)) (omega arith) c.count_height-n.ensures.0 c.count_height-n.ensures.1
 
 pub returns : goal.returns
-returns c = let a = c.args in subst (λ (k : ℕ). HeightsCounted a.sheet a.w a.h a.sizes a.heights k c.loop-k.n a.words.now c.loop-k.words) (let e : c.loop-k.k ≡ a.count = omega arith in e) c.loop-k.invariant.1
+returns c = let a = c.args in subst (λ (k : ℕ). HeightsCounted a.sheet a.w a.h a.sizes a.heights k c.loop-k.n a.words.now c.loop-k.words) (let e : c.loop-k.k ≡ a.count = omega arith in e) c.loop-k.invariant
