@@ -284,7 +284,7 @@ pub fn is_widened(ink: &[u8], g: Sweep, i: usize, o: usize) -> bool
 fn scanline_before(o: usize) -> usize
     ensures { result ≡ Prim.Native.Nat.◌-◌ o 1 }
 {
-    if o == 0 { 0 } else { o - 1 }
+    o.saturating_sub(1)
 }
 
 // The scanline after, or the last scanline itself.
@@ -292,7 +292,7 @@ fn scanline_after(o: usize, outer: usize) -> usize
     requires { o < outer }
     ensures { (result < outer) × (o + 1 < outer → result ≡ o + 1) × (outer ≤ o + 1 → result ≡ o) }
 {
-    if o + 1 < outer { o + 1 } else { o }
+    (o + 1).min(outer - 1)
 }
 
 // Ink at place i of scanline o.
