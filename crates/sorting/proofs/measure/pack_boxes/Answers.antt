@@ -42,8 +42,8 @@ bounds-words-at-in-loop-k c = let p = c.requires.0.room in let q = c.requires.1 
 
 pub loop-k-preserved : goal.loop-k-preserved
 loop-k-preserved c = let a = c.args in let e = c.component_at-c.ensures ∙ sized_past c.loop-k.invariant.within a.sizes c.loop-k.k (omega (arith, c.requires.1)) in let p = c.requires.0.room in let q = c.requires.1 in
-  stored-count (stored_more (stored_more c.loop-k.invariant (a.to + 2 * c.loop-k.k) _ refl (omega arith) (box-word-first a.words.now a.sizes c.loop-k.k c.component_at-c.result e))
-      (a.to + 2 * c.loop-k.k + 1) _ (omega arith) (omega arith) (box-word-second a.words.now a.sizes c.loop-k.k c.component_at-c.result e)) (omega arith)
+    stored-count (stored_more (stored_more c.loop-k.invariant (a.to + 2 * c.loop-k.k) _ refl (omega arith) (box-word-first a.words.now a.sizes c.loop-k.k c.component_at-c.result e))
+    (a.to + 2 * c.loop-k.k + 1) _ (omega arith) (omega arith) (box-word-second a.words.now a.sizes c.loop-k.k c.component_at-c.result e)) (omega arith)
 
 pub returns : goal.returns
 returns c = stored-count c.loop-k.invariant (let e : 2 * c.loop-k.k ≡ 2 * c.args.count = omega arith in e)

@@ -28,8 +28,8 @@ bounds-words-kinds c = let l = c.loop-k.invariant.within.len in omega arith
 
 pub loop-k-preserved : goal.loop-k-preserved
 loop-k-preserved c = let a = c.args in let l : c.loop-k.k < a.count = omega arith in let m = c.requires.1 in let n = c.requires.2 in
-  stored_more c.loop-k.invariant (a.plan.kinds + c.loop-k.k) c.kind_of.result refl (omega arith)
-      (c.kind_of.ensures ∙ ap (λ (z : Component). kind_of a.sheet (unit_value a.unit) a.plan.width a.plan.height z) (c.component_at-c.ensures ∙ sized-before c.loop-k.invariant.within a.plan.sizes c.loop-k.k (omega arith)))
+    stored_more c.loop-k.invariant (a.plan.kinds + c.loop-k.k) c.kind_of.result refl (omega arith)
+    (c.kind_of.ensures ∙ ap (λ (z : Component). kind_of a.sheet (unit_value a.unit) a.plan.width a.plan.height z) (c.component_at-c.ensures ∙ sized-before c.loop-k.invariant.within a.plan.sizes c.loop-k.k (omega arith)))
 
 pub returns : goal.returns
 returns c = stored-count c.loop-k.invariant (let e : c.loop-k.k ≡ c.args.count = omega arith in e)
