@@ -15,7 +15,7 @@ use extents::capped;
 use memory::{area, fill_words};
 
 // Place i of scanline o lies at o * across + i * along; there are `outer` scanlines of `inner` places.
-#[derive(Clone, Copy)]
+#[derive(Clone, Copy, Debug, PartialEq, Eq)]
 pub struct Sweep {
     pub along: usize,
     pub across: usize,
@@ -24,7 +24,7 @@ pub struct Sweep {
 }
 
 // Thin rulings along a sweep: runs of at least run_min, cut where they are at most thick_max thick. The marks start at word `marks`.
-#[derive(Clone, Copy)]
+#[derive(Clone, Copy, Debug, PartialEq, Eq)]
 pub struct Rulings {
     pub sweep: Sweep,
     pub run_min: u32,
@@ -33,14 +33,14 @@ pub struct Rulings {
 }
 
 // How far a walk came, and whether it marked a dot.
-#[derive(Clone, Copy)]
+#[derive(Clone, Copy, Debug, PartialEq, Eq)]
 pub struct Walk {
     pub to: usize,
     pub found: bool,
 }
 
 // Whether a dot of each kind is cut: told false, none is.
-#[derive(Clone, Copy)]
+#[derive(Clone, Copy, Debug, PartialEq, Eq)]
 pub struct Found {
     pub horizontal: bool,
     pub vertical: bool,

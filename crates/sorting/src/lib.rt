@@ -22,7 +22,7 @@ pub use plan::{Plan, plan_of};
 pub use sort::{CutAnswer, Cuts, SortAnswer, SortCounts, cut_ink, label_rulings, sort_ink};
 
 // The x-height of the page, 01's unit: the length that every threshold is a multiple of, and whether it was measured.
-#[derive(Clone, Copy)]
+#[derive(Clone, Copy, Debug, PartialEq)]
 pub enum Unit {
     Measured(f64),
     Assumed(f64),
