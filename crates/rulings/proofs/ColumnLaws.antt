@@ -15,7 +15,7 @@ use Rattle.extents.specs.rules.Extents.{behind, ahead, run_through, extent}
 use Rattle.rulings.specs.rules.Rulings.{widened, in_thin_ruling}
 use Rattle.extents.specs.stages.Scans.{Starts}
 use Rattle.rulings.specs.stages.Sweeps.{spot_of, plane_of, widened_scanline, is_thin, is_ruling, Laid, ScannedBack, Marked, UpTo, Counted, ink_beside, CountedOn, Recounted, ruling_by, Risen}
-use Rattle.rulings.specs.declared.scanlines.Sweep.{Sweep}
+use Rattle.rulings.specs.declared.plane.Sweep.{Sweep}
 use Rattle.memory.proofs.PlaneLaws.{dot-inside}
 use Rattle.memory.specs.rules.Masks.{is_ink}
 use Rattle.extents.proofs.RunLaws.{behind-on, behind-off, behind-le, ahead-on, ahead-off, ahead-le, count_next, run_through-last, run-reached, run-reached-before, run-apart, run-last}

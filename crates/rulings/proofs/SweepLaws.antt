@@ -20,7 +20,7 @@ use Rattle.rulings.specs.rules.Rulings.{transposed, widened, in_thin_ruling, cut
 use Rattle.rulings.specs.stages.Marks.{cut_mark, Blank}
 use Rattle.extents.specs.stages.Scans.{ScannedTo, Starts, clear, blank, MaskFits}
 use Rattle.rulings.specs.stages.Sweeps.{sweep_down, sweep_across, spot_of, plane_of, widened_scanline, is_thin, is_ruling, Laid, ScannedBack, Cached, Marked, Unmarked, Walked}
-use Rattle.rulings.specs.declared.scanlines.Sweep.{Sweep}
+use Rattle.rulings.specs.declared.plane.Sweep.{Sweep}
 use Rattle.memory.proofs.PlaneLaws.{dot-column, dot-row, dot-inside}
 use Rattle.extents.proofs.MaskLaws.{is_ink-mask_of}
 use Rattle.extents.proofs.OverLaws.{over-unique}
