@@ -3,20 +3,21 @@
 // the row's own dot. Columns are probed a strip of 64 at a time. Strips that follow one another and have a long run each are walked together:
 // narrow strips would leave fast memory before their next row is read. Whether a dot is thin is looked up beside it, no further than the
 // greatest thickness.
-ghost use Rattle.std.specs.Prelude.{◌≡◌, cond, true, false, ◌||◌, ℕ, ◌+◌, ◌*◌, ◌-◌, ◌≤◌, ◌<◌, length, get_or, set, take, drop, ltb};
+ghost use Rattle.std.specs.Prelude.{◌≡◌, cond, false, ◌||◌, ℕ, ◌+◌, ◌*◌, ◌≤◌, ◌<◌, length, get_or, set, drop, ltb};
 ghost use Rattle.extents.specs.rules.Extents.{behind, run_through};
-ghost use Rattle.rulings.specs.stages.Sweeps.{spot_of, widened_scanline, is_thin, is_ruling, Laid, Marked, UpTo, Counted, CountedOn, Recounted, Risen};
+ghost use Rattle.rulings.specs.stages.Sweeps.{spot_of, widened_scanline, is_thin, Counted, CountedOn, Recounted};
+ghost use Rattle.rulings.specs.stages.Worked.{ruled, thinned, raised, told, before_kept, at_most, counted};
 
-use crate::plane::Plane;
-use crate::scanlines::{Rulings, Walk};
+use crate::plane::{Plane, Rulings};
+use crate::scanlines::Walk;
 use extents::chunk_end;
 use memory::fill_words;
 
 impl<'a> Rulings<'a> {
     // Down every column, some strips of columns at a time: 2 more at each dot that is cut. Answers whether a dot was marked.
     pub fn mark_columns(self, words: &mut [u32]) -> bool
-        requires { (self.plane.sweep.across ≡ 1) × (UpTo self.plane.sweep (length self.plane.ink.now) (drop self.marks words.old) 2) × (self.marks ≤ length words.old) }
-        ensures { (Marked self.entry.plane.sweep (length self.entry.plane.ink.now) (is_ruling self.entry.plane.sweep self.entry.plane.ink.now self.entry.run_min self.entry.thick_max) 2 (drop self.entry.marks words.old) (drop self.entry.marks words.new) 0 (self.entry.plane.sweep.outer * self.entry.plane.sweep.inner)) × (result ≡ false → drop self.entry.marks words.new ≡ drop self.entry.marks words.old) }
+        requires { (self.plane.sweep.across ≡ 1) × (at_most self 2 words.old) × (self.marks ≤ length words.old) }
+        ensures { (ruled self.entry 2 0 (self.entry.plane.sweep.outer * self.entry.plane.sweep.inner) words.old words.new) × (told self.entry result words.old words.new) }
     {
         let outer = self.plane.sweep.outer;
         let mut found = false;
@@ -32,8 +33,8 @@ impl<'a> Rulings<'a> {
     // The strip from column a on, and those behind it that have a long run as it has: their rows are walked at once, dot after dot.
     // Without a long run no row is walked. Answers where the next strip starts, and whether a dot was marked.
     fn mark_strips(self, words: &mut [u32], a: usize) -> Walk
-        requires { (self.plane.sweep.across ≡ 1) × (a < self.plane.sweep.outer) × (UpTo self.plane.sweep (length self.plane.ink.now) (drop self.marks words.old) 4) × (self.marks ≤ length words.old) }
-        ensures { (a < result.to) × (result.to ≤ self.entry.plane.sweep.outer) × (Risen self.entry.plane.sweep self.entry.plane.ink.now self.entry.run_min self.entry.thick_max a result.to 0 self.entry.plane.sweep.inner (drop self.entry.marks words.old) (drop self.entry.marks words.new)) × (result.found ≡ false → drop self.entry.marks words.new ≡ drop self.entry.marks words.old) }
+        requires { (self.plane.sweep.across ≡ 1) × (a < self.plane.sweep.outer) × (at_most self 4 words.old) × (self.marks ≤ length words.old) }
+        ensures { (a < result.to) × (result.to ≤ self.entry.plane.sweep.outer) × (raised self.entry a result.to 0 self.entry.plane.sweep.inner words.old words.new) × (told self.entry result.found words.old words.new) }
     {
         let least = self.run_min as usize;
         let b = chunk_end(a, self.plane.sweep.outer);
@@ -50,8 +51,8 @@ impl<'a> Rulings<'a> {
 
     // Row by row; the counter of a column is the word of its number. Answers whether a dot was marked, as those below do.
     fn mark_rows(self, words: &mut [u32], a: usize, b: usize) -> bool
-        requires { (self.plane.sweep.across ≡ 1) × (a < b) × (b ≤ self.plane.sweep.outer) × (UpTo self.plane.sweep (length self.plane.ink.now) (drop self.marks words.old) 4) × (self.marks ≤ length words.old) }
-        ensures { (Risen self.entry.plane.sweep self.entry.plane.ink.now self.entry.run_min self.entry.thick_max a b 0 self.entry.plane.sweep.inner (drop self.entry.marks words.old) (drop self.entry.marks words.new)) × (result ≡ false → drop self.entry.marks words.new ≡ drop self.entry.marks words.old) }
+        requires { (self.plane.sweep.across ≡ 1) × (a < b) × (b ≤ self.plane.sweep.outer) × (at_most self 4 words.old) × (self.marks ≤ length words.old) }
+        ensures { (raised self.entry a b 0 self.entry.plane.sweep.inner words.old words.new) × (told self.entry result words.old words.new) }
     {
         let inner = self.plane.sweep.inner;
         fill_words(&mut words[a..b], 0);
@@ -65,8 +66,8 @@ impl<'a> Rulings<'a> {
 
     // One row more.
     fn mark_row(self, words: &mut [u32], a: usize, b: usize, y: usize) -> bool
-        requires { (self.plane.sweep.across ≡ 1) × (a < b) × (b ≤ self.plane.sweep.outer) × (y < self.plane.sweep.inner) × (UpTo self.plane.sweep (length self.plane.ink.now) (drop self.marks words.old) 6) × (Counted self.plane.sweep self.plane.ink.now a b y words.old) × (self.marks ≤ length words.old) }
-        ensures { (Risen self.entry.plane.sweep self.entry.plane.ink.now self.entry.run_min self.entry.thick_max a b y (y + 1) (drop self.entry.marks words.old) (drop self.entry.marks words.new)) × (Counted self.entry.plane.sweep self.entry.plane.ink.now a b (y + 1) words.new) × (result ≡ false → drop self.entry.marks words.new ≡ drop self.entry.marks words.old) }
+        requires { (self.plane.sweep.across ≡ 1) × (a < b) × (b ≤ self.plane.sweep.outer) × (y < self.plane.sweep.inner) × (at_most self 6 words.old) × (counted self a b y words.old) × (self.marks ≤ length words.old) }
+        ensures { (raised self.entry a b y (y + 1) words.old words.new) × (counted self.entry a b (y + 1) words.new) × (told self.entry result words.old words.new) }
     {
         self.plane.count_row(words, a, b, y);
         if any_reached(words, a, b, self.run_min) {
@@ -77,8 +78,8 @@ impl<'a> Rulings<'a> {
 
     // The columns of a row where some counter has reached run_min.
     fn mark_reached(self, words: &mut [u32], a: usize, b: usize, y: usize) -> bool
-        requires { (a < b) × (b ≤ self.plane.sweep.outer) × (y < self.plane.sweep.inner) × (UpTo self.plane.sweep (length self.plane.ink.now) (drop self.marks words.old) 6) × (Counted self.plane.sweep self.plane.ink.now a b (y + 1) words.old) × (self.marks ≤ length words.old) }
-        ensures { (Risen self.entry.plane.sweep self.entry.plane.ink.now self.entry.run_min self.entry.thick_max a b y (y + 1) (drop self.entry.marks words.old) (drop self.entry.marks words.new)) × (take self.entry.marks words.new ≡ take self.entry.marks words.old) × (result ≡ false → drop self.entry.marks words.new ≡ drop self.entry.marks words.old) }
+        requires { (a < b) × (b ≤ self.plane.sweep.outer) × (y < self.plane.sweep.inner) × (at_most self 6 words.old) × (counted self a b (y + 1) words.old) × (self.marks ≤ length words.old) }
+        ensures { (raised self.entry a b y (y + 1) words.old words.new) × (before_kept self.entry words.old words.new) × (told self.entry result words.old words.new) }
     {
         let mut found = false;
         for o in a..b {
@@ -90,8 +91,8 @@ impl<'a> Rulings<'a> {
 
     // One column in row y: its run is long and goes on, or gets long here, so that all of it is marked, or is not long.
     fn mark_place(self, words: &mut [u32], o: usize, y: usize) -> bool
-        requires { (o < self.plane.sweep.outer) × (y < self.plane.sweep.inner) × (UpTo self.plane.sweep (length self.plane.ink.now) (drop self.marks words.old) 8) × (get_or words.old o 0 ≡ behind (widened_scanline self.plane.sweep self.plane.ink.now o) (y + 1)) × (self.marks ≤ length words.old) }
-        ensures { (Risen self.entry.plane.sweep self.entry.plane.ink.now self.entry.run_min self.entry.thick_max o (o + 1) y (y + 1) (drop self.entry.marks words.old) (drop self.entry.marks words.new)) × (take self.entry.marks words.new ≡ take self.entry.marks words.old) × (result ≡ false → drop self.entry.marks words.new ≡ drop self.entry.marks words.old) }
+        requires { (o < self.plane.sweep.outer) × (y < self.plane.sweep.inner) × (at_most self 8 words.old) × (get_or words.old o 0 ≡ behind (widened_scanline self.plane.sweep self.plane.ink.now o) (y + 1)) × (self.marks ≤ length words.old) }
+        ensures { (raised self.entry o (o + 1) y (y + 1) words.old words.new) × (before_kept self.entry words.old words.new) × (told self.entry result words.old words.new) }
     {
         let run_min = self.run_min;
         let since = words[o];
@@ -107,8 +108,8 @@ impl<'a> Rulings<'a> {
 
     // The thin dots of column o from place `from` up to `to`.
     fn cut_places(self, words: &mut [u32], o: usize, from: usize, to: usize) -> bool
-        requires { (o < self.plane.sweep.outer) × (from ≤ to) × (to ≤ self.plane.sweep.inner) × (UpTo self.plane.sweep (length self.plane.ink.now) (drop self.marks words.old) 8) × (self.marks ≤ length words.old) }
-        ensures { (Marked self.entry.plane.sweep (length self.entry.plane.ink.now) (is_thin self.entry.plane.sweep self.entry.plane.ink.now self.entry.thick_max) 2 (drop self.entry.marks words.old) (drop self.entry.marks words.new) (o * self.entry.plane.sweep.inner + from) (o * self.entry.plane.sweep.inner + to)) × (take self.entry.marks words.new ≡ take self.entry.marks words.old) × (result ≡ false → drop self.entry.marks words.new ≡ drop self.entry.marks words.old) }
+        requires { (o < self.plane.sweep.outer) × (from ≤ to) × (to ≤ self.plane.sweep.inner) × (at_most self 8 words.old) × (self.marks ≤ length words.old) }
+        ensures { (thinned self.entry 2 (o * self.entry.plane.sweep.inner + from) (o * self.entry.plane.sweep.inner + to) words.old words.new) × (before_kept self.entry words.old words.new) × (told self.entry result words.old words.new) }
     {
         let mut found = false;
         for i in from..to {
@@ -120,8 +121,8 @@ impl<'a> Rulings<'a> {
 
     // One dot, marked where it is ink and thin across.
     fn cut_place(self, words: &mut [u32], i: usize, o: usize) -> bool
-        requires { (i < self.plane.sweep.inner) × (o < self.plane.sweep.outer) × (UpTo self.plane.sweep (length self.plane.ink.now) (drop self.marks words.old) 10) × (self.marks ≤ length words.old) }
-        ensures { (drop self.entry.marks words.new ≡ cond (is_thin self.entry.plane.sweep self.entry.plane.ink.now self.entry.thick_max i o) (set (drop self.entry.marks words.old) (spot_of self.entry.plane.sweep i o) (get_or (drop self.entry.marks words.old) (spot_of self.entry.plane.sweep i o) 0 + 2)) (drop self.entry.marks words.old)) × (take self.entry.marks words.new ≡ take self.entry.marks words.old) × (result ≡ false → drop self.entry.marks words.new ≡ drop self.entry.marks words.old) }
+        requires { (i < self.plane.sweep.inner) × (o < self.plane.sweep.outer) × (at_most self 10 words.old) × (self.marks ≤ length words.old) }
+        ensures { (drop self.entry.marks words.new ≡ cond (is_thin self.entry.plane.sweep self.entry.plane.ink.now self.entry.thick_max i o) (set (drop self.entry.marks words.old) (spot_of self.entry.plane.sweep i o) (get_or (drop self.entry.marks words.old) (spot_of self.entry.plane.sweep i o) 0 + 2)) (drop self.entry.marks words.old)) × (before_kept self.entry words.old words.new) × (told self.entry result words.old words.new) }
     {
         if self.plane.is_thin(i, o, self.thick_max) {
             let at = self.marks + self.plane.sweep.spot(i, o);

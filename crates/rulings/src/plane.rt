@@ -1,5 +1,5 @@
 // An ink plane walked by scanlines. Rows and columns are scanlines of places alike, with a step along the scanline and a step across it.
-ghost use Rattle.std.specs.Prelude.{◌≡◌, ℕ, length};
+ghost use Rattle.std.specs.Prelude.{◌≡◌, length};
 ghost use Prim.Native.Nat.{◌+◌, ◌-◌, ◌≤◌, ◌<◌, min};
 ghost use Rattle.memory.specs.rules.Limits.{max_mask_dots};
 ghost use Rattle.extents.specs.rules.Extents.{behind, ahead};
@@ -22,6 +22,19 @@ pub struct Plane<'a> {
     pub ink: &'a [u8],
     pub sweep: Sweep,
     ghost laid: { Laid sweep (length ink.now) },
+}
+
+// Thin rulings of a plane: runs of at least run_min, cut where they are at most thick_max thick. The marks start at word `marks`; the
+// words before have room for a counter a scanline, and for two words a place.
+#[derive(Clone, Copy)]
+pub struct Rulings<'a> {
+    pub plane: Plane<'a>,
+    pub run_min: u32,
+    pub thick_max: u32,
+    pub marks: usize,
+    ghost some: { 0 < run_min },
+    ghost counters: { plane.sweep.outer ≤ marks },
+    ghost cache: { plane.sweep.inner + plane.sweep.inner ≤ marks },
 }
 
 impl Sweep {

@@ -2,30 +2,17 @@
 // places alike, with a step along the scanline and a step across it. Here scanlines are walked one by one; the columns are in columns.rt.
 // A run of at least the least length from a place covers the place that far on, so each step probes there and scans back. A
 // run across is looked at as far as tells whether it is thin, and that is kept.
-ghost use Rattle.std.specs.Prelude.{◌≡◌, cond, true, false, leb, length, get_or, set, take, drop};
-ghost use Prim.Native.Nat.{◌+◌, ◌-◌, ◌*◌, ◌≤◌, ◌<◌, min};
-ghost use Rattle.memory.specs.rules.Limits.{max_mask_dots};
-ghost use Rattle.extents.specs.rules.Extents.{behind, ahead, extent};
+ghost use Rattle.std.specs.Prelude.{◌≡◌, cond, true, leb, length, get_or, set, drop};
+ghost use Prim.Native.Nat.{◌+◌, ◌*◌, ◌≤◌, ◌<◌};
+ghost use Rattle.extents.specs.rules.Extents.{extent};
 ghost use Rattle.rulings.specs.stages.Marks.{RulingsMarked};
 ghost use Rattle.extents.specs.stages.Scans.{ScannedTo, Starts};
-ghost use Rattle.rulings.specs.stages.Sweeps.{RulingsRoom, sweep_down, sweep_across, spot_of, plane_of, widened_scanline, is_thin, is_ruling, Laid, ScannedBack, Cached, Marked, Unmarked, Walked};
+ghost use Rattle.rulings.specs.stages.Sweeps.{RulingsRoom, sweep_down, sweep_across, spot_of, plane_of, widened_scanline, is_thin, Cached};
+ghost use Rattle.rulings.specs.stages.Worked.{ruled, thinned, walked, told, unmarked, kept};
 
-use crate::plane::{Plane, Sweep};
+use crate::plane::{Plane, Rulings, Sweep};
 use extents::capped;
 use memory::{area, fill_words};
-
-// Thin rulings of a plane: runs of at least run_min, cut where they are at most thick_max thick. The marks start at word `marks`; the
-// words before have room for a counter a scanline, and for two words a place.
-#[derive(Clone, Copy)]
-pub struct Rulings<'a> {
-    pub plane: Plane<'a>,
-    pub run_min: u32,
-    pub thick_max: u32,
-    pub marks: usize,
-    ghost some: { 0 < run_min },
-    ghost counters: { plane.sweep.outer ≤ marks },
-    ghost cache: { plane.sweep.inner + plane.sweep.inner ≤ marks },
-}
 
 // How far a walk came, and whether it marked a dot.
 #[derive(Clone, Copy, Debug, PartialEq, Eq)]
@@ -112,8 +99,8 @@ fn across(w: usize, h: usize) -> Sweep
 impl<'a> Rulings<'a> {
     // Along every scanline: 1 more at each dot that is cut. Answers whether a dot was marked, as those below do.
     fn mark_scanlines(self, words: &mut [u32]) -> bool
-        requires { (Unmarked self.plane.sweep (length self.plane.ink.now) (drop self.marks words.old) 0) × (self.marks ≤ length words.old) }
-        ensures { (Marked self.entry.plane.sweep (length self.entry.plane.ink.now) (is_ruling self.entry.plane.sweep self.entry.plane.ink.now self.entry.run_min self.entry.thick_max) 1 (drop self.entry.marks words.old) (drop self.entry.marks words.new) 0 (self.entry.plane.sweep.outer * self.entry.plane.sweep.inner)) × (result ≡ false → drop self.entry.marks words.new ≡ drop self.entry.marks words.old) }
+        requires { (unmarked self 0 words.old) × (self.marks ≤ length words.old) }
+        ensures { (ruled self.entry 1 0 (self.entry.plane.sweep.outer * self.entry.plane.sweep.inner) words.old words.new) × (told self.entry result words.old words.new) }
     {
         let inner = self.plane.sweep.inner;
         let outer = self.plane.sweep.outer;
@@ -128,8 +115,8 @@ impl<'a> Rulings<'a> {
 
     // Along one scanline: each step goes on to a place that no run reaches over.
     fn mark_scanline(self, words: &mut [u32], o: usize) -> bool
-        requires { (o < self.plane.sweep.outer) × (Unmarked self.plane.sweep (length self.plane.ink.now) (drop self.marks words.old) (o * self.plane.sweep.inner)) × (Cached self.plane.sweep self.plane.ink.now self.thick_max o (take self.marks words.old)) × (self.marks ≤ length words.old) }
-        ensures { (Marked self.entry.plane.sweep (length self.entry.plane.ink.now) (is_ruling self.entry.plane.sweep self.entry.plane.ink.now self.entry.run_min self.entry.thick_max) 1 (drop self.entry.marks words.old) (drop self.entry.marks words.new) (o * self.entry.plane.sweep.inner) (o * self.entry.plane.sweep.inner + self.entry.plane.sweep.inner)) × (Cached self.entry.plane.sweep self.entry.plane.ink.now self.entry.thick_max o (take self.entry.marks words.new)) × (result ≡ false → drop self.entry.marks words.new ≡ drop self.entry.marks words.old) }
+        requires { (o < self.plane.sweep.outer) × (unmarked self (o * self.plane.sweep.inner) words.old) × (kept self o words.old) × (self.marks ≤ length words.old) }
+        ensures { (ruled self.entry 1 (o * self.entry.plane.sweep.inner) (o * self.entry.plane.sweep.inner + self.entry.plane.sweep.inner) words.old words.new) × (kept self.entry o words.new) × (told self.entry result words.old words.new) }
     {
         let inner = self.plane.sweep.inner;
         let run_min = self.run_min as usize;
@@ -145,8 +132,8 @@ impl<'a> Rulings<'a> {
 
     // One step: a run of at least run_min from x on covers the place run_min - 1 further, so the walk starts there, backwards.
     fn mark_from(self, words: &mut [u32], o: usize, x: usize) -> Walk
-        requires { (o < self.plane.sweep.outer) × (x + self.run_min ≤ self.plane.sweep.inner) × (Starts (widened_scanline self.plane.sweep self.plane.ink.now o) x) × (Unmarked self.plane.sweep (length self.plane.ink.now) (drop self.marks words.old) (o * self.plane.sweep.inner + x)) × (Cached self.plane.sweep self.plane.ink.now self.thick_max o (take self.marks words.old)) × (self.marks ≤ length words.old) }
-        ensures { (Walked self.entry.plane.sweep self.entry.plane.ink.now self.entry.run_min self.entry.thick_max 1 o x result.to (drop self.entry.marks words.old) (drop self.entry.marks words.new)) × (Cached self.entry.plane.sweep self.entry.plane.ink.now self.entry.thick_max o (take self.entry.marks words.new)) × (result.found ≡ false → drop self.entry.marks words.new ≡ drop self.entry.marks words.old) }
+        requires { (o < self.plane.sweep.outer) × (x + self.run_min ≤ self.plane.sweep.inner) × (Starts (widened_scanline self.plane.sweep self.plane.ink.now o) x) × (unmarked self (o * self.plane.sweep.inner + x) words.old) × (kept self o words.old) × (self.marks ≤ length words.old) }
+        ensures { (walked self.entry o x result.to words.old words.new) × (kept self.entry o words.new) × (told self.entry result.found words.old words.new) }
     {
         let probe = x + self.run_min as usize;
         let start = self.plane.run_start(o, x, probe);
@@ -166,8 +153,8 @@ impl<'a> Rulings<'a> {
 
     // The thin dots of a run, from place `from` up to `to`.
     fn cut_run(self, words: &mut [u32], o: usize, from: usize, to: usize) -> bool
-        requires { (o < self.plane.sweep.outer) × (from ≤ to) × (to ≤ self.plane.sweep.inner) × (Unmarked self.plane.sweep (length self.plane.ink.now) (drop self.marks words.old) (o * self.plane.sweep.inner + from)) × (Cached self.plane.sweep self.plane.ink.now self.thick_max o (take self.marks words.old)) × (self.marks ≤ length words.old) }
-        ensures { (Marked self.entry.plane.sweep (length self.entry.plane.ink.now) (is_thin self.entry.plane.sweep self.entry.plane.ink.now self.entry.thick_max) 1 (drop self.entry.marks words.old) (drop self.entry.marks words.new) (o * self.entry.plane.sweep.inner + from) (o * self.entry.plane.sweep.inner + to)) × (Cached self.entry.plane.sweep self.entry.plane.ink.now self.entry.thick_max o (take self.entry.marks words.new)) × (result ≡ false → drop self.entry.marks words.new ≡ drop self.entry.marks words.old) }
+        requires { (o < self.plane.sweep.outer) × (from ≤ to) × (to ≤ self.plane.sweep.inner) × (unmarked self (o * self.plane.sweep.inner + from) words.old) × (kept self o words.old) × (self.marks ≤ length words.old) }
+        ensures { (thinned self.entry 1 (o * self.entry.plane.sweep.inner + from) (o * self.entry.plane.sweep.inner + to) words.old words.new) × (kept self.entry o words.new) × (told self.entry result words.old words.new) }
     {
         let mut found = false;
         for i in from..to {
@@ -179,8 +166,8 @@ impl<'a> Rulings<'a> {
 
     // The thin dots of the run that goes on at `from`, up to its end, which is told: each place is looked at once.
     fn cut_on(self, words: &mut [u32], o: usize, from: usize) -> Walk
-        requires { (o < self.plane.sweep.outer) × (from ≤ self.plane.sweep.inner) × (Unmarked self.plane.sweep (length self.plane.ink.now) (drop self.marks words.old) (o * self.plane.sweep.inner + from)) × (Cached self.plane.sweep self.plane.ink.now self.thick_max o (take self.marks words.old)) × (self.marks ≤ length words.old) }
-        ensures { (ScannedTo (widened_scanline self.entry.plane.sweep self.entry.plane.ink.now o) true from self.entry.plane.sweep.inner result.to) × (Marked self.entry.plane.sweep (length self.entry.plane.ink.now) (is_thin self.entry.plane.sweep self.entry.plane.ink.now self.entry.thick_max) 1 (drop self.entry.marks words.old) (drop self.entry.marks words.new) (o * self.entry.plane.sweep.inner + from) (o * self.entry.plane.sweep.inner + result.to)) × (Cached self.entry.plane.sweep self.entry.plane.ink.now self.entry.thick_max o (take self.entry.marks words.new)) × (result.found ≡ false → drop self.entry.marks words.new ≡ drop self.entry.marks words.old) }
+        requires { (o < self.plane.sweep.outer) × (from ≤ self.plane.sweep.inner) × (unmarked self (o * self.plane.sweep.inner + from) words.old) × (kept self o words.old) × (self.marks ≤ length words.old) }
+        ensures { (ScannedTo (widened_scanline self.entry.plane.sweep self.entry.plane.ink.now o) true from self.entry.plane.sweep.inner result.to) × (thinned self.entry 1 (o * self.entry.plane.sweep.inner + from) (o * self.entry.plane.sweep.inner + result.to) words.old words.new) × (kept self.entry o words.new) × (told self.entry result.found words.old words.new) }
     {
         let inner = self.plane.sweep.inner;
         let mut found = false;
@@ -196,8 +183,8 @@ impl<'a> Rulings<'a> {
 
     // One dot, marked where it is ink and thin across.
     fn cut_dot(self, words: &mut [u32], i: usize, o: usize) -> bool
-        requires { (i < self.plane.sweep.inner) × (o < self.plane.sweep.outer) × (length self.plane.ink.now ≤ length (drop self.marks words.old)) × (get_or (drop self.marks words.old) (spot_of self.plane.sweep i o) 0 ≤ 2) × (Cached self.plane.sweep self.plane.ink.now self.thick_max o (take self.marks words.old)) × (self.marks ≤ length words.old) }
-        ensures { (drop self.entry.marks words.new ≡ cond (is_thin self.entry.plane.sweep self.entry.plane.ink.now self.entry.thick_max i o) (set (drop self.entry.marks words.old) (spot_of self.entry.plane.sweep i o) (get_or (drop self.entry.marks words.old) (spot_of self.entry.plane.sweep i o) 0 + 1)) (drop self.entry.marks words.old)) × (Cached self.entry.plane.sweep self.entry.plane.ink.now self.entry.thick_max o (take self.entry.marks words.new)) × (result ≡ false → drop self.entry.marks words.new ≡ drop self.entry.marks words.old) }
+        requires { (i < self.plane.sweep.inner) × (o < self.plane.sweep.outer) × (length self.plane.ink.now ≤ length (drop self.marks words.old)) × (get_or (drop self.marks words.old) (spot_of self.plane.sweep i o) 0 ≤ 2) × (kept self o words.old) × (self.marks ≤ length words.old) }
+        ensures { (drop self.entry.marks words.new ≡ cond (is_thin self.entry.plane.sweep self.entry.plane.ink.now self.entry.thick_max i o) (set (drop self.entry.marks words.old) (spot_of self.entry.plane.sweep i o) (get_or (drop self.entry.marks words.old) (spot_of self.entry.plane.sweep i o) 0 + 1)) (drop self.entry.marks words.old)) × (kept self.entry o words.new) × (told self.entry result words.old words.new) }
     {
         let marks = self.marks;
         if self.plane.is_ink(i, o) {

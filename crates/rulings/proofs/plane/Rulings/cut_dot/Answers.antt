@@ -1,0 +1,91 @@
+use mathlib.Core.Path.{refl, ◌≡◌, sym, ap, subst, ◌∙◌}
+use mathlib.Core.Bool.{true≢false}
+use native.Mathlib.Omega.{arith}
+use Prim.Native.Nat.{◌+◌, ◌-◌}
+use borrow.Rule.Slice.PartMut.{put_mid}
+use lib.ListN.{get_or, set, take, drop, length-drop}
+use lib.Seq.{get_or-drop}
+use Rattle.rulings.specs.stages.Sweeps.{spot_of, Cached}
+use Rattle.extents.proofs.OverLaws.{front-put, front-put-add}
+use Rattle.rulings.proofs.SweepLaws.{dot-cut, dot-thick, dot-blank}
+use Rattle.rulings.proofs.plane.Rulings.cut_dot.Goals as goal
+
+pub extent_across-thickness-requires : goal.extent_across-thickness-requires
+extent_across-thickness-requires c =
+    let p = c.requires in
+    let a = c.args in
+    let z : a.self.marks ≡ a.self.marks - 0 = omega arith in
+    (p.0, p.1, (sym c.is_ink.ensures ∙ c.if-is_ink.true), subst (λ k. Cached a.self.plane.sweep a.self.plane.ink.now a.self.thick_max a.o (take k a.words.now)) z p.4)
+
+pub spot-requires : goal.spot-requires
+spot-requires c =
+    let p = c.requires in
+    let h = c.args.self.plane.laid.inside c.args.i c.args.o p.0 p.1 in
+    let f = c.args.self.plane.laid.few in
+    omega arith
+
+pub overflow_add-at : goal.overflow_add-at
+overflow_add-at c =
+    let p = c.requires in
+    let h = c.args.self.plane.laid.inside c.args.i c.args.o p.0 p.1 in
+    omega (arith, c.spot.ensures, p.2, p.5, length-drop c.args.self.marks c.args.words.now)
+
+pub offset_bounds-words-at : goal.offset_bounds-words-at
+offset_bounds-words-at c =
+    let p = c.requires in
+    let h = c.args.self.plane.laid.inside c.args.i c.args.o p.0 p.1 in
+    omega (arith, c.spot.ensures, p.2, p.5, length-drop c.args.self.marks c.args.words.now)
+
+pub bounds-words-at : goal.bounds-words-at
+bounds-words-at c =
+    let p = c.requires in
+    let h = c.args.self.plane.laid.inside c.args.i c.args.o p.0 p.1 in
+    omega (arith, c.spot.ensures, p.2, p.5, length-drop c.args.self.marks c.args.words.now)
+
+pub overflow_add-words : goal.overflow_add-words
+overflow_add-words c =
+    let a = c.args in
+    let p = c.requires in
+    let f = front-put a.self.marks a.words.now c.extent_across-thickness.new.cache p.5 c.words-1.given.1 in
+    let x : get_or (put_mid 0 (a.self.marks - 0) a.words.now c.extent_across-thickness.new.cache) (a.self.marks + c.spot.result) 0 ≡ get_or (drop a.self.marks a.words.now) (spot_of a.self.plane.sweep a.i a.o) 0 = sym (get_or-drop a.self.marks (put_mid 0 (a.self.marks - 0) a.words.now c.extent_across-thickness.new.cache) c.spot.result 0) ∙ (λ j. get_or (f.1 j) (c.spot.ensures j) 0) in
+    omega (arith, p.3)
+
+pub offset_bounds-words-at-then-thickness-self : goal.offset_bounds-words-at-then-thickness-self
+offset_bounds-words-at-then-thickness-self c =
+    let p = c.requires in
+    let h = c.args.self.plane.laid.inside c.args.i c.args.o p.0 p.1 in
+    omega (arith, c.spot.ensures, p.2, p.5, length-drop c.args.self.marks c.args.words.now)
+
+pub bounds-words-at-then-thickness-self : goal.bounds-words-at-then-thickness-self
+bounds-words-at-then-thickness-self c =
+    let p = c.requires in
+    let h = c.args.self.plane.laid.inside c.args.i c.args.o p.0 p.1 in
+    omega (arith, c.spot.ensures, p.2, p.5, length-drop c.args.self.marks c.args.words.now)
+
+pub returns-then-thickness-self : goal.returns-then-thickness-self
+returns-then-thickness-self c =
+    let a = c.args in
+    let p = c.requires in
+    let f = front-put-add a.self.marks c.spot.result 1 a.words.now c.extent_across-thickness.new.cache p.5 c.words-1.given.1 in (
+      f.1
+          ∙ (ap (λ k. set (drop a.self.marks a.words.now) k (get_or (drop a.self.marks a.words.now) k 0 + 1)) c.spot.ensures
+          ∙ dot-cut a.self.plane.sweep a.self.plane.ink.now a.self.thick_max a.i a.o c.extent_across-thickness.result (set (drop a.self.marks a.words.now) (spot_of a.self.plane.sweep a.i a.o) (get_or (drop a.self.marks a.words.now) (spot_of a.self.plane.sweep a.i a.o) 0 + 1)) (drop a.self.marks a.words.now) (sym c.is_ink.ensures ∙ c.if-is_ink.true) c.extent_across-thickness.ensures.0 c.if-thickness-self.true),
+      subst (Cached a.self.plane.sweep a.self.plane.ink.now a.self.thick_max a.o) (sym f.0) c.extent_across-thickness.ensures.1,
+      λ e. absurd (true≢false e),
+    )
+
+pub returns-else-thickness-self : goal.returns-else-thickness-self
+returns-else-thickness-self c =
+    let a = c.args in
+    let p = c.requires in
+    let f = front-put a.self.marks a.words.now c.extent_across-thickness.new.cache p.5 c.words-1.given.1 in (
+      f.1
+          ∙ dot-thick a.self.plane.sweep a.self.plane.ink.now a.self.thick_max a.i a.o c.extent_across-thickness.result _ (drop a.self.marks a.words.now) (sym c.is_ink.ensures ∙ c.if-is_ink.true) c.extent_across-thickness.ensures.0 c.if-thickness-self.false,
+      subst (Cached a.self.plane.sweep a.self.plane.ink.now a.self.thick_max a.o) (sym f.0) c.extent_across-thickness.ensures.1,
+      λ e. f.1,
+    )
+
+pub returns-else-is_ink : goal.returns-else-is_ink
+returns-else-is_ink c =
+    let a = c.args in
+    (dot-blank a.self.plane.sweep a.self.plane.ink.now a.self.thick_max a.i a.o 0 _ (drop a.self.marks a.words.now) (sym c.is_ink.ensures ∙ c.if-is_ink.false), c.requires.4, λ e. refl)

@@ -1,0 +1,35 @@
+use mathlib.Core.Path.{◌∙◌, ◌≡◌, refl, subst}
+use Prim.Native.Nat.{◌*◌, ◌+◌}
+use native.Mathlib.Omega.{arith}
+use lib.ListN.{drop, length}
+use Rattle.rulings.specs.stages.Sweeps.{Marked, is_thin}
+use Rattle.rulings.proofs.SweepLaws.{still_both, marked-none, run-loop}
+use Rattle.rulings.proofs.ColumnLaws.{marked_more}
+use Rattle.rulings.proofs.plane.Rulings.cut_places.Goals as goal
+
+pub loop-i-init : goal.loop-i-init
+loop-i-init c =
+    let a = c.args in
+    (marked-none a.self.plane.sweep (length a.self.plane.ink.now) (is_thin a.self.plane.sweep a.self.plane.ink.now a.self.thick_max) 2 (drop a.self.marks a.words.now) _ _ (λ i j li lj x y. absurd (omega arith)), refl, refl, λ e. refl)
+
+pub cut_place-here-requires : goal.cut_place-here-requires
+cut_place-here-requires c =
+    let a = c.args in
+    let p = c.requires in
+    (omega arith, p.0, marked_more a.self.plane.sweep (length a.self.plane.ink.now) (is_thin a.self.plane.sweep a.self.plane.ink.now a.self.thick_max) 8 (a.o * a.self.plane.sweep.inner + a.from) (a.o * a.self.plane.sweep.inner + c.loop-i.i) (drop a.self.marks a.words.now) (drop a.self.marks c.loop-i.words) c.loop-i.invariant.0 p.3, omega (arith, c.loop-i.invariant.2, p.4))
+
+pub loop-i-preserved : goal.loop-i-preserved
+loop-i-preserved c =
+    let a = c.args in
+    let p = c.requires in (
+      run-loop a.self.plane.sweep (length a.self.plane.ink.now) (is_thin a.self.plane.sweep a.self.plane.ink.now a.self.thick_max) 2 (drop a.self.marks a.words.now) (drop a.self.marks c.loop-i.words) _ a.from c.loop-i.i a.o c.args.self.plane.laid (omega arith) (omega arith) p.0 p.3.room c.loop-i.invariant.0 c.cut_place-here.ensures.0,
+      c.cut_place-here.ensures.1 ∙ c.loop-i.invariant.1,
+      omega arith,
+      still_both c.loop-i.found c.cut_place-here.result _ (drop a.self.marks c.loop-i.words) _ c.loop-i.invariant.3 c.cut_place-here.ensures.2,
+    )
+
+pub returns : goal.returns
+returns c =
+    let a = c.args in
+    let e : c.loop-i.i ≡ a.to = omega arith in
+    (subst (λ k. Marked a.self.plane.sweep (length a.self.plane.ink.now) (is_thin a.self.plane.sweep a.self.plane.ink.now a.self.thick_max) 2 (drop a.self.marks a.words.now) (drop a.self.marks c.loop-i.words) (a.o * a.self.plane.sweep.inner + a.from) (a.o * a.self.plane.sweep.inner + k)) e c.loop-i.invariant.0, c.loop-i.invariant.1, c.loop-i.invariant.3)
