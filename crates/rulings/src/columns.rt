@@ -25,7 +25,7 @@ impl<'a> Rulings<'a> {
         while a < outer {
             let walk = self.mark_strips(words, a);
             a = walk.to;
-            found = found | walk.found;
+            found |= walk.found;
         }
         found
     }
@@ -58,8 +58,7 @@ impl<'a> Rulings<'a> {
         fill_words(&mut words[a..b], 0);
         let mut found = false;
         for y in 0..inner {
-            let here = self.mark_row(words, a, b, y);
-            found = found | here;
+            found |= self.mark_row(words, a, b, y);
         }
         found
     }
@@ -83,8 +82,7 @@ impl<'a> Rulings<'a> {
     {
         let mut found = false;
         for o in a..b {
-            let here = self.mark_place(words, o, y);
-            found = found | here;
+            found |= self.mark_place(words, o, y);
         }
         found
     }
@@ -113,8 +111,7 @@ impl<'a> Rulings<'a> {
     {
         let mut found = false;
         for i in from..to {
-            let here = self.cut_place(words, i, o);
-            found = found | here;
+            found |= self.cut_place(words, i, o);
         }
         found
     }
@@ -224,7 +221,7 @@ fn any_reached(words: &[u32], a: usize, b: usize, run_min: u32) -> bool
 {
     let mut found = false;
     for since in &words[a..b] {
-        found = found | (run_min <= *since);
+        found |= run_min <= *since;
     }
     found
 }

@@ -107,8 +107,7 @@ impl<'a> Rulings<'a> {
         fill_words(&mut words[0..inner], 0);
         let mut found = false;
         for o in 0..outer {
-            let here = self.mark_scanline(words, o);
-            found = found | here;
+            found |= self.mark_scanline(words, o);
         }
         found
     }
@@ -125,7 +124,7 @@ impl<'a> Rulings<'a> {
         while x + run_min <= inner {
             let walk = self.mark_from(words, o, x);
             x = walk.to;
-            found = found | walk.found;
+            found |= walk.found;
         }
         found
     }
@@ -158,8 +157,7 @@ impl<'a> Rulings<'a> {
     {
         let mut found = false;
         for i in from..to {
-            let here = self.cut_dot(words, i, o);
-            found = found | here;
+            found |= self.cut_dot(words, i, o);
         }
         found
     }
@@ -175,8 +173,7 @@ impl<'a> Rulings<'a> {
             if !self.plane.is_widened(i, o) {
                 return Walk { to: i, found };
             }
-            let here = self.cut_dot(words, i, o);
-            found = found | here;
+            found |= self.cut_dot(words, i, o);
         }
         Walk { to: inner, found }
     }

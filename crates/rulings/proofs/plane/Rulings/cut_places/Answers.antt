@@ -12,8 +12,8 @@ loop-i-init c =
     let a = c.args in
     (marked-none a.self.plane.sweep (length a.self.plane.ink.now) (is_thin a.self.plane.sweep a.self.plane.ink.now a.self.thick_max) 2 (drop a.self.marks a.words.now) _ _ (λ i j li lj x y. absurd (omega arith)), refl, refl, λ e. refl)
 
-pub cut_place-here-requires : goal.cut_place-here-requires
-cut_place-here-requires c =
+pub cut_place-found-requires : goal.cut_place-found-requires
+cut_place-found-requires c =
     let a = c.args in
     let p = c.requires in
     (omega arith, p.0, marked_more a.self.plane.sweep (length a.self.plane.ink.now) (is_thin a.self.plane.sweep a.self.plane.ink.now a.self.thick_max) 8 (a.o * a.self.plane.sweep.inner + a.from) (a.o * a.self.plane.sweep.inner + c.loop-i.i) (drop a.self.marks a.words.now) (drop a.self.marks c.loop-i.words) c.loop-i.invariant.0 p.3, omega (arith, c.loop-i.invariant.2, p.4))
@@ -22,10 +22,10 @@ pub loop-i-preserved : goal.loop-i-preserved
 loop-i-preserved c =
     let a = c.args in
     let p = c.requires in (
-      run-loop a.self.plane.sweep (length a.self.plane.ink.now) (is_thin a.self.plane.sweep a.self.plane.ink.now a.self.thick_max) 2 (drop a.self.marks a.words.now) (drop a.self.marks c.loop-i.words) _ a.from c.loop-i.i a.o c.args.self.plane.laid (omega arith) (omega arith) p.0 p.3.room c.loop-i.invariant.0 c.cut_place-here.ensures.0,
-      c.cut_place-here.ensures.1 ∙ c.loop-i.invariant.1,
+      run-loop a.self.plane.sweep (length a.self.plane.ink.now) (is_thin a.self.plane.sweep a.self.plane.ink.now a.self.thick_max) 2 (drop a.self.marks a.words.now) (drop a.self.marks c.loop-i.words) _ a.from c.loop-i.i a.o c.args.self.plane.laid (omega arith) (omega arith) p.0 p.3.room c.loop-i.invariant.0 c.cut_place-found.ensures.0,
+      c.cut_place-found.ensures.1 ∙ c.loop-i.invariant.1,
       omega arith,
-      still_both c.loop-i.found c.cut_place-here.result _ (drop a.self.marks c.loop-i.words) _ c.loop-i.invariant.3 c.cut_place-here.ensures.2,
+      still_both c.loop-i.found c.cut_place-found.result _ (drop a.self.marks c.loop-i.words) _ c.loop-i.invariant.3 c.cut_place-found.ensures.2,
     )
 
 pub returns : goal.returns

@@ -12,8 +12,8 @@ loop-i-init c =
     let a = c.args in
     (marked-none a.self.plane.sweep (length a.self.plane.ink.now) (is_thin a.self.plane.sweep a.self.plane.ink.now a.self.thick_max) 1 (drop a.self.marks a.words.now) _ _ (λ i j li lj x y. absurd (omega arith)), c.requires.4, refl, λ e. refl)
 
-pub cut_dot-here-requires : goal.cut_dot-here-requires
-cut_dot-here-requires c =
+pub cut_dot-found-requires : goal.cut_dot-found-requires
+cut_dot-found-requires c =
     let p = c.requires in
     let a = c.args in
     let u = unmarked-later a.self.plane.sweep (length a.self.plane.ink.now) (is_thin a.self.plane.sweep a.self.plane.ink.now a.self.thick_max) 1 (drop a.self.marks a.words.now) (drop a.self.marks c.loop-i.words) (a.o * a.self.plane.sweep.inner + a.from) (a.o * a.self.plane.sweep.inner + c.loop-i.i) (omega arith) c.loop-i.invariant.0 p.3 in
@@ -23,10 +23,10 @@ pub loop-i-preserved : goal.loop-i-preserved
 loop-i-preserved c =
     let p = c.requires in
     let a = c.args in (
-      run-loop a.self.plane.sweep (length a.self.plane.ink.now) (is_thin a.self.plane.sweep a.self.plane.ink.now a.self.thick_max) 1 (drop a.self.marks a.words.now) (drop a.self.marks c.loop-i.words) _ a.from c.loop-i.i a.o c.args.self.plane.laid (omega arith) (omega arith) p.0 p.3.room c.loop-i.invariant.0 c.cut_dot-here.ensures.0,
-      c.cut_dot-here.ensures.1,
+      run-loop a.self.plane.sweep (length a.self.plane.ink.now) (is_thin a.self.plane.sweep a.self.plane.ink.now a.self.thick_max) 1 (drop a.self.marks a.words.now) (drop a.self.marks c.loop-i.words) _ a.from c.loop-i.i a.o c.args.self.plane.laid (omega arith) (omega arith) p.0 p.3.room c.loop-i.invariant.0 c.cut_dot-found.ensures.0,
+      c.cut_dot-found.ensures.1,
       omega arith,
-      still_both c.loop-i.found c.cut_dot-here.result _ (drop a.self.marks c.loop-i.words) _ c.loop-i.invariant.3 c.cut_dot-here.ensures.2,
+      still_both c.loop-i.found c.cut_dot-found.result _ (drop a.self.marks c.loop-i.words) _ c.loop-i.invariant.3 c.cut_dot-found.ensures.2,
     )
 
 pub returns : goal.returns

@@ -13,8 +13,8 @@ loop-o-init c =
     let p = c.requires in
     (risen-still a.self.plane.sweep a.self.plane.ink.now a.self.run_min a.self.thick_max a.a a.a a.y (drop a.self.marks a.words.now) (λ o h k. absurd (omega arith)), refl, refl, λ e. refl)
 
-pub mark_place-here-requires : goal.mark_place-here-requires
-mark_place-here-requires c =
+pub mark_place-found-requires : goal.mark_place-found-requires
+mark_place-found-requires c =
     let a = c.args in
     let p = c.requires in (
       omega arith,
@@ -28,10 +28,10 @@ pub loop-o-preserved : goal.loop-o-preserved
 loop-o-preserved c =
     let a = c.args in
     let p = c.requires in (
-      risen-scanlines a.self.plane.sweep a.self.plane.ink.now a.self.run_min a.self.thick_max a.a c.loop-o.o (c.loop-o.o + 1) a.y (a.y + 1) (drop a.self.marks a.words.now) (drop a.self.marks c.loop-o.words) _ (omega arith) (omega arith) c.loop-o.invariant.0 c.mark_place-here.ensures.0,
-      c.mark_place-here.ensures.1 ∙ c.loop-o.invariant.1,
+      risen-scanlines a.self.plane.sweep a.self.plane.ink.now a.self.run_min a.self.thick_max a.a c.loop-o.o (c.loop-o.o + 1) a.y (a.y + 1) (drop a.self.marks a.words.now) (drop a.self.marks c.loop-o.words) _ (omega arith) (omega arith) c.loop-o.invariant.0 c.mark_place-found.ensures.0,
+      c.mark_place-found.ensures.1 ∙ c.loop-o.invariant.1,
       omega arith,
-      still_both c.loop-o.found c.mark_place-here.result _ (drop a.self.marks c.loop-o.words) _ c.loop-o.invariant.3 c.mark_place-here.ensures.2,
+      still_both c.loop-o.found c.mark_place-found.result _ (drop a.self.marks c.loop-o.words) _ c.loop-o.invariant.3 c.mark_place-found.ensures.2,
     )
 
 pub returns : goal.returns

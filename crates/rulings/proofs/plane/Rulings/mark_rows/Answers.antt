@@ -17,8 +17,8 @@ loop-y-init c =
     let f = stored-filled 0 a.a a.b a.words.now c.fill_words.new.dst (omega arith) (omega arith) c.fill_words.ensures in
     (risen-none a.self.plane.sweep a.self.plane.ink.now a.self.run_min a.self.thick_max a.a a.b 0 (drop a.self.marks s), counted-zero a.self.plane.sweep a.self.plane.ink.now a.a a.b s (λ o k b. stored_at f o k (omega arith)), refl, λ e. refl)
 
-pub mark_row-here-requires : goal.mark_row-here-requires
-mark_row-here-requires c =
+pub mark_row-found-requires : goal.mark_row-found-requires
+mark_row-found-requires c =
     let a = c.args in
     let p = c.requires in
     let s = put_mid a.a (a.b - a.a) a.words.now c.fill_words.new.dst in
@@ -39,10 +39,10 @@ loop-y-preserved c =
     let p = c.requires in
     let s = put_mid a.a (a.b - a.a) a.words.now c.fill_words.new.dst in
     let f = stored-filled 0 a.a a.b a.words.now c.fill_words.new.dst (omega arith) (omega arith) c.fill_words.ensures in (
-      risen-places a.self.plane.sweep a.self.plane.ink.now a.self.run_min a.self.thick_max a.a a.b 0 c.loop-y.y (c.loop-y.y + 1) (drop a.self.marks s) (drop a.self.marks c.loop-y.words) _ c.loop-y.invariant.0 c.mark_row-here.ensures.0,
-      c.mark_row-here.ensures.1,
+      risen-places a.self.plane.sweep a.self.plane.ink.now a.self.run_min a.self.thick_max a.a a.b 0 c.loop-y.y (c.loop-y.y + 1) (drop a.self.marks s) (drop a.self.marks c.loop-y.words) _ c.loop-y.invariant.0 c.mark_row-found.ensures.0,
+      c.mark_row-found.ensures.1,
       omega arith,
-      still_both c.loop-y.found c.mark_row-here.result _ (drop a.self.marks c.loop-y.words) _ c.loop-y.invariant.3 c.mark_row-here.ensures.2,
+      still_both c.loop-y.found c.mark_row-found.result _ (drop a.self.marks c.loop-y.words) _ c.loop-y.invariant.3 c.mark_row-found.ensures.2,
     )
 
 pub returns : goal.returns

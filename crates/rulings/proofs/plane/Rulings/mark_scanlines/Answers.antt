@@ -21,8 +21,8 @@ loop-o-init c =
       λ e. refl,
     )
 
-pub mark_scanline-here-requires : goal.mark_scanline-here-requires
-mark_scanline-here-requires c =
+pub mark_scanline-found-requires : goal.mark_scanline-found-requires
+mark_scanline-found-requires c =
     let p = c.requires in
     let a = c.args in
     let f = stored-filled 0 0 a.self.plane.sweep.inner a.words.now c.fill_words.new.dst (omega arith) (omega arith) c.fill_words.ensures in (
@@ -36,10 +36,10 @@ mark_scanline-here-requires c =
 pub loop-o-preserved : goal.loop-o-preserved
 loop-o-preserved c =
     let a = c.args in (
-      scanlines-loop a.self.plane.sweep (length a.self.plane.ink.now) (is_ruling a.self.plane.sweep a.self.plane.ink.now a.self.run_min a.self.thick_max) 1 c.loop-o.o _ (drop a.self.marks c.loop-o.words) _ c.loop-o.invariant.0 c.mark_scanline-here.ensures.0,
-      cached-later a.self.plane.sweep a.self.plane.ink.now a.self.thick_max c.loop-o.o (c.loop-o.o + 1) _ (omega arith) c.mark_scanline-here.ensures.1,
+      scanlines-loop a.self.plane.sweep (length a.self.plane.ink.now) (is_ruling a.self.plane.sweep a.self.plane.ink.now a.self.run_min a.self.thick_max) 1 c.loop-o.o _ (drop a.self.marks c.loop-o.words) _ c.loop-o.invariant.0 c.mark_scanline-found.ensures.0,
+      cached-later a.self.plane.sweep a.self.plane.ink.now a.self.thick_max c.loop-o.o (c.loop-o.o + 1) _ (omega arith) c.mark_scanline-found.ensures.1,
       omega arith,
-      still_both c.loop-o.found c.mark_scanline-here.result _ (drop a.self.marks c.loop-o.words) _ c.loop-o.invariant.3 c.mark_scanline-here.ensures.2,
+      still_both c.loop-o.found c.mark_scanline-found.result _ (drop a.self.marks c.loop-o.words) _ c.loop-o.invariant.3 c.mark_scanline-found.ensures.2,
     )
 
 pub returns : goal.returns
