@@ -60,44 +60,56 @@ pub fn kind_by_size(
 ) -> u32
     ensures { result ≡ kind_by_size p (unit_value unit) w h area width height }
 {
-    u32::from(kind_by_value(p, unit.value(), w, h, area, width, height))
+    let scale = Scale {
+        sheet: p,
+        unit: unit.value(),
+        w,
+        h,
+    };
+    u32::from(scale.kind(area, width, height))
 }
 
-// Tested in this order: rule, graphic, speck, glyph.
-fn kind_by_value(
-    p: LayoutParams,
-    u: f64,
+// What a component is held against: the thresholds, the unit that they are multiples of, and the sides of the frame.
+#[derive(Clone, Copy)]
+struct Scale {
+    sheet: LayoutParams,
+    unit: f64,
     w: u32,
     h: u32,
-    area: u32,
-    width: u32,
-    height: u32,
-) -> Kind
-    ensures { number_of result ≡ kind_by_size p u w h area width height }
-{
-    if is_rule(p, u, width, height) | is_rule(p, u, height, width) {
-        Kind::Rule
-    } else if is_graphic(p, u, w, h, width, height) {
-        Kind::Graphic
-    } else if area < p.glyph_min_area {
-        Kind::Speck
-    } else {
-        Kind::Glyph
+}
+
+impl Scale {
+    // Tested in this order: rule, graphic, speck, glyph.
+    fn kind(self, area: u32, width: u32, height: u32) -> Kind
+        ensures { number_of result ≡ kind_by_size self.sheet self.unit self.w self.h area width height }
+    {
+        if self.is_rule(width, height) | self.is_rule(height, width) {
+            Kind::Rule
+        } else if self.is_graphic(width, height) {
+            Kind::Graphic
+        } else if area < self.sheet.glyph_min_area {
+            Kind::Speck
+        } else {
+            Kind::Glyph
+        }
     }
-}
 
-fn is_rule(p: LayoutParams, u: f64, long: u32, thin: u32) -> bool
-    ensures { result ≡ is_rule p u long thin }
-{
-    (p.rule_min_len_xh * u <= long as f64) & (thin as f64 <= p.rule_max_thick_xh * u)
-}
+    fn is_rule(self, long: u32, thin: u32) -> bool
+        ensures { result ≡ is_rule self.sheet self.unit long thin }
+    {
+        (self.sheet.rule_min_len_xh * self.unit <= long as f64)
+            & (thin as f64 <= self.sheet.rule_max_thick_xh * self.unit)
+    }
 
-fn is_graphic(p: LayoutParams, u: f64, w: u32, h: u32, width: u32, height: u32) -> bool
-    ensures { result ≡ is_graphic p u w h width height }
-{
-    ((p.graphic_min_xh * u <= width as f64) & (p.graphic_min_xh * u <= height as f64))
-        | (p.glyph_max_extent_frac * w as f64 <= width as f64)
-        | (p.glyph_max_extent_frac * h as f64 <= height as f64)
+    fn is_graphic(self, width: u32, height: u32) -> bool
+        ensures { result ≡ is_graphic self.sheet self.unit self.w self.h width height }
+    {
+        let least = self.sheet.graphic_min_xh * self.unit;
+        let most = self.sheet.glyph_max_extent_frac;
+        ((least <= width as f64) & (least <= height as f64))
+            | (most * self.w as f64 <= width as f64)
+            | (most * self.h as f64 <= height as f64)
+    }
 }
 
 // A component whose height counts for the x-height.
