@@ -123,7 +123,7 @@ impl<'a> Rulings<'a> {
     {
         if self.plane.is_thin(i, o, self.thick_max) {
             let at = self.marks + self.plane.sweep.spot(i, o);
-            words[at] = words[at] + 2;
+            words[at] += 2;
             return true;
         }
         false

@@ -190,7 +190,7 @@ impl<'a> Rulings<'a> {
                 .extent_across(&mut words[0..marks], i, o, self.thick_max);
             if thickness <= self.thick_max {
                 let at = marks + self.plane.sweep.spot(i, o);
-                words[at] = words[at] + 1;
+                words[at] += 1;
                 return true;
             }
         }

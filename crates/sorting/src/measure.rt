@@ -105,7 +105,7 @@ impl Heights {
     {
         let one = is_measurable(self.sheet, self.w, self.h, c) as u32;
         let at = self.at + c.rect().height() as usize;
-        words[at] = words[at] + one;
+        words[at] += one;
         one
     }
 }

@@ -50,12 +50,6 @@ overflow_add-words c =
     let x : get_or (put_mid 0 (a.self.marks - 0) a.words.now c.extent_across-thickness.new.cache) (a.self.marks + c.spot.result) 0 ≡ get_or (drop a.self.marks a.words.now) (spot_of a.self.plane.sweep a.i a.o) 0 = sym (get_or-drop a.self.marks (put_mid 0 (a.self.marks - 0) a.words.now c.extent_across-thickness.new.cache) c.spot.result 0) ∙ (λ j. get_or (f.1 j) (c.spot.ensures j) 0) in
     omega (arith, p.3)
 
-pub offset_bounds-words-at-then-thickness-self : goal.offset_bounds-words-at-then-thickness-self
-offset_bounds-words-at-then-thickness-self c =
-    let p = c.requires in
-    let h = c.args.self.plane.laid.inside c.args.i c.args.o p.0 p.1 in
-    omega (arith, c.spot.ensures, p.2, p.5, length-drop c.args.self.marks c.args.words.now)
-
 pub bounds-words-at-then-thickness-self : goal.bounds-words-at-then-thickness-self
 bounds-words-at-then-thickness-self c =
     let p = c.requires in

@@ -45,13 +45,6 @@ overflow_add-words c =
     let x : get_or a.words.now (a.self.marks + c.spot.result) 0 ≡ get_or (drop a.self.marks a.words.now) (spot_of a.self.plane.sweep a.i a.o) 0 = sym (get_or-drop a.self.marks a.words.now c.spot.result 0) ∙ ap (λ k. get_or (drop a.self.marks a.words.now) k 0) c.spot.ensures in
     omega arith
 
-pub offset_bounds-words-at-then-is_thin : goal.offset_bounds-words-at-then-is_thin
-offset_bounds-words-at-then-is_thin c =
-    let a = c.args in
-    let p = c.requires in
-    let h = c.args.self.plane.laid.inside a.i a.o p.0 p.1 in
-    omega (arith, c.spot.ensures, p.2.room, p.3, length-drop a.self.marks a.words.now)
-
 pub bounds-words-at-then-is_thin : goal.bounds-words-at-then-is_thin
 bounds-words-at-then-is_thin c =
     let a = c.args in
