@@ -6,12 +6,6 @@ use Rattle.memory.specs.rules.Masks.{is_ink}
 use Rattle.rulings.proofs.SweepLaws.{plane-inside}
 use Rattle.rulings.proofs.plane.Plane.is_ink.Goals as goal
 
-pub spot-at-requires : goal.spot-at-requires
-spot-at-requires c = let p = c.requires in let h = c.args.self.laid.inside c.args.i c.args.o p.0 p.1 in let f = c.args.self.laid.few in omega arith
-
-pub bounds-self-at : goal.bounds-self-at
-bounds-self-at c = let p = c.requires in let h = c.args.self.laid.inside c.args.i c.args.o p.0 p.1 in omega (arith, c.spot-at.ensures)
-
 pub returns : goal.returns
 unfolding is_ink
 returns c = let p = c.requires in ap (λ k. ltb 0 (get_or c.args.self.ink.now k 0)) c.spot-at.ensures ∙ sym (plane-inside c.args.self.sweep c.args.self.ink.now c.args.i c.args.o p.0 p.1)
