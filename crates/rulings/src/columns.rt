@@ -21,6 +21,7 @@ impl<'a> Rulings<'a> {
     {
         let outer = self.plane.sweep.outer;
         let mut found = false;
+        // a walk, not a count: how far strips are walked together tells where the next one starts
         let mut a: usize = 0;
         while a < outer {
             let walk = self.mark_strips(words, a);
@@ -137,6 +138,7 @@ impl<'a> Plane<'a> {
         ensures { (from ≤ result) × (result ≤ self.entry.sweep.outer) }
     {
         let outer = self.sweep.outer;
+        // a walk, not a count: extents' chunk_end tells where a strip ends
         let mut b = from;
         while b < outer {
             let next = chunk_end(b, outer);
@@ -162,6 +164,7 @@ impl<'a> Plane<'a> {
         ensures { result ≡ false → (i : ℕ) → i < self.entry.sweep.inner → run_through (widened_scanline self.entry.sweep self.entry.ink.now o) self.entry.sweep.inner i < run_min }
     {
         let inner = self.sweep.inner;
+        // a walk, not a count: the next place is where the scan back ended
         let mut x: usize = 0;
         while x + run_min <= inner {
             let start = self.run_start(o, x, x + run_min);

@@ -3,7 +3,7 @@ ghost use Rattle.std.specs.Prelude.{◌≡◌, length};
 ghost use Prim.Native.Nat.{◌+◌, ◌-◌, ◌≤◌, ◌<◌, min};
 ghost use Rattle.memory.specs.rules.Limits.{max_mask_dots};
 ghost use Rattle.extents.specs.rules.Extents.{behind, ahead};
-ghost use Rattle.rulings.specs.stages.Sweeps.{spot_of, plane_of, widened_scanline, is_thin, Laid, ScannedBack};
+ghost use Rattle.rulings.specs.stages.Sweeps.{sweep_down, sweep_across, spot_of, plane_of, widened_scanline, is_thin, Laid, ScannedBack};
 
 use memory::MAX_EXTENT;
 
@@ -38,6 +38,30 @@ pub struct Rulings<'a> {
 }
 
 impl Sweep {
+    // The columns of a plane w wide and h high.
+    pub fn down(w: usize, h: usize) -> Sweep
+        ensures { result ≡ sweep_down w h }
+    {
+        Sweep {
+            along: w,
+            across: 1,
+            inner: h,
+            outer: w,
+        }
+    }
+
+    // Its rows.
+    pub fn across(w: usize, h: usize) -> Sweep
+        ensures { result ≡ sweep_across w h }
+    {
+        Sweep {
+            along: 1,
+            across: w,
+            inner: w,
+            outer: h,
+        }
+    }
+
     // Where place i of scanline o lies.
     pub fn spot(self, i: usize, o: usize) -> usize
         requires { spot_of self i o < max_mask_dots }

@@ -7,7 +7,7 @@ ghost use Prim.Native.Nat.{◌+◌, ◌*◌, ◌≤◌, ◌<◌};
 ghost use Rattle.extents.specs.rules.Extents.{extent};
 ghost use Rattle.rulings.specs.stages.Marks.{RulingsMarked};
 ghost use Rattle.extents.specs.stages.Scans.{ScannedTo, Starts};
-ghost use Rattle.rulings.specs.stages.Sweeps.{RulingsRoom, sweep_down, sweep_across, spot_of, plane_of, widened_scanline, is_thin, Cached};
+ghost use Rattle.rulings.specs.stages.Sweeps.{RulingsRoom, spot_of, plane_of, widened_scanline, is_thin, Cached};
 ghost use Rattle.rulings.specs.stages.Worked.{ruled, thinned, walked, told, unmarked, kept};
 
 use crate::plane::{Plane, Rulings, Sweep};
@@ -49,7 +49,7 @@ pub fn mark_rulings(
     let columns = Rulings {
         plane: Plane {
             ink,
-            sweep: down(w, h),
+            sweep: Sweep::down(w, h),
         },
         run_min,
         thick_max,
@@ -59,7 +59,7 @@ pub fn mark_rulings(
     let rows = Rulings {
         plane: Plane {
             ink,
-            sweep: across(w, h),
+            sweep: Sweep::across(w, h),
         },
         run_min,
         thick_max,
@@ -69,30 +69,6 @@ pub fn mark_rulings(
     Found {
         horizontal,
         vertical,
-    }
-}
-
-// The columns of a plane.
-fn down(w: usize, h: usize) -> Sweep
-    ensures { result ≡ sweep_down w h }
-{
-    Sweep {
-        along: w,
-        across: 1,
-        inner: h,
-        outer: w,
-    }
-}
-
-// Its rows.
-fn across(w: usize, h: usize) -> Sweep
-    ensures { result ≡ sweep_across w h }
-{
-    Sweep {
-        along: 1,
-        across: w,
-        inner: w,
-        outer: h,
     }
 }
 
@@ -120,6 +96,7 @@ impl<'a> Rulings<'a> {
         let inner = self.plane.sweep.inner;
         let run_min = self.run_min as usize;
         let mut found = false;
+        // a walk, not a count: a step tells how far it came
         let mut x: usize = 0;
         while x + run_min <= inner {
             let walk = self.mark_from(words, o, x);

@@ -92,7 +92,7 @@ impl Heights {
     {
         let mut n: u32 = 0;
         for k in 0..count {
-            let c = component_at(&words[..], sizes, k);
+            let c = component_at(words, sizes, k);
             n += self.count_one(words, c);
         }
         n
@@ -128,7 +128,7 @@ pub fn write_kinds(words: &mut [u32], plan: Plan, count: usize, sheet: LayoutPar
 {
     let kinds = plan.kinds;
     for k in 0..count {
-        let c = component_at(&words[..], plan.sizes, k);
+        let c = component_at(words, plan.sizes, k);
         words[kinds + k] = kind_of(sheet, unit, plan.width, plan.height, c);
     }
 }
@@ -139,7 +139,7 @@ pub fn pack_boxes(words: &mut [u32], sizes: usize, count: usize, to: usize)
     ensures { Stored (box_word words.old sizes) to (2 * count) words.old words.new }
 {
     for k in 0..count {
-        let c = component_at(&words[..], sizes, k);
+        let c = component_at(words, sizes, k);
         let at = to + 2 * k;
         words[at] = c.x0 + SIDE * c.x1;
         words[at + 1] = c.y0 + SIDE * c.y1;
