@@ -8,20 +8,6 @@ use Rattle.rulings.proofs.SweepLaws.{test-off, test_on}
 use Rattle.rulings.proofs.ColumnLaws.{ahead-blank, ahead-ended, ahead_step}
 use Rattle.rulings.proofs.plane.Plane.ink_after.Goals as goal
 
-pub loop-n-init : goal.loop-n-init
-loop-n-init c =
-    let a = c.args in
-    let z : a.o + 0 ≡ a.o = omega arith in
-    let y : a.self.sweep.outer - a.o - 0 ≡ a.self.sweep.outer - a.o = omega arith in
-    let e : ahead (plane_of a.self.sweep a.self.ink.now a.i) (a.o + 0) (a.self.sweep.outer - a.o - 0) ≡ ahead (plane_of a.self.sweep a.self.ink.now a.i) a.o (a.self.sweep.outer - a.o) = (λ k. ahead (plane_of a.self.sweep a.self.ink.now a.i) (z k) (y k)) in
-    omega arith
-
-pub overflow_add-o : goal.overflow_add-o
-overflow_add-o c = let e = c.min-end.ensures in let n = c.args.self.laid.low in omega arith
-
-pub is_ink-requires : goal.is_ink-requires
-is_ink-requires c = let p = c.requires in let e = c.min-end.ensures in (p.0, omega arith)
-
 pub returns-then-not-is_ink : goal.returns-then-not-is_ink
 returns-then-not-is_ink c =
     let a = c.args in

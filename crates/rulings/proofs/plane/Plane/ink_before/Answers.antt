@@ -8,22 +8,6 @@ use Rattle.rulings.proofs.SweepLaws.{test-off, test_on}
 use Rattle.rulings.proofs.ColumnLaws.{behind-blank, behind-ended, behind-step}
 use Rattle.rulings.proofs.plane.Plane.ink_before.Goals as goal
 
-pub loop-n-init : goal.loop-n-init
-loop-n-init c =
-    let a = c.args in
-    let z : a.o - 0 ≡ a.o = omega arith in
-    let e = ap (behind (plane_of a.self.sweep a.self.ink.now a.i)) z in
-    omega arith
-
-pub overflow_sub-o : goal.overflow_sub-o
-overflow_sub-o c = let e = c.min-end.ensures in omega arith
-
-pub overflow_sub-o-in-loop-n : goal.overflow_sub-o-in-loop-n
-overflow_sub-o-in-loop-n c = let e = c.min-end.ensures in omega arith
-
-pub is_ink-requires : goal.is_ink-requires
-is_ink-requires c = let p = c.requires in let e = c.min-end.ensures in (p.0, omega arith)
-
 pub returns-then-not-is_ink : goal.returns-then-not-is_ink
 returns-then-not-is_ink c =
     let a = c.args in
