@@ -10,57 +10,6 @@ use Rattle.extents.proofs.RunLaws.{behind-le, ahead-le}
 use Rattle.rulings.proofs.SweepLaws.{run-thin, cached-run}
 use Rattle.rulings.proofs.plane.Plane.extent_across.Goals as goal
 
-pub overflow_cast-kept : goal.overflow_cast-kept
-overflow_cast-kept c = omega (arith, c.type_inv.cache c.args.i)
-
-pub returns-then-o-kept : goal.returns-then-o-kept
-returns-then-o-kept c = let p = c.requires in (p.3.told c.args.i c.args.o p.0 (le_refl _) c.if-o-kept.true, p.3)
-
-pub overflow_add-before : goal.overflow_add-before
-overflow_add-before c =
-    let a = c.args in
-    let p = c.requires in
-    let l = c.args.self.laid.low in
-    let x = behind-le (plane_of a.self.sweep a.self.ink.now a.i) a.o in
-    let y = ahead-le (plane_of a.self.sweep a.self.ink.now a.i) (a.o + 1) (a.self.sweep.outer - (a.o + 1)) in
-    omega (arith, c.ink_before-before.ensures, c.ink_after-after.ensures)
-
-pub overflow_add-before-2 : goal.overflow_add-before-2
-overflow_add-before-2 c =
-    let a = c.args in
-    let p = c.requires in
-    let l = c.args.self.laid.low in
-    let x = behind-le (plane_of a.self.sweep a.self.ink.now a.i) a.o in
-    let y = ahead-le (plane_of a.self.sweep a.self.ink.now a.i) (a.o + 1) (a.self.sweep.outer - (a.o + 1)) in
-    omega (arith, c.ink_before-before.ensures, c.ink_after-after.ensures)
-
-pub capped-thickness-requires : goal.capped-thickness-requires
-capped-thickness-requires c =
-    let a = c.args in
-    let p = c.requires in
-    let l = c.args.self.laid.low in
-    let x = behind-le (plane_of a.self.sweep a.self.ink.now a.i) a.o in
-    let y = ahead-le (plane_of a.self.sweep a.self.ink.now a.i) (a.o + 1) (a.self.sweep.outer - (a.o + 1)) in
-    omega (arith, c.ink_before-before.ensures, c.ink_after-after.ensures)
-
-pub overflow_add-cache : goal.overflow_add-cache
-overflow_add-cache c =
-    let a = c.args in
-    let p = c.requires in
-    let l = c.args.self.laid.low in
-    let x = behind-le (plane_of a.self.sweep a.self.ink.now a.i) a.o in
-    let y = ahead-le (plane_of a.self.sweep a.self.ink.now a.i) (a.o + 1) (a.self.sweep.outer - (a.o + 1)) in
-    omega (arith, c.ink_before-before.ensures, c.ink_after-after.ensures)
-
-pub overflow_add-cache-2 : goal.overflow_add-cache-2
-overflow_add-cache-2 c =
-    let a = c.args in
-    let p = c.requires in
-    let l = c.args.self.laid.low in
-    let x = behind-le (plane_of a.self.sweep a.self.ink.now a.i) a.o in
-    let y = ahead-le (plane_of a.self.sweep a.self.ink.now a.i) (a.o + 1) (a.self.sweep.outer - (a.o + 1)) in
-    omega (arith, c.ink_before-before.ensures, c.ink_after-after.ensures)
-
 pub overflow_cast-cache : goal.overflow_cast-cache
 overflow_cast-cache c =
     let a = c.args in
@@ -69,9 +18,6 @@ overflow_cast-cache c =
     let x = behind-le (plane_of a.self.sweep a.self.ink.now a.i) a.o in
     let y = ahead-le (plane_of a.self.sweep a.self.ink.now a.i) (a.o + 1) (a.self.sweep.outer - (a.o + 1)) in
     omega (arith, c.ink_before-before.ensures, c.ink_after-after.ensures)
-
-pub bounds-cache-inner-2 : goal.bounds-cache-inner-2
-bounds-cache-inner-2 c = let r = c.requires.3.room in simp length-set (omega arith)
 
 pub returns : goal.returns
 returns c =

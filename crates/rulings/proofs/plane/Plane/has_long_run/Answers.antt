@@ -10,18 +10,6 @@ use Rattle.rulings.proofs.plane.Plane.has_long_run.Goals as goal
 pub loop-x-init : goal.loop-x-init
 loop-x-init c = let a = c.args in (omega arith, starts-zero (widened_scanline a.self.sweep a.self.ink.now a.o), λ i x. absurd (omega arith))
 
-pub overflow_add-x : goal.overflow_add-x
-overflow_add-x c = let n = c.args.self.laid.narrow in omega arith
-
-pub run_start-start-requires : goal.run_start-start-requires
-run_start-start-requires c = let p = c.requires in (p.0, omega arith, omega arith)
-
-pub returns-then-start-x : goal.returns-then-start-x
-returns-then-start-x c = λ f. absurd (true≢false f)
-
-pub loop-x-smaller : goal.loop-x-smaller
-loop-x-smaller c = let h = c.run_start-start.ensures.high in omega arith
-
 pub loop-x-preserved : goal.loop-x-preserved
 loop-x-preserved c =
     let a = c.args in

@@ -23,12 +23,6 @@ returns-then-most-before c =
     thin-ink a.self.sweep a.self.ink.now a.thick_max a.i a.o false on
     (sym (thick-before (plane_of a.self.sweep a.self.ink.now a.i) a.self.sweep.outer a.o a.thick_max c.ink_before-before.result c.requires.1 on c.if-thick_max-ge-MAX_EXTENT.false c.ink_before-before.ensures c.if-most-before.true))
 
-pub overflow_add-o : goal.overflow_add-o
-overflow_add-o c = let n = c.args.self.laid.low in omega arith
-
-pub ink_after-requires : goal.ink_after-requires
-ink_after-requires c = let p = c.requires in (p.0, omega arith)
-
 pub returns : goal.returns
 returns c =
     let a = c.args in
