@@ -6,29 +6,6 @@ use Rattle.extents.proofs.RunLaws.{behind-le}
 use Rattle.rulings.proofs.ColumnLaws.{counted-between, counted-last, recounted-all, recounted-row, row-spot}
 use Rattle.rulings.proofs.plane.Plane.count_row.Goals as goal
 
-pub count_end-requires : goal.count_end-requires
-count_end-requires c = let p = c.requires in (omega arith, p.3, record { each = λ o h k. p.4.each o h (omega arith) }, omega arith)
-
-pub overflow_add-a : goal.overflow_add-a
-overflow_add-a c = let n = c.args.self.laid.low in omega arith
-
-pub count_end-requires-then-a-b : goal.count_end-requires-then-a-b
-count_end-requires-then-a-b c =
-    let a = c.args in
-    let p = c.requires in
-    (omega arith, p.3, counted-last a.self.sweep a.self.ink.now a.a a.b a.y a.words.now c.count_end.new.words p.4 c.if-a-b.true c.count_end.ensures, omega (arith, c.words-1.given, p.5))
-
-pub overflow_mul-y : goal.overflow_mul-y
-overflow_mul-y c =
-    let a = c.args in
-    let p = c.requires in
-    let h = c.args.self.laid.inside a.y a.a p.3 (omega arith) in
-    let f = c.args.self.laid.few in
-    omega arith
-
-pub overflow_add-a-then-a-b : goal.overflow_add-a-then-a-b
-overflow_add-a-then-a-b c = let n = c.args.self.laid.low in omega arith
-
 pub count_between-requires : goal.count_between-requires
 count_between-requires c =
     let a = c.args in
@@ -49,10 +26,3 @@ returns-then-a-b c =
     let p = c.requires in
     recounted-all a.self.sweep a.self.ink.now a.a a.b a.y a.words.now c.count_end.new.words p.4 c.if-a-b.true c.count_end.ensures c.count_end-then-a-b.new.words c.count_end-then-a-b.ensures c.count_between.new.words
     (recounted-row a.self.sweep a.self.ink.now (a.a + 1) (a.b - 1) a.y c.count_end-then-a-b.new.words c.count_between.new.words p.0 p.3 (omega arith) (omega arith) (counted-between a.self.sweep a.self.ink.now a.a a.b a.y a.words.now c.count_end.new.words p.4 c.if-a-b.true c.count_end.ensures c.count_end-then-a-b.new.words c.count_end-then-a-b.ensures) c.count_between.ensures)
-
-pub returns-else-a-b : goal.returns-else-a-b
-returns-else-a-b c =
-    let a = c.args in
-    let p = c.requires in
-    let e : a.a + 1 ≡ a.b = omega arith in
-    subst (λ k. Recounted a.self.sweep a.self.ink.now a.a k a.y a.words.now c.count_end.new.words) e c.count_end.ensures

@@ -10,52 +10,6 @@ use Rattle.extents.proofs.OverLaws.{front-put, front-put-add}
 use Rattle.rulings.proofs.SweepLaws.{dot-cut, dot-thick, dot-blank}
 use Rattle.rulings.proofs.plane.Rulings.cut_dot.Goals as goal
 
-pub extent_across-thickness-requires : goal.extent_across-thickness-requires
-extent_across-thickness-requires c =
-    let p = c.requires in
-    let a = c.args in
-    let z : a.self.marks ≡ a.self.marks - 0 = omega arith in
-    (p.0, p.1, (sym c.is_ink.ensures ∙ c.if-is_ink.true), subst (λ k. Cached a.self.plane.sweep a.self.plane.ink.now a.self.thick_max a.o (take k a.words.now)) z p.4)
-
-pub spot-requires : goal.spot-requires
-spot-requires c =
-    let p = c.requires in
-    let h = c.args.self.plane.laid.inside c.args.i c.args.o p.0 p.1 in
-    let f = c.args.self.plane.laid.few in
-    omega arith
-
-pub overflow_add-at : goal.overflow_add-at
-overflow_add-at c =
-    let p = c.requires in
-    let h = c.args.self.plane.laid.inside c.args.i c.args.o p.0 p.1 in
-    omega (arith, c.spot.ensures, p.2, p.5, length-drop c.args.self.marks c.args.words.now)
-
-pub offset_bounds-words-at : goal.offset_bounds-words-at
-offset_bounds-words-at c =
-    let p = c.requires in
-    let h = c.args.self.plane.laid.inside c.args.i c.args.o p.0 p.1 in
-    omega (arith, c.spot.ensures, p.2, p.5, length-drop c.args.self.marks c.args.words.now)
-
-pub bounds-words-at : goal.bounds-words-at
-bounds-words-at c =
-    let p = c.requires in
-    let h = c.args.self.plane.laid.inside c.args.i c.args.o p.0 p.1 in
-    omega (arith, c.spot.ensures, p.2, p.5, length-drop c.args.self.marks c.args.words.now)
-
-pub overflow_add-words : goal.overflow_add-words
-overflow_add-words c =
-    let a = c.args in
-    let p = c.requires in
-    let f = front-put a.self.marks a.words.now c.extent_across-thickness.new.cache p.5 c.words-1.given.1 in
-    let x : get_or (put_mid 0 (a.self.marks - 0) a.words.now c.extent_across-thickness.new.cache) (a.self.marks + c.spot.result) 0 ≡ get_or (drop a.self.marks a.words.now) (spot_of a.self.plane.sweep a.i a.o) 0 = sym (get_or-drop a.self.marks (put_mid 0 (a.self.marks - 0) a.words.now c.extent_across-thickness.new.cache) c.spot.result 0) ∙ (λ j. get_or (f.1 j) (c.spot.ensures j) 0) in
-    omega (arith, p.3)
-
-pub bounds-words-at-then-thickness-self : goal.bounds-words-at-then-thickness-self
-bounds-words-at-then-thickness-self c =
-    let p = c.requires in
-    let h = c.args.self.plane.laid.inside c.args.i c.args.o p.0 p.1 in
-    omega (arith, c.spot.ensures, p.2, p.5, length-drop c.args.self.marks c.args.words.now)
-
 pub returns-then-thickness-self : goal.returns-then-thickness-self
 returns-then-thickness-self c =
     let a = c.args in
