@@ -7,17 +7,6 @@ use Rattle.rulings.proofs.SweepLaws.{still_both, marked-none, run-loop}
 use Rattle.rulings.proofs.ColumnLaws.{marked_more}
 use Rattle.rulings.proofs.plane.Rulings.cut_places.Goals as goal
 
-pub loop-i-init : goal.loop-i-init
-loop-i-init c =
-    let a = c.args in
-    (marked-none a.self.plane.sweep (length a.self.plane.ink.now) (is_thin a.self.plane.sweep a.self.plane.ink.now a.self.thick_max) 2 (drop a.self.marks a.words.now) _ _ (λ i j li lj x y. absurd (omega arith)), refl, refl, λ e. refl)
-
-pub cut_place-found-requires : goal.cut_place-found-requires
-cut_place-found-requires c =
-    let a = c.args in
-    let p = c.requires in
-    (omega arith, p.0, marked_more a.self.plane.sweep (length a.self.plane.ink.now) (is_thin a.self.plane.sweep a.self.plane.ink.now a.self.thick_max) 8 (a.o * a.self.plane.sweep.inner + a.from) (a.o * a.self.plane.sweep.inner + c.loop-i.i) (drop a.self.marks a.words.now) (drop a.self.marks c.loop-i.words) c.loop-i.invariant.0 p.3, omega (arith, c.loop-i.invariant.2, p.4))
-
 pub loop-i-preserved : goal.loop-i-preserved
 loop-i-preserved c =
     let a = c.args in
@@ -27,9 +16,3 @@ loop-i-preserved c =
       omega arith,
       still_both c.loop-i.found c.cut_place-found.result _ (drop a.self.marks c.loop-i.words) _ c.loop-i.invariant.3 c.cut_place-found.ensures.2,
     )
-
-pub returns : goal.returns
-returns c =
-    let a = c.args in
-    let e : c.loop-i.i ≡ a.to = omega arith in
-    (subst (λ k. Marked a.self.plane.sweep (length a.self.plane.ink.now) (is_thin a.self.plane.sweep a.self.plane.ink.now a.self.thick_max) 2 (drop a.self.marks a.words.now) (drop a.self.marks c.loop-i.words) (a.o * a.self.plane.sweep.inner + a.from) (a.o * a.self.plane.sweep.inner + k)) e c.loop-i.invariant.0, c.loop-i.invariant.1, c.loop-i.invariant.3)
