@@ -25,11 +25,6 @@ overflow_sub-from c =
     let b = behind-le (widened_scanline a.self.plane.sweep a.self.plane.ink.now a.o) (a.y + 1) in
     omega (arith, p.3)
 
-pub cut_places-requires-then-since-run_min : goal.cut_places-requires-then-since-run_min
-cut_places-requires-then-since-run_min c =
-    let p = c.requires in
-    (p.0, omega (arith, c.args.self.some), omega (arith, p.1), p.2, p.4)
-
 pub returns-then-since-run_min : goal.returns-then-since-run_min
 returns-then-since-run_min c =
     let a = c.args in
