@@ -7,23 +7,6 @@ use Rattle.rulings.specs.stages.Sweeps.{Risen}
 use Rattle.rulings.proofs.ColumnLaws.{counted-kept, risen-scanlines, risen-small, risen-still}
 use Rattle.rulings.proofs.plane.Rulings.mark_reached.Goals as goal
 
-pub loop-o-init : goal.loop-o-init
-loop-o-init c =
-    let a = c.args in
-    let p = c.requires in
-    (risen-still a.self.plane.sweep a.self.plane.ink.now a.self.run_min a.self.thick_max a.a a.a a.y (drop a.self.marks a.words.now) (λ o h k. absurd (omega arith)), refl, refl, λ e. refl)
-
-pub mark_place-found-requires : goal.mark_place-found-requires
-mark_place-found-requires c =
-    let a = c.args in
-    let p = c.requires in (
-      omega arith,
-      p.2,
-      risen-small a.self.plane.sweep a.self.plane.ink.now a.self.run_min a.self.thick_max a.a c.loop-o.o a.y (a.y + 1) 6 (drop a.self.marks a.words.now) (drop a.self.marks c.loop-o.words) c.loop-o.invariant.0 p.3,
-      (counted-kept a.self.plane.sweep a.self.plane.ink.now a.a a.b (a.y + 1) a.self.marks a.words.now c.loop-o.words (omega arith) c.loop-o.invariant.1 p.4).each c.loop-o.o (omega arith) (omega arith),
-      omega (arith, c.loop-o.invariant.2, p.5),
-    )
-
 pub loop-o-preserved : goal.loop-o-preserved
 loop-o-preserved c =
     let a = c.args in
@@ -33,9 +16,3 @@ loop-o-preserved c =
       omega arith,
       still_both c.loop-o.found c.mark_place-found.result _ (drop a.self.marks c.loop-o.words) _ c.loop-o.invariant.3 c.mark_place-found.ensures.2,
     )
-
-pub returns : goal.returns
-returns c =
-    let a = c.args in
-    let e : c.loop-o.o ≡ a.b = omega arith in
-    (subst (λ k. Risen a.self.plane.sweep a.self.plane.ink.now a.self.run_min a.self.thick_max a.a k a.y (a.y + 1) (drop a.self.marks a.words.now) (drop a.self.marks c.loop-o.words)) e c.loop-o.invariant.0, c.loop-o.invariant.1, c.loop-o.invariant.3)

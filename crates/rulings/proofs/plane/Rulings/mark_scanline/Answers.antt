@@ -18,9 +18,6 @@ loop-x-init c =
       λ e. refl,
     )
 
-pub overflow_add-x : goal.overflow_add-x
-overflow_add-x c = let n = c.args.self.plane.laid.narrow in omega arith
-
 pub mark_from-walk-requires : goal.mark_from-walk-requires
 mark_from-walk-requires c =
     let p = c.requires in
@@ -32,9 +29,6 @@ mark_from-walk-requires c =
       c.loop-x.invariant.3,
       omega (arith, c.loop-x.invariant.4, p.3),
     )
-
-pub loop-x-smaller : goal.loop-x-smaller
-loop-x-smaller c = let w = c.mark_from-walk.ensures.0 in let f = w.further in let i = w.inside in omega arith
 
 pub loop-x-preserved : goal.loop-x-preserved
 loop-x-preserved c =
