@@ -7,15 +7,6 @@ use Rattle.memory.proofs.StoredLaws.{within-drop}
 use Rattle.rulings.proofs.ColumnLaws.{counted-kept, recounted-counted, risen-still}
 use Rattle.rulings.proofs.plane.Rulings.mark_row.Goals as goal
 
-pub mark_reached-requires : goal.mark_reached-requires
-mark_reached-requires c =
-    let a = c.args in
-    let p = c.requires in
-    let t = c.count_row.new.words in
-    let R = c.count_row.ensures in
-    let D : drop a.self.marks t ≡ drop a.self.marks a.words.now = within-drop {a = a.a} {e = a.b} (record { len = c.words-1.given; before = R.below; past = R.above }) a.self.marks (omega arith) in
-    (p.1, p.2, p.3, subst (λ r. UpTo a.self.plane.sweep (length a.self.plane.ink.now) r 6) (sym D) p.4, recounted-counted a.self.plane.sweep a.self.plane.ink.now a.a a.b a.y a.words.now t R, omega (arith, c.words-1.given, p.6))
-
 pub returns-then-any_reached : goal.returns-then-any_reached
 returns-then-any_reached c =
     let a = c.args in
