@@ -1,10 +1,7 @@
-use mathlib.Core.Path.{◌≡◌, refl, subst}
-use native.Mathlib.Nat.{le_refl}
 use native.Mathlib.Omega.{arith}
 use lib.ListN.{length-set}
 use Rattle.memory.specs.rules.Masks.{is_ink}
-use Rattle.rulings.specs.stages.Sweeps.{CountedOn}
-use Rattle.rulings.proofs.ColumnLaws.{counted-on-next, counted-on-none}
+use Rattle.rulings.proofs.ColumnLaws.{counted-on-next}
 use Rattle.rulings.proofs.columns.count_between.Goals as goal
 
 pub loop-o-preserved : goal.loop-o-preserved

@@ -1,9 +1,8 @@
-use mathlib.Core.Path.{◌≡◌, subst}
 use Prim.Native.Nat.{◌+◌, ◌-◌}
 use native.Mathlib.Omega.{arith}
-use Rattle.rulings.specs.stages.Sweeps.{Recounted, widened_scanline}
+use Rattle.rulings.specs.stages.Sweeps.{widened_scanline}
 use Rattle.extents.proofs.RunLaws.{behind-le}
-use Rattle.rulings.proofs.ColumnLaws.{counted-between, counted-last, recounted-all, recounted-row, row-spot}
+use Rattle.rulings.proofs.ColumnLaws.{counted-between, recounted-all, recounted-row, row-spot}
 use Rattle.rulings.proofs.plane.Plane.count_row.Goals as goal
 
 pub count_between-requires : goal.count_between-requires

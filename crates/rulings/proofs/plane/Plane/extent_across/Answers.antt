@@ -1,8 +1,6 @@
 use native.Mathlib.Omega.{arith}
 use mathlib.Core.Path.{◌≡◌, ap, ◌∙◌}
 use Prim.Native.Nat.{◌+◌, ◌-◌}
-use native.Mathlib.Nat.{le_refl}
-use lib.ListN.{length-set}
 use lib.Dec.{leb}
 use Rattle.extents.specs.rules.Extents.{extent}
 use Rattle.rulings.specs.stages.Sweeps.{plane_of}

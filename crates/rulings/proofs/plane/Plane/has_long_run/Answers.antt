@@ -1,4 +1,3 @@
-use mathlib.Core.Bool.{true≢false}
 use Prim.Native.Nat.{◌+◌}
 use native.Mathlib.Omega.{arith}
 use Rattle.rulings.specs.stages.Sweeps.{widened_scanline}

@@ -1,8 +1,7 @@
 use mathlib.Core.Bool.{not}
 use mathlib.Core.Path.{◌≡◌, ◌∙◌, ap}
-use Prim.Native.Nat.{◌+◌, ◌-◌}
+use Prim.Native.Nat.{◌-◌}
 use native.Mathlib.Omega.{arith}
-use Rattle.extents.specs.rules.Extents.{ahead}
 use Rattle.rulings.specs.stages.Sweeps.{plane_of}
 use Rattle.rulings.proofs.SweepLaws.{test-off, test_on}
 use Rattle.rulings.proofs.ColumnLaws.{ahead-blank, ahead-ended, ahead_step}

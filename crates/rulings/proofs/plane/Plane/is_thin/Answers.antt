@@ -2,7 +2,6 @@ use mathlib.Core.Bool.{not}
 use mathlib.Core.Path.{ap}
 use mathlib.Core.Path.{sym}
 use mathlib.Core.Bool.{false, true}
-use native.Mathlib.Omega.{arith}
 use Rattle.rulings.specs.stages.Sweeps.{plane_of}
 use Rattle.rulings.proofs.SweepLaws.{test-off, test_on}
 use Rattle.rulings.proofs.ColumnLaws.{thick-before, thin-after, thin-always, thin-blank, thin-ink}

@@ -1,10 +1,7 @@
-use mathlib.Core.Path.{refl, ◌≡◌, sym, ap, subst, ◌∙◌}
+use mathlib.Core.Path.{refl, sym, ap, subst, ◌∙◌}
 use mathlib.Core.Bool.{true≢false}
-use native.Mathlib.Omega.{arith}
-use Prim.Native.Nat.{◌+◌, ◌-◌}
-use borrow.Rule.Slice.PartMut.{put_mid}
-use lib.ListN.{get_or, set, take, drop, length-drop}
-use lib.Seq.{get_or-drop}
+use Prim.Native.Nat.{◌+◌}
+use lib.ListN.{get_or, set, drop}
 use Rattle.rulings.specs.stages.Sweeps.{spot_of, Cached}
 use Rattle.extents.proofs.OverLaws.{front-put, front-put-add}
 use Rattle.rulings.proofs.SweepLaws.{dot-cut, dot-thick, dot-blank}

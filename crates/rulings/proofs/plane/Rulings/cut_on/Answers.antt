@@ -1,13 +1,11 @@
 use mathlib.Core.Bool.{not}
-use mathlib.Core.Path.{◌≡◌, ap, refl, subst}
+use mathlib.Core.Path.{ap}
 use mathlib.Core.Bool.{true}
 use native.Mathlib.Omega.{arith}
-use native.Mathlib.Nat.{le_refl}
-use Prim.Native.Nat.{◌+◌, ◌*◌}
 use lib.ListN.{length, drop}
-use Rattle.rulings.specs.stages.Sweeps.{widened_scanline, is_thin, Marked}
-use Rattle.extents.proofs.ExtentLaws.{scan-none, scan-more}
-use Rattle.rulings.proofs.SweepLaws.{still_both, test-off, test_on, marked-none, unmarked-later, run-loop}
+use Rattle.rulings.specs.stages.Sweeps.{widened_scanline, is_thin}
+use Rattle.extents.proofs.ExtentLaws.{scan-more}
+use Rattle.rulings.proofs.SweepLaws.{still_both, test_on, run-loop}
 use Rattle.rulings.proofs.plane.Rulings.cut_on.Goals as goal
 
 pub loop-i-preserved : goal.loop-i-preserved

@@ -1,11 +1,8 @@
 use mathlib.Core.Bool.{true≢false}
-use mathlib.Core.Path.{◌∙◌, ◌≡◌, ap, refl, sym}
 use Prim.Native.Nat.{◌+◌}
 use native.Mathlib.Omega.{arith}
-use lib.ListN.{drop, get_or, length-drop}
-use lib.Seq.{get_or-drop, take-set-le}
-use Rattle.rulings.specs.stages.Sweeps.{spot_of}
-use Rattle.rulings.proofs.ColumnLaws.{place-cut, place-left}
+use lib.Seq.{take-set-le}
+use Rattle.rulings.proofs.ColumnLaws.{place-cut}
 use Rattle.rulings.proofs.plane.Rulings.cut_place.Goals as goal
 
 pub returns-then-is_thin : goal.returns-then-is_thin

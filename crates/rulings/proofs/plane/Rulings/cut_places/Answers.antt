@@ -1,10 +1,8 @@
-use mathlib.Core.Path.{◌∙◌, ◌≡◌, refl, subst}
-use Prim.Native.Nat.{◌*◌, ◌+◌}
+use mathlib.Core.Path.{◌∙◌}
 use native.Mathlib.Omega.{arith}
 use lib.ListN.{drop, length}
-use Rattle.rulings.specs.stages.Sweeps.{Marked, is_thin}
-use Rattle.rulings.proofs.SweepLaws.{still_both, marked-none, run-loop}
-use Rattle.rulings.proofs.ColumnLaws.{marked_more}
+use Rattle.rulings.specs.stages.Sweeps.{is_thin}
+use Rattle.rulings.proofs.SweepLaws.{still_both, run-loop}
 use Rattle.rulings.proofs.plane.Rulings.cut_places.Goals as goal
 
 pub loop-i-preserved : goal.loop-i-preserved

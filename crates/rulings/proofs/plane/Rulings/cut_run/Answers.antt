@@ -1,10 +1,7 @@
-use mathlib.Core.Path.{subst, ◌≡◌, refl}
 use native.Mathlib.Omega.{arith}
-use Prim.Native.Nat.{◌+◌, ◌*◌}
-use native.Mathlib.Nat.{le_refl}
 use lib.ListN.{length, drop}
-use Rattle.rulings.specs.stages.Sweeps.{is_thin, Marked}
-use Rattle.rulings.proofs.SweepLaws.{still_both, marked-none, unmarked-later, run-loop}
+use Rattle.rulings.specs.stages.Sweeps.{is_thin}
+use Rattle.rulings.proofs.SweepLaws.{still_both, run-loop}
 use Rattle.rulings.proofs.plane.Rulings.cut_run.Goals as goal
 
 pub loop-i-preserved : goal.loop-i-preserved

@@ -1,10 +1,9 @@
 use Rattle.rulings.proofs.SweepLaws.{still_both}
-use mathlib.Core.Path.{◌∙◌, ◌≡◌, refl, subst}
+use mathlib.Core.Path.{◌∙◌}
 use Prim.Native.Nat.{◌+◌}
 use native.Mathlib.Omega.{arith}
 use lib.ListN.{drop}
-use Rattle.rulings.specs.stages.Sweeps.{Risen}
-use Rattle.rulings.proofs.ColumnLaws.{counted-kept, risen-scanlines, risen-small, risen-still}
+use Rattle.rulings.proofs.ColumnLaws.{risen-scanlines}
 use Rattle.rulings.proofs.plane.Rulings.mark_reached.Goals as goal
 
 pub loop-o-preserved : goal.loop-o-preserved

@@ -1,8 +1,8 @@
 use mathlib.Core.Path.{◌∙◌, ◌≡◌, subst, sym}
 use Prim.Native.Nat.{◌+◌}
 use native.Mathlib.Omega.{arith}
-use lib.ListN.{drop, length}
-use Rattle.rulings.specs.stages.Sweeps.{Risen, UpTo}
+use lib.ListN.{drop}
+use Rattle.rulings.specs.stages.Sweeps.{Risen}
 use Rattle.memory.proofs.StoredLaws.{within-drop}
 use Rattle.rulings.proofs.ColumnLaws.{counted-kept, recounted-counted, risen-still}
 use Rattle.rulings.proofs.plane.Rulings.mark_row.Goals as goal
