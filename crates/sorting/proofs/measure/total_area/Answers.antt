@@ -14,6 +14,3 @@ overflow_add-sum-in-loop-k c = let a = areas-fit c.args.words.now c.args.sizes c
 
 pub loop-k-preserved : goal.loop-k-preserved
 loop-k-preserved c = areas-more c.args.words.now c.args.sizes c.loop-k.k c.loop-k.sum c.loop-k.invariant
-
-pub returns : goal.returns
-returns c = c.loop-k.invariant ∙ ap (λ (n : ℕ). total (table (λ k. (sized_at c.args.words.now c.args.sizes k).area) n)) (let e : c.loop-k.k ≡ c.args.count = omega arith in e)

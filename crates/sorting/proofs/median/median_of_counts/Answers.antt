@@ -9,12 +9,6 @@ pub loop-v-init : goal.loop-v-init
 unfolding total
 loop-v-init c = (omega arith, refl)
 
-pub overflow_cast-more : goal.overflow_cast-more
-overflow_cast-more c = omega (arith, c.type_inv.counts c.loop-v.v)
-
-pub overflow_add-more : goal.overflow_add-more
-overflow_add-more c = omega (arith, c.type_inv.counts c.loop-v.v)
-
 pub returns-then-half-more : goal.returns-then-half-more
 returns-then-half-more c = let a = c.args in λ s C. counts-median a.counts.now s a.total c.loop-v.v C (omega arith) (omega (arith, c.loop-v.invariant.1)) (omega (arith, c.loop-v.invariant.1))
 
