@@ -13,9 +13,6 @@ use Rattle.sorting.proofs.measure.Heights.count_all.Goals as goal
 pub loop-k-init : goal.loop-k-init
 loop-k-init c = let a = c.args in counted_none a.self.sheet a.self.w a.self.h a.words.now a.sizes a.self.at c.requires.5
 
-pub component_at-c-requires : goal.component_at-c-requires
-component_at-c-requires c = let r = c.requires.0.room in let l = c.loop-k.invariant.within.len in omega arith
-
 pub count_one-n-requires : goal.count_one-n-requires
 count_one-n-requires c = let a = c.args in let H = c.loop-k.invariant in let r = c.requires.0.room in let m = c.requires.1 in let n = c.requires.2 in let g = c.requires.3 in
     let e = c.component_at-c.ensures ∙ counted_same a.self.sheet a.self.w a.self.h a.words.now a.sizes H m c.loop-k.k in
@@ -32,6 +29,3 @@ overflow_add-n c = let a = c.args in let H = c.loop-k.invariant in let f = (coun
 pub loop-k-preserved : goal.loop-k-preserved
 loop-k-preserved c = let a = c.args in let H = c.loop-k.invariant in let r = c.requires.0.room in let m = c.requires.1 in
     counted-more a.self.sheet a.self.w a.self.h a.words.now a.sizes H m c.component_at-c.result c.count_one-n.result _ c.component_at-c.ensures (c.requires.0.inside c.loop-k.k (omega arith)) (omega arith) c.count_one-n.ensures.0 c.count_one-n.ensures.1
-
-pub returns : goal.returns
-returns c = let a = c.args in subst (λ (k : ℕ). HeightsCounted a.self.sheet a.self.w a.self.h a.sizes a.self.at k c.loop-k.n a.words.now c.loop-k.words) (let e : c.loop-k.k ≡ a.count = omega arith in e) c.loop-k.invariant
