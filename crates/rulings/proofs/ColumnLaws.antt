@@ -1,6 +1,6 @@
 -- Columns walked row by row: counters of the runs that end in a row, and the marks that one row more brings.
 use mathlib.Core.Path.{◌≡◌, refl, sym, ap, ◌∙◌}
-use mathlib.Core.Bool.{Bool, true, false, cond, ◌&&◌, ◌||◌, true≢false}
+use mathlib.Core.Bool.{Bool, true, false, cond, ◌&&◌, ◌||◌}
 use mathlib.Core.List.{List}
 use Prim.Native.Nat.{ℕ, suc, ◌+◌, ◌-◌, ◌*◌, ◌≤◌, ◌<◌, min}
 use native.Mathlib.Nat.{le_refl, mul_comm}
@@ -15,7 +15,7 @@ use Rattle.extents.specs.rules.Extents.{behind, ahead, run_through, extent}
 use Rattle.rulings.specs.rules.Rulings.{widened, in_thin_ruling}
 use Rattle.extents.specs.stages.Scans.{Starts}
 use Rattle.rulings.specs.stages.Sweeps.{spot_of, plane_of, widened_scanline, is_thin, is_ruling, Laid, ScannedBack, Marked, UpTo, Counted, ink_beside, CountedOn, Recounted, ruling_by, Risen}
-use Rattle.rulings.specs.declared.scanlines.Sweep.{Sweep}
+use Rattle.rulings.specs.declared.plane.Sweep.{Sweep}
 use Rattle.memory.proofs.PlaneLaws.{dot-inside}
 use Rattle.memory.specs.rules.Masks.{is_ink}
 use Rattle.extents.proofs.RunLaws.{behind-on, behind-off, behind-le, ahead-on, ahead-off, ahead-le, count_next, run_through-last, run-reached, run-reached-before, run-apart, run-last}
@@ -302,17 +302,6 @@ counted-on-next m row a x v s t l k e D = record { inside = λ o h j. go o h j (
 -- where the dots of a row lie
 pub row-spot : (g : Sweep) (y o : ℕ) → g.across ≡ 1 → spot_of g y o ≡ y * g.along + o
 row-spot g y o e = ap (λ k. o * k + y * g.along) e ∙ (let x : o * 1 + y * g.along ≡ y * g.along + o = omega arith in x)
-
--- none has reached so far, nor here
-pub reached-more : (s : List ℕ) (a x r : ℕ) (found : Bool) → (found ≡ false → (o : ℕ) → a ≤ o → o < x → get_or s o 0 < r)
-    → (found || leb r (get_or s x 0)) ≡ false → (o : ℕ) → a ≤ o → o < x + 1 → get_or s o 0 < r
-reached-more s a x r true h q o l k = absurd (true≢false q)
-reached-more s a x r false h q o l k = go (dec_lt o x) (dec_lt (get_or s x 0) r)
-  where
-    go : Dec (o < x) → Dec (get_or s x 0 < r) → get_or s o 0 < r
-    go (yes d) e = h refl o l d
-    go (no d) (yes e) = let z : o ≡ x = omega arith in rw z e
-    go (no d) (no e) = absurd (true≢false (sym (le-leb r (get_or s x 0) (omega arith)) ∙ q))
 
 -- Extents across, no further than they matter
 

@@ -20,7 +20,7 @@ use Rattle.rulings.specs.rules.Rulings.{transposed, widened, in_thin_ruling, cut
 use Rattle.rulings.specs.stages.Marks.{cut_mark, Blank}
 use Rattle.extents.specs.stages.Scans.{ScannedTo, Starts, clear, blank, MaskFits}
 use Rattle.rulings.specs.stages.Sweeps.{sweep_down, sweep_across, spot_of, plane_of, widened_scanline, is_thin, is_ruling, Laid, ScannedBack, Cached, Marked, Unmarked, Walked}
-use Rattle.rulings.specs.declared.scanlines.Sweep.{Sweep}
+use Rattle.rulings.specs.declared.plane.Sweep.{Sweep}
 use Rattle.memory.proofs.PlaneLaws.{dot-column, dot-row, dot-inside}
 use Rattle.extents.proofs.MaskLaws.{is_ink-mask_of}
 use Rattle.extents.proofs.OverLaws.{over-unique}
@@ -348,18 +348,6 @@ module _ (g : Sweep) (m : List ℕ) (thick_max i o before after : ℕ) (lo : o <
 -- what is kept holds for later scanlines too
 pub cached-later : (g : Sweep) (m : List ℕ) (thick_max o q : ℕ) (cache : List ℕ) → o ≤ q → Cached g m thick_max o cache → Cached g m thick_max q cache
 cached-later g m thick_max o q cache h C = record { room = C.room; told = λ i r l a b. C.told i r l (omega arith) b }
-
--- Scans back
-
-pub back_more : (p : ℕ → Bool) (s to : ℕ) → ((k : ℕ) → s ≤ k → k < to → p k ≡ true) → p (s - 1) ≡ true → (k : ℕ) → s - 1 ≤ k → k < to → p k ≡ true
-back_more p s to h e k a b = go (dec_le s k)
-  where
-    go : Dec (s ≤ k) → p k ≡ true
-    go (yes l) = h k l b
-    go (no l) = ap p (let z : k ≡ s - 1 = omega arith in z) ∙ e
-
-pub back-stop : (p : ℕ → Bool) (s k : ℕ) → p (s - 1) ≡ false → k + 1 ≡ s → p k ≡ false
-back-stop p s k e z = ap p (let y : k ≡ s - 1 = omega arith in y) ∙ e
 
 -- the test of a dot, as the code has it
 pub test-off : (t b : Bool) → t ≡ b → not t ≡ true → b ≡ false

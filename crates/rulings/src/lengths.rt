@@ -30,14 +30,12 @@ pub fn thin_rulings(
 pub fn run_min(sheet: LayoutParams, unit: f64) -> u32
     ensures { result ≡ run_min sheet unit }
 {
-    let run = round_to_u32(sheet.rule_run_xh * unit);
-    if run < 2 { 2 } else { run }
+    round_to_u32(sheet.rule_run_xh * unit).max(2)
 }
 
 // Its greatest thickness.
 pub fn thick_max(sheet: LayoutParams, unit: f64) -> u32
     ensures { result ≡ thick_max sheet unit }
 {
-    let thick = round_to_u32(sheet.rule_max_thick_xh * unit);
-    if thick < 1 { 1 } else { thick }
+    round_to_u32(sheet.rule_max_thick_xh * unit).max(1)
 }

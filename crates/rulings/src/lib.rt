@@ -3,6 +3,7 @@
 
 mod columns;
 mod lengths;
+mod plane;
 mod scanlines;
 
 pub use lengths::{run_min, thick_max, thin_rulings};

@@ -12,7 +12,7 @@ mod median;
 mod plan;
 mod sort;
 
-pub use kinds::{CUT, GLYPH, GRAPHIC, RULE, SPECK, is_measurable, kind_by_size, kind_of};
+pub use kinds::{CUT, GLYPH, GRAPHIC, Kind, RULE, SPECK, is_measurable, kind_by_size, kind_of};
 pub use measure::{
     SIZE_WORDS, component_at, measure_unit, pack_boxes, packed_box, size_box, total_area,
     write_kinds,

@@ -63,51 +63,51 @@ pub fn measure_unit(
     requires { (SizesInside w h words.old sizes count) × (heights + h + 1 ≤ sizes) × (count ≤ 4294967295) × (h < 4294967295) }
     ensures { (result ≡ unit_of sheet w h (sized_from words.old sizes count)) × (Within heights (heights + h + 1) words.old words.new) }
 {
-    let rows = (h as usize) + 1;
+    let rows = h as usize + 1;
     fill_words(&mut words[heights..heights + rows], 0);
-    let n = count_heights(words, sizes, count, heights, sheet, w, h);
+    let counts = Heights {
+        at: heights,
+        sheet,
+        w,
+        h,
+    };
+    let n = counts.count_all(words, sizes, count);
     unit_from(&words[heights..heights + rows], n, sheet)
 }
 
-// Counts the heights that count for the unit, and answers how many there are.
-fn count_heights(
-    words: &mut [u32],
-    sizes: usize,
-    count: usize,
-    heights: usize,
+// Counts by height from word `at` on, for a frame w wide and h high: how many components of each height count for the unit.
+#[derive(Clone, Copy)]
+struct Heights {
+    at: usize,
     sheet: LayoutParams,
     w: u32,
     h: u32,
-) -> u32
-    requires { (SizesInside w h words.old sizes count) × (heights + h + 1 ≤ sizes) × (count ≤ 4294967295) × (h < 4294967295) × (w ≤ 4294967295) × ((v : ℕ) → v ≤ h → get_or words.old (heights + v) 0 ≡ 0) }
-    ensures { HeightsCounted sheet w h sizes heights count result words.old words.new }
-{
-    let mut n: u32 = 0;
-    let mut k: usize = 0;
-    while k < count {
-        let c = component_at(&words[..], sizes, k);
-        n += count_height(words, heights, sheet, w, h, c);
-        k += 1;
-    }
-    n
 }
 
-// Counts the height of one component, where it counts; answers 1, or 0 where it does not.
-fn count_height(
-    words: &mut [u32],
-    heights: usize,
-    sheet: LayoutParams,
-    w: u32,
-    h: u32,
-    c: Component,
-) -> u32
-    requires { (Inside w h (box_of c)) × (heights + h + 1 ≤ length words.old) × (h < 4294967295) × (get_or words.old (heights + height (box_of c)) 0 < 4294967295) }
-    ensures { (result ≡ cond (measurable sheet w h c) 1 0) × (words.new ≡ set words.old (heights + height (box_of c)) (get_or words.old (heights + height (box_of c)) 0 + result)) }
-{
-    let one = is_measurable(sheet, w, h, c) as u32;
-    let at = heights + (c.rect().height() as usize);
-    words[at] = words[at] + one;
-    one
+impl Heights {
+    // Counts the heights that count for the unit, and answers how many there are.
+    fn count_all(self, words: &mut [u32], sizes: usize, count: usize) -> u32
+        requires { (SizesInside self.w self.h words.old sizes count) × (self.at + self.h + 1 ≤ sizes) × (count ≤ 4294967295) × (self.h < 4294967295) × (self.w ≤ 4294967295) × ((v : ℕ) → v ≤ self.h → get_or words.old (self.at + v) 0 ≡ 0) }
+        ensures { HeightsCounted self.sheet self.w self.h sizes self.at count result words.old words.new }
+    {
+        let mut n: u32 = 0;
+        for k in 0..count {
+            let c = component_at(words, sizes, k);
+            n += self.count_one(words, c);
+        }
+        n
+    }
+
+    // Counts the height of one component, where it counts; answers 1, or 0 where it does not.
+    fn count_one(self, words: &mut [u32], c: Component) -> u32
+        requires { (Inside self.w self.h (box_of c)) × (self.at + self.h + 1 ≤ length words.old) × (self.h < 4294967295) × (get_or words.old (self.at + height (box_of c)) 0 < 4294967295) }
+        ensures { (result ≡ cond (measurable self.sheet self.w self.h c) 1 0) × (words.new ≡ set words.old (self.at + height (box_of c)) (get_or words.old (self.at + height (box_of c)) 0 + result)) }
+    {
+        let one = is_measurable(self.sheet, self.w, self.h, c) as u32;
+        let at = self.at + c.rect().height() as usize;
+        words[at] += one;
+        one
+    }
 }
 
 // The unit by counts of n heights.
@@ -127,11 +127,9 @@ pub fn write_kinds(words: &mut [u32], plan: Plan, count: usize, sheet: LayoutPar
     ensures { Stored (λ k. kind_of sheet (unit_value unit) plan.width plan.height (sized_at words.old plan.sizes k)) plan.kinds count words.old words.new }
 {
     let kinds = plan.kinds;
-    let mut k: usize = 0;
-    while k < count {
-        let c = component_at(&words[..], plan.sizes, k);
+    for k in 0..count {
+        let c = component_at(words, plan.sizes, k);
         words[kinds + k] = kind_of(sheet, unit, plan.width, plan.height, c);
-        k += 1;
     }
 }
 
@@ -140,13 +138,11 @@ pub fn pack_boxes(words: &mut [u32], sizes: usize, count: usize, to: usize)
     requires { (SizesInside 32768 32768 words.old sizes count) × (to + 2 * count ≤ sizes) }
     ensures { Stored (box_word words.old sizes) to (2 * count) words.old words.new }
 {
-    let mut k: usize = 0;
-    while k < count {
-        let c = component_at(&words[..], sizes, k);
+    for k in 0..count {
+        let c = component_at(words, sizes, k);
         let at = to + 2 * k;
         words[at] = c.x0 + SIDE * c.x1;
         words[at + 1] = c.y0 + SIDE * c.y1;
-        k += 1;
     }
 }
 
@@ -171,10 +167,8 @@ pub fn total_area(words: &[u32], sizes: usize, count: usize) -> u32
     ensures { result ≡ total (table (λ k. (sized_at words.now sizes k).area) count) }
 {
     let mut sum: u32 = 0;
-    let mut k: usize = 0;
-    while k < count {
+    for k in 0..count {
         sum += words[sizes + SIZE_WORDS * k];
-        k += 1;
     }
     sum
 }

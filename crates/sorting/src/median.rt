@@ -10,14 +10,12 @@ pub fn median_of_counts(counts: &[u32], total: u32) -> u32
 {
     let half = (total as u64) / 2;
     let mut below: u64 = 0;
-    let mut v: usize = 0;
-    while v < counts.len() {
-        let more = below + (counts[v] as u64);
+    for (v, count) in counts.iter().enumerate() {
+        let more = below + *count as u64;
         if half < more {
             return v as u32;
         }
         below = more;
-        v += 1;
     }
     0
 }

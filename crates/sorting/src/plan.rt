@@ -6,7 +6,7 @@ ghost use Rattle.sorting.specs.stages.Scratch.{plan_of};
 use memory::area;
 
 // The sides of the frame, its dots, how many components each labelling may have, and the first word of each list.
-#[derive(Clone, Copy)]
+#[derive(Clone, Copy, Debug, PartialEq, Eq)]
 pub struct Plan {
     pub width: u32,
     pub height: u32,

@@ -5,7 +5,7 @@ use Rattle.memory.specs.rules.Masks.{is_ink}
 use Rattle.extents.specs.rules.Extents.{Plane, behind, extent}
 use Rattle.rulings.specs.rules.Rulings.{widened, in_thin_ruling}
 use Rattle.extents.specs.stages.Scans.{Starts, MaskFits}
-use Rattle.rulings.specs.declared.scanlines.Sweep.{Sweep}
+use Rattle.rulings.specs.declared.plane.Sweep.{Sweep}
 
 -- the columns of a plane w wide and h high
 abbrev pub sweep_down : ℕ → ℕ → Sweep

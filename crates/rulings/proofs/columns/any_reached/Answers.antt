@@ -1,15 +1,14 @@
-use native.Mathlib.Nat.{le_refl}
+use mathlib.Core.Path.{◌≡◌, ◌∙◌, ap}
+use Prim.Native.Nat.{◌+◌, ◌-◌}
 use native.Mathlib.Omega.{arith}
-use Rattle.rulings.proofs.ColumnLaws.{reached-more}
+use lib.ListN.{get_or}
+use Rattle.memory.proofs.PartLaws.{get_or-part, length_part}
 use Rattle.rulings.proofs.columns.any_reached.Goals as goal
 
-pub loop-o-init : goal.loop-o-init
-loop-o-init c = (le_refl _, omega arith, λ f k x y. absurd (omega arith))
-
-pub loop-o-preserved : goal.loop-o-preserved
-loop-o-preserved c =
-    let a = c.args in
-    (omega arith, omega arith, reached-more a.words.now a.a c.loop-o.o a.run_min c.loop-o.found c.loop-o.invariant.2)
-
 pub returns : goal.returns
-returns c = λ f k x y. c.loop-o.invariant.2 f k x (omega arith)
+returns c = λ f o x y.
+    let a = c.args in
+    let h = c.loop-since.invariant f (o - a.a) (omega (arith, length_part a.a a.b a.words.now (omega arith) (omega arith))) in
+    let e : a.a + (o - a.a) ≡ o = omega arith in
+    let g = get_or-part a.a (a.b - a.a) a.words.now (o - a.a) (omega arith) ∙ ap (λ k. get_or a.words.now k 0) e in
+    omega arith

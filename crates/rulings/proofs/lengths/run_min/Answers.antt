@@ -2,10 +2,6 @@ use native.Mathlib.Omega.{arith}
 use Rattle.rulings.specs.rules.Rulings.{run_min}
 use Rattle.rulings.proofs.lengths.run_min.Goals as goal
 
-pub returns-then-run-lt2 : goal.returns-then-run-lt2
+pub returns : goal.returns
 unfolding run_min
-returns-then-run-lt2 c = omega (arith, c.round_to_u32-run.ensures)
-
-pub returns-else-run-lt2 : goal.returns-else-run-lt2
-unfolding run_min
-returns-else-run-lt2 c = omega (arith, c.round_to_u32-run.ensures)
+returns c = omega (arith, c.max.ensures, c.round_to_u32.ensures)

@@ -1,5 +1,5 @@
 use native.Mathlib.Omega.{arith}
-use Prim.Native.Nat.{◌+◌, ◌*◌, zero-le}
+use Prim.Native.Nat.{◌+◌, ◌*◌}
 use mathlib.Core.Path.{◌≡◌, refl, ap, ◌∙◌}
 use Rattle.labelling.specs.declared.component.Component.{Component}
 use lib.ListN.{length-set}
@@ -7,45 +7,19 @@ use Rattle.memory.proofs.StoredLaws.{stored-none, stored_more, stored-count}
 use Rattle.sorting.proofs.SizedLaws.{sized_past, box-word-first, box-word-second}
 use Rattle.sorting.proofs.measure.pack_boxes.Goals as goal
 
-pub loop-k-init : goal.loop-k-init
-loop-k-init c = (zero-le, stored-none _ _ _)
-
-pub component_at-c-requires : goal.component_at-c-requires
-component_at-c-requires c = let r = c.requires.0.room in let l = c.loop-k.invariant.1.within.len in omega arith
-
-pub overflow_mul-at : goal.overflow_mul-at
-overflow_mul-at c = let p = c.requires.0.room in let q = c.requires.1 in omega arith
-
-pub overflow_add-at : goal.overflow_add-at
-overflow_add-at c = let p = c.requires.0.room in let q = c.requires.1 in omega arith
-
 pub overflow_mul-words : goal.overflow_mul-words
-overflow_mul-words c = let a = c.args in let e = c.component_at-c.ensures ∙ sized_past c.loop-k.invariant.1.within a.sizes c.loop-k.k (omega (arith, c.requires.1)) in let b = c.requires.0.inside c.loop-k.k (omega arith) in let x = ap (λ (z : Component). z.x1) e in let y = b.right in omega arith
+overflow_mul-words c = let a = c.args in let e = c.component_at-c.ensures ∙ sized_past c.loop-k.invariant.within a.sizes c.loop-k.k (omega (arith, c.requires.1)) in let b = c.requires.0.inside c.loop-k.k (omega arith) in let x = ap (λ (z : Component). z.x1) e in let y = b.right in omega arith
 
 pub overflow_add-words : goal.overflow_add-words
-overflow_add-words c = let a = c.args in let e = c.component_at-c.ensures ∙ sized_past c.loop-k.invariant.1.within a.sizes c.loop-k.k (omega (arith, c.requires.1)) in let b = c.requires.0.inside c.loop-k.k (omega arith) in let x = ap (λ (z : Component). z.x1) e in let v = ap (λ (z : Component). z.x0) e in let y = b.right in let u = b.columns in omega arith
-
-pub bounds-words-at : goal.bounds-words-at
-bounds-words-at c = let p = c.requires.0.room in let q = c.requires.1 in let l = c.loop-k.invariant.1.within.len in omega arith
+overflow_add-words c = let a = c.args in let e = c.component_at-c.ensures ∙ sized_past c.loop-k.invariant.within a.sizes c.loop-k.k (omega (arith, c.requires.1)) in let b = c.requires.0.inside c.loop-k.k (omega arith) in let x = ap (λ (z : Component). z.x1) e in let v = ap (λ (z : Component). z.x0) e in let y = b.right in let u = b.columns in omega arith
 
 pub overflow_mul-words-in-loop-k : goal.overflow_mul-words-in-loop-k
-overflow_mul-words-in-loop-k c = let a = c.args in let e = c.component_at-c.ensures ∙ sized_past c.loop-k.invariant.1.within a.sizes c.loop-k.k (omega (arith, c.requires.1)) in let b = c.requires.0.inside c.loop-k.k (omega arith) in let x = ap (λ (z : Component). z.y1) e in let y = b.bottom in omega arith
+overflow_mul-words-in-loop-k c = let a = c.args in let e = c.component_at-c.ensures ∙ sized_past c.loop-k.invariant.within a.sizes c.loop-k.k (omega (arith, c.requires.1)) in let b = c.requires.0.inside c.loop-k.k (omega arith) in let x = ap (λ (z : Component). z.y1) e in let y = b.bottom in omega arith
 
 pub overflow_add-words-in-loop-k : goal.overflow_add-words-in-loop-k
-overflow_add-words-in-loop-k c = let a = c.args in let e = c.component_at-c.ensures ∙ sized_past c.loop-k.invariant.1.within a.sizes c.loop-k.k (omega (arith, c.requires.1)) in let b = c.requires.0.inside c.loop-k.k (omega arith) in let x = ap (λ (z : Component). z.y1) e in let v = ap (λ (z : Component). z.y0) e in let y = b.bottom in let u = b.rows in omega arith
-
-pub overflow_add-words-in-loop-k-2 : goal.overflow_add-words-in-loop-k-2
-overflow_add-words-in-loop-k-2 c = let p = c.requires.0.room in let q = c.requires.1 in omega arith
-
-pub bounds-words-at-in-loop-k : goal.bounds-words-at-in-loop-k
-bounds-words-at-in-loop-k c = let p = c.requires.0.room in let q = c.requires.1 in let l = c.loop-k.invariant.1.within.len in simp length-set (omega arith)
+overflow_add-words-in-loop-k c = let a = c.args in let e = c.component_at-c.ensures ∙ sized_past c.loop-k.invariant.within a.sizes c.loop-k.k (omega (arith, c.requires.1)) in let b = c.requires.0.inside c.loop-k.k (omega arith) in let x = ap (λ (z : Component). z.y1) e in let v = ap (λ (z : Component). z.y0) e in let y = b.bottom in let u = b.rows in omega arith
 
 pub loop-k-preserved : goal.loop-k-preserved
-loop-k-preserved c = let a = c.args in let e = c.component_at-c.ensures ∙ sized_past c.loop-k.invariant.1.within a.sizes c.loop-k.k (omega (arith, c.requires.1)) in let p = c.requires.0.room in let q = c.requires.1 in (
-  omega arith,
-  stored-count (stored_more (stored_more c.loop-k.invariant.1 (a.to + 2 * c.loop-k.k) _ refl (omega arith) (box-word-first a.words.now a.sizes c.loop-k.k c.component_at-c.result e))
-      (a.to + 2 * c.loop-k.k + 1) _ (omega arith) (omega arith) (box-word-second a.words.now a.sizes c.loop-k.k c.component_at-c.result e)) (omega arith),
-)
-
-pub returns : goal.returns
-returns c = stored-count c.loop-k.invariant.1 (let e : 2 * c.loop-k.k ≡ 2 * c.args.count = omega arith in e)
+loop-k-preserved c = let a = c.args in let e = c.component_at-c.ensures ∙ sized_past c.loop-k.invariant.within a.sizes c.loop-k.k (omega (arith, c.requires.1)) in let p = c.requires.0.room in let q = c.requires.1 in
+    stored-count (stored_more (stored_more c.loop-k.invariant (a.to + 2 * c.loop-k.k) _ refl (omega arith) (box-word-first a.words.now a.sizes c.loop-k.k c.component_at-c.result e))
+    (a.to + 2 * c.loop-k.k + 1) _ (omega arith) (omega arith) (box-word-second a.words.now a.sizes c.loop-k.k c.component_at-c.result e)) (omega arith)

@@ -1,5 +1,5 @@
 use native.Mathlib.Omega.{arith}
-use Prim.Native.Nat.{ℕ, zero-le}
+use Prim.Native.Nat.{ℕ}
 use mathlib.Core.Path.{◌≡◌, ap, ◌∙◌}
 use Rattle.memory.specs.rules.Lists.{table, total}
 use Rattle.sorting.specs.stages.Measures.{sized_at}
@@ -7,13 +7,10 @@ use Rattle.sorting.proofs.AreaLaws.{areas-none, areas-more, areas-fit}
 use Rattle.sorting.proofs.measure.total_area.Goals as goal
 
 pub loop-k-init : goal.loop-k-init
-loop-k-init c = (zero-le, areas-none (c).args.words.now (c).args.sizes)
+loop-k-init c = areas-none (c).args.words.now (c).args.sizes
 
 pub overflow_add-sum-in-loop-k : goal.overflow_add-sum-in-loop-k
-overflow_add-sum-in-loop-k c = let a = areas-fit c.args.words.now c.args.sizes c.loop-k.k c.args.count c.loop-k.sum (omega arith) c.loop-k.invariant.1 in let p = c.requires.1 in omega arith
+overflow_add-sum-in-loop-k c = let a = areas-fit c.args.words.now c.args.sizes c.loop-k.k c.args.count c.loop-k.sum (omega arith) c.loop-k.invariant in let p = c.requires.1 in omega arith
 
 pub loop-k-preserved : goal.loop-k-preserved
-loop-k-preserved c = (omega arith, areas-more c.args.words.now c.args.sizes c.loop-k.k c.loop-k.sum c.loop-k.invariant.1)
-
-pub returns : goal.returns
-returns c = c.loop-k.invariant.1 ∙ ap (λ (n : ℕ). total (table (λ k. (sized_at c.args.words.now c.args.sizes k).area) n)) (let e : c.loop-k.k ≡ c.args.count = omega arith in e)
+loop-k-preserved c = areas-more c.args.words.now c.args.sizes c.loop-k.k c.loop-k.sum c.loop-k.invariant

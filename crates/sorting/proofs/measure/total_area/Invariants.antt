@@ -1,11 +1,7 @@
-use Prim.Native.Nat.{◌-◌, ◌≤◌}
 use mathlib.Core.Path.{◌≡◌}
 use Rattle.memory.specs.rules.Lists.{table, total}
 use Rattle.sorting.specs.stages.Measures.{sized_at}
 use Rattle.sorting.proofs.measure.total_area.Given as goal
 
 abbrev pub invariant-loop-k : goal.invariant-loop-k
-invariant-loop-k l = (l.k ≤ l.count) × (l.sum ≡ total (table (λ k. (sized_at l.words l.sizes k).area) l.k))
-
-abbrev pub decreases-loop-k : goal.decreases-loop-k
-decreases-loop-k l = l.count - l.k
+invariant-loop-k l = l.sum ≡ total (table (λ k. (sized_at l.words l.sizes k).area) l.k)

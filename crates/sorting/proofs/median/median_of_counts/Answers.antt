@@ -7,19 +7,13 @@ use Rattle.sorting.proofs.median.median_of_counts.Goals as goal
 
 pub loop-v-init : goal.loop-v-init
 unfolding total
-loop-v-init c = (omega arith, omega arith, refl)
-
-pub overflow_cast-more : goal.overflow_cast-more
-overflow_cast-more c = omega (arith, c.type_inv.counts c.loop-v.v)
-
-pub overflow_add-more : goal.overflow_add-more
-overflow_add-more c = omega (arith, c.type_inv.counts c.loop-v.v)
+loop-v-init c = (omega arith, refl)
 
 pub returns-then-half-more : goal.returns-then-half-more
-returns-then-half-more c = let a = c.args in λ s C. counts-median a.counts.now s a.total c.loop-v.v C (omega arith) (omega (arith, c.loop-v.invariant.2)) (omega (arith, c.loop-v.invariant.2))
+returns-then-half-more c = let a = c.args in λ s C. counts-median a.counts.now s a.total c.loop-v.v C (omega arith) (omega (arith, c.loop-v.invariant.1)) (omega (arith, c.loop-v.invariant.1))
 
 pub loop-v-preserved : goal.loop-v-preserved
-loop-v-preserved c = let a = c.args in (omega arith, omega arith, counts-loop a.counts.now c.loop-v.v c.loop-v.below (omega arith) c.loop-v.invariant.2)
+loop-v-preserved c = let a = c.args in (omega arith, counts-loop a.counts.now c.loop-v.v c.loop-v.below (omega arith) c.loop-v.invariant.1)
 
 pub returns : goal.returns
-returns c = let a = c.args in λ s C. counts-none a.counts.now s a.total C (let e : c.loop-v.v ≡ length a.counts.now = omega arith in let d = c.loop-v.invariant.2 ∙ ap (λ k. total (take k a.counts.now)) e in omega arith)
+returns c = let a = c.args in λ s C. counts-none a.counts.now s a.total C (let e : c.loop-v.v ≡ length a.counts.now = omega arith in let d = c.loop-v.invariant.1 ∙ ap (λ k. total (take k a.counts.now)) e in omega arith)

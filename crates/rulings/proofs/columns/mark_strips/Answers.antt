@@ -1,9 +1,0 @@
-use mathlib.Core.Path.{refl}
-use lib.ListN.{drop}
-use Rattle.rulings.proofs.ColumnLaws.{risen-short}
-use Rattle.rulings.proofs.columns.mark_strips.Goals as goal
-
-pub returns-then-not-any_long_run : goal.returns-then-not-any_long_run
-returns-then-not-any_long_run c =
-    let a = c.args in
-    (c.chunk_end-b.ensures.0, c.chunk_end-b.ensures.1, risen-short a.t.sweep a.ink.now a.t.run_min a.t.thick_max a.a _ (drop a.t.marks a.words.now) (c.any_long_run.ensures c.if-not-any_long_run.true), λ e. refl)

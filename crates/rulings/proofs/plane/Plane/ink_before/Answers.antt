@@ -1,0 +1,25 @@
+use mathlib.Core.Bool.{not}
+use mathlib.Core.Path.{◌≡◌, ◌∙◌, ap}
+use native.Mathlib.Omega.{arith}
+use Rattle.rulings.specs.stages.Sweeps.{plane_of}
+use Rattle.rulings.proofs.SweepLaws.{test-off, test_on}
+use Rattle.rulings.proofs.ColumnLaws.{behind-blank, behind-ended, behind-step}
+use Rattle.rulings.proofs.plane.Plane.ink_before.Goals as goal
+
+pub returns-then-not-is_ink : goal.returns-then-not-is_ink
+returns-then-not-is_ink c =
+    let a = c.args in
+    let e = c.min-end.ensures in
+    behind-blank (plane_of a.self.sweep a.self.ink.now a.i) a.o c.loop-n.n a.most (omega arith) (omega arith) (test-off _ _ c.is_ink.ensures (ap not c.if-not-is_ink.true)) c.loop-n.invariant
+
+pub loop-n-preserved : goal.loop-n-preserved
+loop-n-preserved c =
+    let a = c.args in
+    let e = c.min-end.ensures in
+    behind-step (plane_of a.self.sweep a.self.ink.now a.i) a.o c.loop-n.n (omega arith) (test_on _ _ c.is_ink.ensures (ap not c.if-not-is_ink.false)) c.loop-n.invariant
+
+pub returns : goal.returns
+returns c =
+    let a = c.args in
+    let e : c.min-end.result ≡ c.loop-n.n = omega arith in
+    e ∙ behind-ended (plane_of a.self.sweep a.self.ink.now a.i) a.o c.loop-n.n a.most (omega arith) (omega arith) (λ x y. absurd (omega arith)) c.loop-n.invariant
