@@ -61,14 +61,12 @@ fn join_touching(
     ensures { Parented list.w list.c list.parents words.old words.new j result }
 {
     let mut member = wide(words[list.parents + first]);
-    let mut k = first + 1;
-    while k < to {
+    for k in first + 1..to {
         if end < wide(words[2 * k]) {
             return member;
         }
         let parents = list.parents;
         member = join(&mut words[parents..], member, k);
-        k += 1;
     }
     member
 }
@@ -139,15 +137,13 @@ pub fn link_row(words: &mut [u32], list: RunTable, above: usize, here: usize, li
     ensures { RowLinked list.w list.c list.parents limit words.old words.new here result }
 {
     let mut i = above;
-    let mut j = here;
-    while j < list.c {
+    for j in here..list.c {
         if limit <= wide(words[2 * j]) {
             return j;
         }
         i = link_one(words, list, i, here, j);
-        j += 1;
     }
-    j
+    list.c
 }
 
 // Gives each of the c runs of a plane, w wide and h high, its parent.
@@ -157,19 +153,17 @@ pub fn link_runs(words: &mut [u32], c: usize, w: usize, h: usize)
 {
     let parents = 2 * c;
     let list = RunTable {
-        c: c,
-        parents: parents,
-        w: w,
+        c,
+        parents,
+        w,
     };
     let mut above = 0;
     let mut here = 0;
     let mut base = 0;
-    let mut y = 0;
-    while y < h {
+    for y in 0..h {
         let next = link_row(words, list, above, here, base + w);
         above = here;
         here = next;
         base += w;
-        y += 1;
     }
 }

@@ -45,11 +45,9 @@ fn is_blank(ink: &[u8]) -> bool
     requires { length ink.now ≡ 32 }
     ensures { result ≡ eqb (count_if (is_ink ink.now) 32) 0 }
 {
-    let mut count: u8 = 0;
-    let mut i = 0;
-    while i < CHUNK {
-        count += (0 < ink[i]) as u8;
-        i += 1;
+    let mut count = 0;
+    for byte in ink {
+        count += (0 < *byte) as u8;
     }
     count == 0
 }
@@ -59,11 +57,9 @@ fn count_passing(test: Test, ink: &[u8], marks: &[u32]) -> u8
     requires { (length ink.now ≡ 32) × (length marks.now ≡ 32) }
     ensures { result ≡ count_if (is_ink (passing test ink.now marks.now 32)) 32 }
 {
-    let mut count: u8 = 0;
-    let mut i = 0;
-    while i < CHUNK {
+    let mut count = 0;
+    for i in 0..CHUNK {
         count += passes(test, ink[i], marks[i]);
-        i += 1;
     }
     count
 }
@@ -91,14 +87,12 @@ fn scan(row: RowTest, ink: &[u8], from: usize, to: usize, words: &mut [u32], at:
 {
     let mut k = at;
     let mut before = (at % 2) as u8;
-    let mut x = from;
-    while x < to {
+    for x in from..to {
         let test = row.test;
         let here = passes(test, ink[x], words[row.marks + row.base + x]);
         words[k] = (row.base + x) as u32;
         k += (before != here) as usize;
         before = here;
-        x += 1;
     }
     k
 }
@@ -108,10 +102,8 @@ fn tell_passing(test: Test, ink: &[u8], marks: &[u32], told: &mut [u8; CHUNK])
     requires { (length ink.now ≡ 33) × (length marks.now ≡ 33) × (length told.old ≡ 32) }
     ensures { TurnsTold (passing test ink.now marks.now 33) told.new 32 }
 {
-    let mut i = 0;
-    while i < CHUNK {
+    for i in 0..CHUNK {
         told[i] = (passes(test, ink[i], marks[i]) != passes(test, ink[i + 1], marks[i + 1])) as u8;
-        i += 1;
     }
 }
 
@@ -185,17 +177,15 @@ pub fn extract_marked(
 {
     let mut k = 0;
     let mut base = 0;
-    let mut y = 0;
-    while y < h {
+    for y in 0..h {
         let end = base + w;
         let row = RowTest {
-            test: test,
-            base: base,
-            marks: marks,
+            test,
+            base,
+            marks,
         };
         k = extract_row(row, &ink[base..end], words, k);
         base = end;
-        y += 1;
     }
     k / 2
 }

@@ -24,14 +24,12 @@ pub fn number_runs(parents: &mut [u32], c: usize, capacity: usize) -> usize
     requires { (c ≤ length parents.old) × (capacity ≤ max_capacity) × ((j : ℕ) → j < c → get_or parents.old j 0 ≤ j) }
     ensures { Numbered c capacity parents.old parents.new result }
 {
-    let mut k = 0;
     let mut count = 0;
-    while k < c {
+    for k in 0..c {
         count = number_one(parents, k, count);
         if capacity < count {
             return count;
         }
-        k += 1;
     }
     count
 }

@@ -14,20 +14,18 @@ pub fn extract_linked(mask: &[u8], w: usize, h: usize, words: &mut [u32], parent
     let mut above = 0;
     let mut here = 0;
     let mut base = 0;
-    let mut y = 0;
-    while y < h {
+    for y in 0..h {
         let end = base + w;
         let known = extract_row(&mask[base..end], base, words, 2 * here) / 2;
         let list = RunTable {
             c: known,
-            parents: parents,
-            w: w,
+            parents,
+            w,
         };
         let next = link_row(words, list, above, here, end);
         above = here;
         here = next;
         base = end;
-        y += 1;
     }
     here
 }

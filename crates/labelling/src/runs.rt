@@ -33,10 +33,8 @@ fn ink_count(chunk: &[u8]) -> u8
     ensures { result ≡ count_if (is_ink chunk.now) (length chunk.now) }
 {
     let mut count = 0;
-    let mut i = 0;
-    while i < chunk.len() {
-        count += ink_of(chunk[i]);
-        i += 1;
+    for byte in chunk {
+        count += ink_of(*byte);
     }
     count
 }
@@ -49,13 +47,11 @@ fn scan(row: &[u8], from: usize, to: usize, base: usize, words: &mut [u32], at: 
 {
     let mut k = at;
     let mut before = (at % 2) as u8;
-    let mut x = from;
-    while x < to {
+    for x in from..to {
         let here = ink_of(row[x]);
         words[k] = (base + x) as u32;
         k += turn_of(before, here);
         before = here;
-        x += 1;
     }
     k
 }
@@ -66,10 +62,8 @@ fn tell_turns(dots: &[u8], told: &mut [u8; CHUNK])
     requires { (length dots.now ≡ 33) × (length told.old ≡ 32) }
     ensures { TurnsTold dots.now told.new 32 }
 {
-    let mut i = 0;
-    while i < CHUNK {
+    for i in 0..CHUNK {
         told[i] = ((0 < dots[i]) != (0 < dots[i + 1])) as u8;
-        i += 1;
     }
 }
 
@@ -95,13 +89,11 @@ pub fn write_turns(
     ensures { ToldWritten told.now n start words.old words.new at result }
 {
     let mut k = at;
-    let mut i = 0;
-    while i < n {
+    for i in (0..n).step_by(4) {
         k = write_turn(told, i, start, words, k);
         k = write_turn(told, i + 1, start, words, k);
         k = write_turn(told, i + 2, start, words, k);
         k = write_turn(told, i + 3, start, words, k);
-        i += 4;
     }
     k
 }
@@ -186,12 +178,10 @@ pub fn extract_runs(mask: &[u8], w: usize, h: usize, words: &mut [u32]) -> usize
 {
     let mut k = 0;
     let mut base = 0;
-    let mut y = 0;
-    while y < h {
+    for y in 0..h {
         let end = base + w;
         k = extract_row(&mask[base..end], base, words, k);
         base = end;
-        y += 1;
     }
     k / 2
 }

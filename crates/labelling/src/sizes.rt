@@ -77,7 +77,7 @@ fn size_row(
         if limit <= start {
             return Reached {
                 next: k,
-                count: count,
+                count,
             };
         }
         let number = wide(words[2 * c + k]);
@@ -88,7 +88,7 @@ fn size_row(
     }
     Reached {
         next: k,
-        count: count,
+        count,
     }
 }
 
@@ -99,12 +99,10 @@ fn size_runs(words: &mut [u32], c: usize, w: usize, h: usize, at: usize)
 {
     let mut count = 0;
     let mut k = 0;
-    let mut y = 0;
-    while y < h {
+    for y in 0..h {
         let reached = size_row(words, c, w, y, k, count, at);
         count = reached.count;
         k = reached.next;
-        y += 1;
     }
 }
 

@@ -17,8 +17,8 @@ offset_bounds-words-list c = omega (arith, c.requires.0.list.few, c.requires.0.l
 pub bounds-words-list : goal.bounds-words-list
 bounds-words-list c = omega (arith, c.requires.0.list.few, c.requires.0.list.room, c.requires.0.list.place, c.requires.0.under.high, c.requires.0.under.mid, c.requires.1)
 
-pub overflow_add-k : goal.overflow_add-k
-overflow_add-k c = omega (arith, c.requires.0.list.few, c.requires.0.list.room, c.requires.0.list.place, c.requires.0.under.high, c.requires.0.under.mid, c.requires.1)
+pub overflow_step-k : goal.overflow_step-k
+overflow_step-k c = omega (arith, c.requires.0.list.few, c.requires.0.list.room, c.requires.0.list.place, c.requires.0.under.high, c.requires.0.under.mid, c.requires.1)
 
 pub loop-k-init : goal.loop-k-init
 loop-k-init c = sweep-first c.requires.0 c.requires.1 (omega (arith, c.requires.2, c.requires.3)) c.wide-member.result c.wide-member.ensures
@@ -46,9 +46,6 @@ slice_bounds-join-start c = omega (arith, c.requires.0.list.few, c.requires.0.li
 
 pub join-member-requires : goal.join-member-requires
 join-member-requires c = subst (λ (p : List ℕ). (c.loop-k.k < length p) × (c.loop-k.member < length p) × (c.loop-k.k < 4294967296) × (c.loop-k.member < 4294967296) × ((i : ℕ) → i ≤ max c.loop-k.member c.loop-k.k → get_or p i 0 ≤ i)) (sym (tail-part c.args.list.parents c.loop-k.words)) (sweep-asks c.loop-k.invariant c.loop-k-test.true)
-
-pub overflow_add-k-in-loop-k : goal.overflow_add-k-in-loop-k
-overflow_add-k-in-loop-k c = omega (arith, c.requires.0.list.few, c.requires.0.list.room, c.requires.0.list.place, c.requires.0.under.high, c.requires.0.under.mid, c.requires.1, c.loop-k.invariant.kept.len, c.loop-k.invariant.upto, c.loop-k-test.true)
 
 pub loop-k-preserved : goal.loop-k-preserved
 loop-k-preserved c = let v = c.loop-k.invariant in let u = c.requires.0.under in let lk = c.loop-k-test.true in

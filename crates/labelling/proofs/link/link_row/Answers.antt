@@ -1,5 +1,5 @@
 use native.Mathlib.Omega.{arith}
-use Rattle.labelling.proofs.RunLinkLaws.{walk_none, walk-room, walk_start, walk-linkable, walk_more, walk-done}
+use Rattle.labelling.proofs.RunLinkLaws.{walk_none, walk-room, walk_start, walk-linkable, walk_more, walk-done, walk-all}
 use Rattle.labelling.proofs.link.link_row.Goals as goal
 
 pub loop-j-init : goal.loop-j-init
@@ -24,4 +24,4 @@ pub loop-j-preserved : goal.loop-j-preserved
 loop-j-preserved c = walk_more c.loop-j.invariant c.loop-j-test.true (omega (arith, c.if-limit-wide.false, c.wide.ensures, walk_start c.loop-j.invariant c.loop-j-test.true)) c.link_one-i.new.words c.link_one-i.result c.link_one-i.ensures
 
 pub returns : goal.returns
-returns c = walk-done c.loop-j.invariant (λ l. absurd (omega (arith, c.loop-j-test.false)))
+returns c = walk-all c.loop-j.invariant c.loop-j-test.false

@@ -7,6 +7,3 @@ use Rattle.labelling.proofs.marked.count_passing.Given as goal
 
 abbrev pub invariant-loop-i : goal.invariant-loop-i
 invariant-loop-i l = (l.i ≤ 32) × (l.count ≤ l.i) × (l.count ≡ count_if (is_ink (passing l.test l.ink l.marks 32)) l.i)
-
-abbrev pub decreases-loop-i : goal.decreases-loop-i
-decreases-loop-i l = 32 - l.i
