@@ -2,7 +2,7 @@
 ghost use Rattle.labelling.specs.stages.Linking.{LinkRoom, LinkedRuns};
 
 use crate::link::{RunTable, link_row};
-use crate::runs::extract_row;
+use crate::runs::Row;
 
 // Writes the runs of a mask, w wide and h high, to the words and their parents to the words from `parents` on, and answers how many runs
 // there are. The caller says where the parents stand, so that the runs need not be counted first. Extracting a row may write the word
@@ -16,7 +16,11 @@ pub fn extract_linked(mask: &[u8], w: usize, h: usize, words: &mut [u32], parent
     let mut base = 0;
     for y in 0..h {
         let end = base + w;
-        let known = extract_row(&mask[base..end], base, words, 2 * here) / 2;
+        let row = Row {
+            dots: &mask[base..end],
+            base,
+        };
+        let known = row.extract(words, 2 * here) / 2;
         let list = RunTable {
             c: known,
             parents,

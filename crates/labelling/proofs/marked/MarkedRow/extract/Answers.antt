@@ -3,13 +3,13 @@ use Prim.Native.Nat.{◌+◌}
 use native.Mathlib.Nat.{le_refl}
 use lib.ListN.{length}
 use Rattle.labelling.proofs.MarkedLaws.{marked_start, marked-dots, marked-upto, marked-asks, marked-read, marked-blank, marked-fits-end, marked-ink}
-use Rattle.labelling.proofs.marked.extract_row.Goals as goal
+use Rattle.labelling.proofs.marked.MarkedRow.extract.Goals as goal
 
 pub loop-x-init : goal.loop-x-init
 loop-x-init c = marked_start c.requires
 
-pub overflow_sub-ink : goal.overflow_sub-ink
-overflow_sub-ink c = marked-upto c.loop-x.invariant
+pub overflow_sub-self : goal.overflow_sub-self
+overflow_sub-self c = marked-upto c.loop-x.invariant
 
 pub scan_chunk-k-requires : goal.scan_chunk-k-requires
 scan_chunk-k-requires c = marked-asks c.loop-x.invariant (c.loop-x.x + 32) (omega arith) (omega (arith, c.loop-x-test.true, marked-upto c.loop-x.invariant))
@@ -24,7 +24,7 @@ pub loop-x-preserved : goal.loop-x-preserved
 loop-x-preserved c = marked-read c.loop-x.invariant _ _ _ c.scan_chunk-k.ensures
 
 pub scan-k-requires : goal.scan-k-requires
-scan-k-requires c = marked-asks c.loop-x.invariant (length c.args.ink.now) (marked-upto c.loop-x.invariant) (le_refl _)
+scan-k-requires c = marked-asks c.loop-x.invariant (length c.args.self.ink.now) (marked-upto c.loop-x.invariant) (le_refl _)
 
 pub returns-then-k-eq0 : goal.returns-then-k-eq0
 returns-then-k-eq0 c = marked-blank (marked-read c.loop-x.invariant _ _ _ c.scan-k.ensures) (le_refl _) c.if-k-eq0.true
