@@ -1,7 +1,7 @@
 // Runs and their parents together, row by row: a row's runs are linked while they, and those of the row above, are still near at hand.
 ghost use Rattle.labelling.specs.stages.Linking.{LinkRoom, LinkedRuns};
 
-use crate::link::{RunTable, link_row};
+use crate::link::RunTable;
 use crate::runs::Row;
 
 // Writes the runs of a mask, w wide and h high, to the words and their parents to the words from `parents` on, and answers how many runs
@@ -26,7 +26,7 @@ pub fn extract_linked(mask: &[u8], w: usize, h: usize, words: &mut [u32], parent
             parents,
             w,
         };
-        let next = link_row(words, list, above, here, end);
+        let next = list.link_row(words, above, here, end);
         above = here;
         here = next;
         base = end;

@@ -13,10 +13,10 @@ pub overflow_mul-k : goal.overflow_mul-k
 overflow_mul-k c = omega (arith, c.loop-k.invariant.1, c.requires.1)
 
 pub loop-k-smaller : goal.loop-k-smaller
-loop-k-smaller c = omega (arith, before-end c.args.runs.now c.loop-k.k c.args.to c.args.start c.loop-k.invariant.1 (omega (arith, c.wide.ensures, c.loop-k-test.true)) c.requires.2)
+loop-k-smaller c = omega (arith, before-end c.args.runs.now c.loop-k.k c.args.to c.args.start c.loop-k.invariant.1 (omega (arith, c.loop-k-test.true)) c.requires.2)
 
 pub loop-k-preserved : goal.loop-k-preserved
-loop-k-preserved c = let l = before-end c.args.runs.now c.loop-k.k c.args.to c.args.start c.loop-k.invariant.1 (omega (arith, c.wide.ensures, c.loop-k-test.true)) c.requires.2 in (omega arith, l, range-more (λ a. end_of c.args.runs.now 0 a < c.args.start) c.args.i c.loop-k.k c.loop-k.invariant.2 (omega (arith, c.wide.ensures, c.loop-k-test.true)))
+loop-k-preserved c = let l = before-end c.args.runs.now c.loop-k.k c.args.to c.args.start c.loop-k.invariant.1 (omega (arith, c.loop-k-test.true)) c.requires.2 in (omega arith, l, range-more (λ a. end_of c.args.runs.now 0 a < c.args.start) c.args.i c.loop-k.k c.loop-k.invariant.2 (omega (arith, c.loop-k-test.true)))
 
 pub returns : goal.returns
-returns c = record { from = c.loop-k.invariant.0; upto = c.loop-k.invariant.1; left = c.loop-k.invariant.2; here = λ _. omega (arith, c.wide.ensures, c.loop-k-test.false) }
+returns c = record { from = c.loop-k.invariant.0; upto = c.loop-k.invariant.1; left = c.loop-k.invariant.2; here = λ _. omega (arith, c.loop-k-test.false) }

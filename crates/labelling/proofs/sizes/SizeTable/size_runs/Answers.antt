@@ -1,5 +1,5 @@
 use Rattle.labelling.proofs.RowSizeLaws.{plane-none, plane-row, plane-more, plane-done}
-use Rattle.labelling.proofs.sizes.size_runs.Goals as goal
+use Rattle.labelling.proofs.sizes.SizeTable.size_runs.Goals as goal
 
 pub loop-y-init : goal.loop-y-init
 loop-y-init c = plane-none c.requires
