@@ -25,7 +25,7 @@ use Rattle.labelling.specs.declared.marked.Test.TheVariants.{First, Second, Neit
 use Rattle.memory.proofs.PlaceLaws.{count-zero}
 use Rattle.labelling.proofs.ScanLaws.{turns_fit}
 use Rattle.labelling.proofs.RunLabelLaws.{turns-even}
-use Rattle.labelling.proofs.ExtractLaws.{byte-bit, byte-turn, ink-bit, turn-bit, ink-more, chunk-still, ScanSweep, sweep-none, sweep-room, sweep-more, sweep-done, scan-start, scan-asks, scan-blank, scan-room-end, scan-ink, PlaneScan, plane-none, plane-inside, plane-row, plane-more, plane-done}
+use Rattle.labelling.proofs.ExtractLaws.{byte-bit, byte-turn, turn-bit, ink-more, chunk-still, ScanSweep, sweep-none, sweep-room, sweep-more, sweep-done, scan-start, scan-asks, scan-blank, scan-room-end, scan-ink, PlaneScan, plane-none, plane-inside, plane-row, plane-more, plane-done}
 use Rattle.labelling.proofs.ToldLaws.{chunk_before, before-long, told-room, written-within, written-scanned}
 
 -- The mask, dot by dot

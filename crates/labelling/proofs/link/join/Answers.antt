@@ -1,6 +1,3 @@
-use native.Mathlib.Omega.{arith}
-use mathlib.Core.Path.{sym, ◌∙◌}
-use native.Mathlib.Nat.{le_trans}
 use Rattle.union_find.proofs.ParentLaws.{joined_same, joined-roots}
 use Rattle.labelling.proofs.link.join.Goals as goal
 

@@ -1,4 +1,3 @@
-use Prim.Native.Nat.{◌-◌}
 use Rattle.labelling.proofs.RunLinkLaws.{PlaneSweep}
 use Rattle.labelling.proofs.link.link_runs.Given as goal
 

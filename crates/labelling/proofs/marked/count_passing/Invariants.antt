@@ -1,5 +1,5 @@
 use mathlib.Core.Path.{◌≡◌}
-use Prim.Native.Nat.{◌-◌, ◌≤◌}
+use Prim.Native.Nat.{◌≤◌}
 use Rattle.memory.specs.rules.Lists.{count_if}
 use Rattle.memory.specs.rules.Masks.{is_ink}
 use Rattle.labelling.specs.stages.Marked.{passing}

@@ -1,4 +1,3 @@
-use Prim.Native.Nat.{◌-◌}
 use Rattle.labelling.proofs.MarkedLaws.{MarkedPlane}
 use Rattle.labelling.proofs.marked.extract_marked.Given as goal
 

@@ -1,4 +1,3 @@
-use Prim.Native.Nat.{◌-◌}
 use Rattle.labelling.proofs.NumberLaws.{NumberSweep}
 use Rattle.labelling.proofs.number.number_runs.Given as goal
 

@@ -1,11 +1,11 @@
 use native.Mathlib.Omega.{arith}
 use mathlib.Core.Path.{refl}
-use Prim.Native.Nat.{◌/◌, ◌*◌}
+use Prim.Native.Nat.{◌*◌}
 use native.Mathlib.Nat.{le_trans}
 use lib.ListN.{drop}
 use Rattle.memory.proofs.PartLaws.{tail-part}
 use Rattle.memory.proofs.StoredLaws.{stored-filled}
-use Rattle.labelling.proofs.RowPaintLaws.{plane-none, plane-fits, plane-read, plane-ahead, plane-more, plane-on, plane-done}
+use Rattle.labelling.proofs.RowPaintLaws.{plane-none, plane-fits, plane-ahead, plane-more, plane-on, plane-done}
 use Rattle.labelling.proofs.paint.paint_runs.Goals as goal
 
 pub loop-reached-init : goal.loop-reached-init

@@ -1,4 +1,3 @@
-use Prim.Native.Nat.{◌-◌}
 use Rattle.labelling.proofs.RowLinkLaws.{LinkSweep}
 use Rattle.labelling.proofs.row_by_row.extract_linked.Given as goal
 

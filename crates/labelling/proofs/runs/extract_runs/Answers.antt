@@ -1,15 +1,8 @@
-use native.Mathlib.Omega.{arith}
-use Rattle.labelling.proofs.ExtractLaws.{plane-none, plane-inside, plane-row, plane-more, plane-done}
+use Rattle.labelling.proofs.ExtractLaws.{plane-none, plane-row, plane-more, plane-done}
 use Rattle.labelling.proofs.runs.extract_runs.Goals as goal
 
 pub loop-y-init : goal.loop-y-init
 loop-y-init c = plane-none c.requires
-
-pub overflow_add-end : goal.overflow_add-end
-overflow_add-end c = let h = plane-inside c.loop-y.invariant c.loop-y-test.true in omega (arith, c.requires.dots, c.requires.whole)
-
-pub slice_bounds-row-end : goal.slice_bounds-row-end
-slice_bounds-row-end c = plane-inside c.loop-y.invariant c.loop-y-test.true
 
 pub extract-k-requires : goal.extract-k-requires
 extract-k-requires c = plane-row c.loop-y.invariant c.loop-y-test.true

@@ -1,4 +1,3 @@
-use Prim.Native.Nat.{◌-◌}
 use Rattle.labelling.proofs.ExtractLaws.{PlaneScan}
 use Rattle.labelling.proofs.runs.extract_runs.Given as goal
 

@@ -1,6 +1,6 @@
 use lib.ListN.{length}
 use mathlib.Core.Path.{◌≡◌}
-use Prim.Native.Nat.{◌-◌, ◌≤◌}
+use Prim.Native.Nat.{◌≤◌}
 use Rattle.memory.specs.rules.Lists.{count_if}
 use Rattle.memory.specs.rules.Masks.{is_ink}
 use Rattle.labelling.proofs.runs.ink_count.Given as goal

@@ -1,8 +1,6 @@
 use native.Mathlib.Omega.{arith}
 use mathlib.Core.Path.{refl}
-use Prim.Native.Nat.{◌+◌, ◌*◌}
-use lib.ListN.{get_or}
-use Rattle.labelling.proofs.SpanLaws.{place-ends, behind-long, behind-goes, span-room, first-place, first-span, next_place, next-span}
+use Rattle.labelling.proofs.SpanLaws.{place-ends, behind-goes, first-span, next_place, next-span}
 use Rattle.labelling.proofs.span.measure_span.Goals as goal
 
 pub loop-last-init : goal.loop-last-init

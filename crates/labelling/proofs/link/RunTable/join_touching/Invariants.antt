@@ -1,4 +1,3 @@
-use Prim.Native.Nat.{◌-◌}
 use Rattle.labelling.proofs.RunLinkLaws.{Sweep}
 use Rattle.labelling.proofs.link.RunTable.join_touching.Given as goal
 

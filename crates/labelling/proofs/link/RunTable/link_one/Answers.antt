@@ -1,7 +1,7 @@
 use native.Mathlib.Omega.{arith}
 use Prim.Native.Nat.{◌-◌, ◌*◌}
 use lib.ListN.{get_or}
-use Rattle.labelling.proofs.RunLinkLaws.{one_end, start-high, own-high, end-high, one-alone, one-joinable, one-linked}
+use Rattle.labelling.proofs.RunLinkLaws.{one_end, start-high, end-high, one-alone, one-joinable, one-linked}
 use Rattle.labelling.proofs.link.RunTable.link_one.Goals as goal
 
 pub returns-then-to-i : goal.returns-then-to-i

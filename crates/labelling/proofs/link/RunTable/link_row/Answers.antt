@@ -1,5 +1,5 @@
 use native.Mathlib.Omega.{arith}
-use Rattle.labelling.proofs.RunLinkLaws.{walk_none, walk-room, walk_start, walk-linkable, walk_more, walk-done, walk-all}
+use Rattle.labelling.proofs.RunLinkLaws.{walk_none, walk_start, walk-linkable, walk_more}
 use Rattle.labelling.proofs.link.RunTable.link_row.Goals as goal
 
 pub loop-j-init : goal.loop-j-init

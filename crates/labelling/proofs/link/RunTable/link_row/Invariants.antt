@@ -1,4 +1,3 @@
-use Prim.Native.Nat.{◌-◌}
 use Rattle.labelling.proofs.RunLinkLaws.{RowWalk}
 use Rattle.labelling.proofs.link.RunTable.link_row.Given as goal
 

@@ -2,7 +2,7 @@ use native.Mathlib.Omega.{arith}
 use Prim.Native.Nat.{◌+◌}
 use native.Mathlib.Nat.{le_refl}
 use lib.ListN.{length}
-use Rattle.labelling.proofs.MarkedLaws.{marked_start, marked-dots, marked-upto, marked-asks, marked-read, marked-blank, marked-fits-end, marked-ink}
+use Rattle.labelling.proofs.MarkedLaws.{marked_start, marked-upto, marked-asks, marked-read, marked-blank, marked-fits-end, marked-ink}
 use Rattle.labelling.proofs.marked.MarkedRow.extract.Goals as goal
 
 pub loop-x-init : goal.loop-x-init
@@ -14,35 +14,14 @@ overflow_sub-self c = marked-upto c.loop-x.invariant
 pub scan_chunk-k-requires : goal.scan_chunk-k-requires
 scan_chunk-k-requires c = marked-asks c.loop-x.invariant (c.loop-x.x + 32) (omega arith) (omega (arith, c.loop-x-test.true, marked-upto c.loop-x.invariant))
 
-pub overflow_add-x : goal.overflow_add-x
-overflow_add-x c = let u = marked-upto c.loop-x.invariant in omega (arith, c.loop-x-test.true)
-
-pub loop-x-smaller : goal.loop-x-smaller
-loop-x-smaller c = omega (arith, c.loop-x-test.true)
-
-pub loop-x-preserved : goal.loop-x-preserved
-loop-x-preserved c = marked-read c.loop-x.invariant _ _ _ c.scan_chunk-k.ensures
-
 pub scan-k-requires : goal.scan-k-requires
 scan-k-requires c = marked-asks c.loop-x.invariant (length c.args.self.ink.now) (marked-upto c.loop-x.invariant) (le_refl _)
 
 pub returns-then-k-eq0 : goal.returns-then-k-eq0
 returns-then-k-eq0 c = marked-blank (marked-read c.loop-x.invariant _ _ _ c.scan-k.ensures) (le_refl _) c.if-k-eq0.true
 
-pub overflow_add-words : goal.overflow_add-words
-overflow_add-words c = omega (arith, marked-dots c.requires)
-
-pub overflow_cast-words : goal.overflow_cast-words
-overflow_cast-words c = omega (arith, marked-dots c.requires)
-
-pub offset_bounds-words-k : goal.offset_bounds-words-k
-offset_bounds-words-k c = let h = marked-fits-end (marked-read c.loop-x.invariant _ _ _ c.scan-k.ensures) (le_refl _) c.if-k-eq0.false in let e = c.loop-x.invariant.len in let f = c.scan-k.ensures.len in omega (arith, c.well_formed)
-
 pub bounds-words-k : goal.bounds-words-k
 bounds-words-k c = marked-fits-end (marked-read c.loop-x.invariant _ _ _ c.scan-k.ensures) (le_refl _) c.if-k-eq0.false
-
-pub overflow_add-result : goal.overflow_add-result
-overflow_add-result c = let h = marked-fits-end (marked-read c.loop-x.invariant _ _ _ c.scan-k.ensures) (le_refl _) c.if-k-eq0.false in let e = c.loop-x.invariant.len in let f = c.scan-k.ensures.len in omega (arith, c.well_formed)
 
 pub returns : goal.returns
 returns c = marked-ink (marked-read c.loop-x.invariant _ _ _ c.scan-k.ensures) (le_refl _) c.if-k-eq0.false

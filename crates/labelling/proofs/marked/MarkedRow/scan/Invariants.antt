@@ -1,4 +1,3 @@
-use Prim.Native.Nat.{◌-◌}
 use Rattle.labelling.proofs.MarkedLaws.{MarkedSweep}
 use Rattle.labelling.proofs.marked.MarkedRow.scan.Given as goal
 

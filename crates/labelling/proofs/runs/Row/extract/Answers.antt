@@ -11,29 +11,14 @@ loop-x-init c = scan-start c.requires
 pub scan_four_chunks-k-requires : goal.scan_four_chunks-k-requires
 scan_four_chunks-k-requires c = scan-asks c.loop-x.invariant (c.loop-x.x + 128) (omega arith) (omega (arith, c.loop-x-test.true, c.loop-x.invariant.upto))
 
-pub loop-x-preserved : goal.loop-x-preserved
-loop-x-preserved c = c.scan_four_chunks-k.ensures.read c.args.words.now c.args.at c.loop-x.invariant
-
 pub scan_chunks-k-requires : goal.scan_chunks-k-requires
 scan_chunks-k-requires c = scan-asks c.loop-x.invariant (length c.args.self.dots.now) c.loop-x.invariant.upto (le_refl _)
 
 pub returns-then-k-eq0 : goal.returns-then-k-eq0
 returns-then-k-eq0 c = scan-blank (c.scan_chunks-k.ensures.read c.args.words.now c.args.at c.loop-x.invariant) (le_refl _) c.if-k-eq0.true
 
-pub overflow_add-words : goal.overflow_add-words
-overflow_add-words c = omega (arith, c.requires.dots)
-
-pub overflow_cast-words : goal.overflow_cast-words
-overflow_cast-words c = omega (arith, c.requires.dots)
-
-pub offset_bounds-words-k : goal.offset_bounds-words-k
-offset_bounds-words-k c = let h = scan-room-end (c.scan_chunks-k.ensures.read c.args.words.now c.args.at c.loop-x.invariant) (le_refl _) c.if-k-eq0.false in let e = c.loop-x.invariant.len in let f = c.scan_chunks-k.ensures.len in omega (arith, c.well_formed)
-
 pub bounds-words-k : goal.bounds-words-k
 bounds-words-k c = scan-room-end (c.scan_chunks-k.ensures.read c.args.words.now c.args.at c.loop-x.invariant) (le_refl _) c.if-k-eq0.false
-
-pub overflow_add-result : goal.overflow_add-result
-overflow_add-result c = let h = scan-room-end (c.scan_chunks-k.ensures.read c.args.words.now c.args.at c.loop-x.invariant) (le_refl _) c.if-k-eq0.false in let e = c.loop-x.invariant.len in let f = c.scan_chunks-k.ensures.len in omega (arith, c.well_formed)
 
 pub returns : goal.returns
 returns c = scan-ink (c.scan_chunks-k.ensures.read c.args.words.now c.args.at c.loop-x.invariant) (le_refl _) c.if-k-eq0.false

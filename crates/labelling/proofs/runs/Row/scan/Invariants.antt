@@ -1,4 +1,3 @@
-use Prim.Native.Nat.{◌-◌}
 use Rattle.labelling.proofs.ExtractLaws.{ScanSweep}
 use Rattle.labelling.proofs.runs.Row.scan.Given as goal
 

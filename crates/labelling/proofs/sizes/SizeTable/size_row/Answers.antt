@@ -1,6 +1,5 @@
 use mathlib.Core.Path.{refl}
-use native.Mathlib.Omega.{arith}
-use Rattle.labelling.proofs.RowSizeLaws.{row-none, row_room, row_words, row-long, row_done, row-start, row-span, row-asks, row_more}
+use Rattle.labelling.proofs.RowSizeLaws.{row-start, row-span, row-asks, row_more}
 use Rattle.labelling.proofs.sizes.SizeTable.size_row.Goals as goal
 
 pub measure_span-span-requires : goal.measure_span-span-requires

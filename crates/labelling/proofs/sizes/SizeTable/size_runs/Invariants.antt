@@ -1,4 +1,3 @@
-use Prim.Native.Nat.{◌-◌}
 use Rattle.labelling.proofs.RowSizeLaws.{PlaneSweep}
 use Rattle.labelling.proofs.sizes.SizeTable.size_runs.Given as goal
 

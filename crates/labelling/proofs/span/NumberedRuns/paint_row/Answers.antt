@@ -1,6 +1,5 @@
 use mathlib.Core.Path.{refl}
-use native.Mathlib.Omega.{arith}
-use Rattle.labelling.proofs.RowPaintLaws.{row-none, row_room, row_done, row-start, row-span, row-asks, row_more}
+use Rattle.labelling.proofs.RowPaintLaws.{row-span, row-asks, row_more}
 use Rattle.labelling.proofs.span.NumberedRuns.paint_row.Goals as goal
 
 pub paint_span-span-requires : goal.paint_span-span-requires

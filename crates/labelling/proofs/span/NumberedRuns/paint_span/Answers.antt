@@ -2,7 +2,7 @@ use native.Mathlib.Omega.{arith}
 use mathlib.Core.Path.{refl}
 use lib.ListN.{get_or}
 use Rattle.labelling.proofs.SpanLaws.{place-columns, place-ends, place-dots}
-use Rattle.labelling.proofs.RowPaintLaws.{paints-then, paints-room, first-here, first-sum, first-asks, first-painted, next_here, next-sum, next-asks, next-painted}
+use Rattle.labelling.proofs.RowPaintLaws.{paints-then, paints-room, first-sum, first-asks, first-painted, next_here, next-sum, next-asks, next-painted}
 use Rattle.labelling.proofs.span.NumberedRuns.paint_span.Goals as goal
 
 pub paint_run-clear-requires : goal.paint_run-clear-requires
