@@ -47,8 +47,8 @@ fn count_passing(test: Test, ink: &[u8], marks: &[u32]) -> u8
     ensures { result ≡ count_if (is_ink (passing test ink.now marks.now 32)) 32 }
 {
     let mut count = 0;
-    for i in 0..CHUNK {
-        count += passes(test, ink[i], marks[i]);
+    for (byte, mark) in ink.iter().zip(marks) {
+        count += passes(test, *byte, *mark);
     }
     count
 }
