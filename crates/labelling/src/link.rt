@@ -22,7 +22,7 @@ pub struct RunTable {
 }
 
 // The first run, from i on, that does not end left of the dot `start`, which is a run's first dot, moved up one row. It is run `to` at the
-// latest, the first of that run's own row, so that no bound is looked at.
+// latest, the first of that run's own row, so that no bound is looked at, as a `for` or `find` would.
 fn skip_left(runs: &[u32], i: usize, to: usize, start: usize) -> usize
     requires { (i ≤ to) × (2 * to + 1 < length runs.now) × (start ≤ end_of runs.now 0 to) }
     ensures { Skipped i to start runs.now result }
@@ -49,7 +49,14 @@ fn join(parents: &mut [u32], member: usize, k: usize) -> usize
 impl RunTable {
     // Joins the runs from `first` up to `to`, in the row above, that run j touches, `first` among them; answers a run of their class. Run j
     // ends at the dot `end`, moved up one row.
-    fn join_touching(self, words: &mut [u32], first: usize, to: usize, j: usize, end: usize) -> usize
+    fn join_touching(
+        self,
+        words: &mut [u32],
+        first: usize,
+        to: usize,
+        j: usize,
+        end: usize,
+    ) -> usize
         requires { Joinable self.w self.c self.parents words.old first to j × (first < to) × (start_of (take (2 * self.c) words.old) first ≤ end) × (end + self.w ≡ end_of (take (2 * self.c) words.old) 0 j) }
         ensures { Parented self.w self.c self.parents words.old words.new j result }
     {
@@ -138,11 +145,7 @@ pub fn link_runs(words: &mut [u32], c: usize, w: usize, h: usize)
     ensures { AllLinked w c words.old words.new }
 {
     let parents = 2 * c;
-    let list = RunTable {
-        c,
-        parents,
-        w,
-    };
+    let list = RunTable { c, parents, w };
     let mut above = 0;
     let mut here = 0;
     let mut base = 0;

@@ -7,10 +7,7 @@ ghost use Rattle.memory.specs.rules.Masks.{is_ink};
 ghost use Rattle.labelling.specs.stages.Extraction.{TurnsTold};
 ghost use Rattle.labelling.specs.stages.Marked.{passes, passing, MarkedScanRoom, MarkedScanned, MarkedRowRoom, MarkedRowLeft, MarkedRoom, MarkedLeft};
 
-use crate::runs::{ink_count, write_turns};
-
-// The dots of a chunk, which are counted at once.
-const CHUNK: usize = 32;
+use crate::runs::{CHUNK, ink_count, write_turns};
 
 // Which dots count: ink whose mark has its first bit, its second bit, or none.
 #[derive(Clone, Copy, Debug, PartialEq, Eq)]
@@ -22,7 +19,7 @@ pub enum Test {
 
 // A row's bytes of ink, the test of which dots count, the place of the row's first dot in the plane, and the word where the plane's
 // marks begin.
-#[derive(Clone, Copy)]
+#[derive(Clone, Copy, Debug, PartialEq, Eq)]
 struct MarkedRow<'a> {
     ink: &'a [u8],
     test: Test,
@@ -90,6 +87,8 @@ fn tell_chunk(test: Test, ink: &[u8], marks: &[u32], told: &mut [u8; CHUNK])
     }
 }
 
+// Its scans are those of a `Row` but for the dots that they read. The marks stand in the words that a scan writes, so that a trait for both
+// would hand the words to each read of a dot, and be no plainer.
 impl MarkedRow<'_> {
     // Writes the turns among the dots `from` up to `to` of the row to the words from `at` on, and answers where they end. An odd place
     // is that of a run's end: there the last dot passed. A word is stored at every dot and counts only at a turn.
@@ -142,6 +141,7 @@ impl MarkedRow<'_> {
     {
         let mut k = at;
         let mut x = 0;
+        // `for x in (..).step_by(CHUNK)` proves too, but blank rows took a tenth longer.
         while CHUNK <= self.ink.len() - x {
             k = self.scan_chunk(x, words, k);
             x += CHUNK;

@@ -88,7 +88,13 @@ impl NumberedRuns<'_> {
     }
 
     // Paints the runs of row y and writes the records of their components, from where painting has come.
-    fn paint_row(self, y: usize, from: Progress, labels: &mut [u32], components: &mut [u32]) -> Progress
+    fn paint_row(
+        self,
+        y: usize,
+        from: Progress,
+        labels: &mut [u32],
+        components: &mut [u32],
+    ) -> Progress
         requires { (2 * self.c ≤ length self.runs.now) × RowPaintable self.w self.c (numbered self.c self.runs.now self.numbers.now) labels.old components.old y from.next from.count from.clear }
         ensures { RowPainted self.entry.w self.entry.c (numbered self.entry.c self.entry.runs.now self.entry.numbers.now) labels.old labels.new components.old components.new y from.next from.count from.clear result.next result.count result.clear }
     {

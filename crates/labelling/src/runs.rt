@@ -6,13 +6,13 @@ ghost use Rattle.memory.specs.rules.Masks.{is_ink};
 ghost use Rattle.labelling.specs.stages.Extraction.{ScanRoom, Scanned, TurnsTold, ToldRoom, ToldWritten, RowRoom, RowExtracted, PlaneRoom, Extracted};
 
 // The dots of a chunk, which are counted at once.
-const CHUNK: usize = 32;
+pub const CHUNK: usize = 32;
 
 // The dots of four chunks, which are counted at once before each chunk is.
 const FOUR_CHUNKS: usize = 128;
 
 // A row of dots; `base` is the place of its first dot in the plane.
-#[derive(Clone, Copy)]
+#[derive(Clone, Copy, Debug, PartialEq, Eq)]
 pub struct Row<'a> {
     pub dots: &'a [u8],
     pub base: usize,
@@ -117,6 +117,7 @@ impl Row<'_> {
         let n = self.dots.len().min(CHUNK);
         let mut k = at;
         let mut x = from;
+        // `for x in (..).step_by(CHUNK)` proves too, but extraction of crowded pages took a twentieth longer.
         while CHUNK <= to - x {
             k = self.scan_chunk(x, n, words, k);
             x += CHUNK;
@@ -143,6 +144,7 @@ impl Row<'_> {
     {
         let mut k = at;
         let mut x = 0;
+        // `for x in (..).step_by(FOUR_CHUNKS)` proves too, but extraction of crowded pages took a twentieth longer.
         while FOUR_CHUNKS <= self.dots.len() - x {
             k = self.scan_four_chunks(x, words, k);
             x += FOUR_CHUNKS;

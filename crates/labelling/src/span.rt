@@ -32,7 +32,7 @@ pub struct Reached {
 }
 
 // So many runs, in rows of w dots, and their numbers.
-#[derive(Clone, Copy)]
+#[derive(Clone, Copy, Debug, PartialEq, Eq)]
 pub struct NumberedRuns<'a> {
     pub runs: &'a [u32],
     pub numbers: &'a [u32],
