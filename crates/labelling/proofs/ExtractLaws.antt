@@ -1,9 +1,10 @@
 -- Turns written row by row: the turns of a row are those of the mask, counted from the row's first dot.
 use mathlib.Core.Path.{◌≡◌, refl, sym, ap, ◌∙◌, subst}
 use mathlib.Core.List.{List, [], ◌∷◌, ◌++◌, map, append_assoc, append-nil}
-use mathlib.Core.Bool.{Bool, true, false, cond, ◌&&◌}
+use mathlib.Core.Bool.{Bool, true, false, cond, ◌&&◌, not}
 use Prim.Native.Nat.{ℕ, zero, suc, ◌+◌, ◌-◌, ◌*◌, ◌/◌, ◌%◌, ◌≤◌, ◌<◌}
 use native.Mathlib.Nat.{le_refl, not-suc-le-zero, suc-mul, mul_comm, mod-eq_of_lt, mod_self, mul-mod_left, mul-add-mod_self_right, mul-le-mul_right, mul_left_comm, mul-one, mul-zero}
+use mir.Val.{bool_byte}
 use native.Mathlib.Numerals.{add-one}
 use native.Mathlib.Decide.{ℕ_discrete}
 use native.Mathlib.Omega.{arith}
@@ -79,6 +80,24 @@ ink-bit m x = go (ℕ_discrete (get_or m x 0) 0)
 pub turn_small : (t : Bool) → cond t 0 1 ≤ 1
 turn_small true = omega arith
 turn_small false = omega arith
+
+-- a test's answer as a byte
+
+pub byte-bit : (b : Bool) → bool_byte b ≡ cond b 1 0
+byte-bit true = refl
+byte-bit false = refl
+
+pub byte-turn : (b : Bool) → bool_byte (not b) ≡ cond b 0 1
+byte-turn true = refl
+byte-turn false = refl
+
+pub byte_small : (b : Bool) → bool_byte b ≤ 1
+byte_small true = omega arith
+byte_small false = omega arith
+
+pub byte-ink : (m : List ℕ) (x : ℕ) → bool_byte (ltb 0 (get_or m x 0)) ≡ cond (eqb (get_or m x 0) 0) 0 1
+unfolding is_ink
+byte-ink m x = byte-bit (ltb 0 (get_or m x 0)) ∙ sym (ink-bit m x)
 
 pub turn-bit : (p q : Bool) → cond (eqb (bit p) (bit q)) 0 1 ≡ bit (differ p q)
 unfolding differ
@@ -231,6 +250,9 @@ ink-none m = refl
 pub ink-more : (m : List ℕ) (i count b : ℕ) → count ≡ count_if (is_ink m) i → b ≡ cond (eqb (get_or m i 0) 0) 0 1 → count + b ≡ count_if (is_ink m) (i + 1)
 unfolding count_if
 ink-more m i count b e h = ap (λ z. z + b) e ∙ (ap (λ z. count_if (is_ink m) i + z) (h ∙ ink-bit m i) ∙ ap (count_if (is_ink m)) (sym (add-one i)))
+
+pub byte_more : (m : List ℕ) (i count : ℕ) → count ≡ count_if (is_ink m) i → count + bool_byte (ltb 0 (get_or m i 0)) ≡ count_if (is_ink m) (i + 1)
+byte_more m i count e = ink-more m i count _ e (byte-ink m i)
 
 pub ink-of-part : (row : List ℕ) (x d i : ℕ) → i < d → is_ink (take d (drop x row)) i ≡ is_ink row (x + i)
 unfolding is_ink

@@ -25,7 +25,7 @@ use Rattle.labelling.specs.declared.marked.Test.TheVariants.{First, Second, Neit
 use Rattle.memory.proofs.PlaceLaws.{count-zero}
 use Rattle.labelling.proofs.ScanLaws.{turns_fit}
 use Rattle.labelling.proofs.RunLabelLaws.{turns-even}
-use Rattle.labelling.proofs.ExtractLaws.{ink-bit, turn-bit, ink-more, chunk-still, ScanSweep, sweep-none, sweep-room, sweep-more, sweep-done, scan-start, scan-asks, scan-blank, scan-room-end, scan-ink, PlaneScan, plane-none, plane-inside, plane-row, plane-more, plane-done}
+use Rattle.labelling.proofs.ExtractLaws.{byte-bit, byte-turn, turn-bit, ink-more, chunk-still, ScanSweep, sweep-none, sweep-room, sweep-more, sweep-done, scan-start, scan-asks, scan-blank, scan-room-end, scan-ink, PlaneScan, plane-none, plane-inside, plane-row, plane-more, plane-done}
 use Rattle.labelling.proofs.ToldLaws.{chunk_before, before-long, told-room, written-within, written-scanned}
 
 -- The mask, dot by dot
@@ -71,30 +71,14 @@ bit-again false = refl
 
 -- a test's answer as a byte
 
-pub byte-bit : (b : Bool) → bool_byte b ≡ cond b 1 0
-byte-bit true = refl
-byte-bit false = refl
-
-pub byte-turn : (b : Bool) → bool_byte (not b) ≡ cond b 0 1
-byte-turn true = refl
-byte-turn false = refl
-
 pub bit-least : (b : Bool) → cond b 1 0 ≤ 1
 bit-least true = omega arith
 bit-least false = omega arith
-
-pub byte_small : (b : Bool) → bool_byte b ≤ 1
-byte_small true = omega arith
-byte_small false = omega arith
 
 pub passes-told : (t d : Test) (ink : Bool) (mark : ℕ) → t ≡ d → bool_byte (passes d ink mark) ≡ cond (passes t ink mark) 1 0
 passes-told t d ink mark e = subst (λ z. bool_byte (passes d ink mark) ≡ cond (passes z ink mark) 1 0) (sym e) (byte-bit (passes d ink mark))
 
 -- Counts of a chunk
-
-pub byte_more : (m : List ℕ) (i count : ℕ) → count ≡ count_if (is_ink m) i → count + bool_byte (ltb 0 (get_or m i 0)) ≡ count_if (is_ink m) (i + 1)
-unfolding is_ink
-byte_more m i count e = ink-more m i count _ e (byte-bit (ltb 0 (get_or m i 0)) ∙ sym (ink-bit m i))
 
 pub passing-more : (t : Test) (ink marks : List ℕ) (n i count here : ℕ) → i < n → count ≡ count_if (is_ink (passing t ink marks n)) i
     → here ≡ cond (passes t (is_ink ink i) (get_or marks i 0)) 1 0 → count + here ≡ count_if (is_ink (passing t ink marks n)) (i + 1)

@@ -487,6 +487,9 @@ module _ {w c q limit : ℕ} {s₀ s : List ℕ} {above here i j : ℕ} (S : Row
   pub walk-done : (j < c → limit ≤ start_of s₀ j) → RowLinked w c q limit s₀ s here j
   walk-done past = record { row = record { from = S.sweep.from; upto = S.upto; inside = S.within; past = past }; linked = row_done S.sweep (le_refl j) }
 
+  pub walk-all : c ≤ j → RowLinked w c q limit s₀ s here c
+  walk-all all = subst (RowLinked w c q limit s₀ s here) (let e : j ≡ c = omega (arith, S.upto) in e) (walk-done (λ l. absurd (omega (arith, all, l))))
+
 -- All rows: those before row y are linked, which starts at dot `base`
 
 pub row-at : (w base y s : ℕ) → 0 < w → base ≡ y * w → base ≤ s → s < base + w → s / w ≡ y

@@ -4,9 +4,9 @@ ghost use Rattle.memory.specs.rules.Limits.{max_mask_side, max_mask_dots};
 ghost use Rattle.labelling.specs.rules.Components.{no_dots, absorbed, box_of};
 ghost use Rattle.labelling.specs.stages.Absorbing.{absorbed_span};
 
-use memory::{Rect, max_u32, min_u32};
+use memory::Rect;
 
-#[derive(Clone, Copy)]
+#[derive(Clone, Copy, Debug, PartialEq, Eq)]
 pub struct Component {
     pub area: u32,
     pub x0: u32,
@@ -24,8 +24,8 @@ impl Component {
     {
         Component {
             area: 0,
-            x0: 4294967295,
-            y0: 4294967295,
+            x0: u32::MAX,
+            y0: u32::MAX,
             x1: 0,
             y1: 0,
             sum_x: 0,
@@ -42,12 +42,12 @@ impl Component {
     {
         Component {
             area: self.area + 1,
-            x0: min_u32(self.x0, x),
-            y0: min_u32(self.y0, y),
-            x1: max_u32(self.x1, x),
-            y1: max_u32(self.y1, y),
-            sum_x: self.sum_x + (x as u64),
-            sum_y: self.sum_y + (y as u64),
+            x0: self.x0.min(x),
+            y0: self.y0.min(y),
+            x1: self.x1.max(x),
+            y1: self.y1.max(y),
+            sum_x: self.sum_x + u64::from(x),
+            sum_y: self.sum_y + u64::from(y),
         }
     }
 
@@ -60,12 +60,9 @@ impl Component {
         let ends = self.absorb(x, y).absorb(last, y);
         Component {
             area: self.area + dots,
-            x0: ends.x0,
-            y0: ends.y0,
-            x1: ends.x1,
-            y1: ends.y1,
             sum_x: self.sum_x + sum,
-            sum_y: self.sum_y + (dots as u64) * (y as u64),
+            sum_y: self.sum_y + u64::from(dots) * u64::from(y),
+            ..ends
         }
     }
 

@@ -3,14 +3,12 @@ ghost use Rattle.std.specs.Prelude.{◌≡◌, ℕ, ◌+◌, ◌≤◌, ◌<◌,
 ghost use Rattle.memory.specs.rules.Limits.{max_capacity};
 ghost use Rattle.labelling.specs.stages.Numbering.{NumberedOne, Numbered};
 
-use memory::wide;
-
 // Run k gets its number, the runs before it having theirs: a root the next after `count`, else its parent's. Answers the count then.
 fn number_one(parents: &mut [u32], k: usize, count: usize) -> usize
     requires { (k < length parents.old) × (get_or parents.old k 0 ≤ k) × (count < 4294967295) }
     ensures { NumberedOne parents.old parents.new k count result }
 {
-    let parent = wide(parents[k]);
+    let parent = parents[k] as usize;
     if parent == k {
         parents[k] = (count + 1) as u32;
         return count + 1;
@@ -24,14 +22,12 @@ pub fn number_runs(parents: &mut [u32], c: usize, capacity: usize) -> usize
     requires { (c ≤ length parents.old) × (capacity ≤ max_capacity) × ((j : ℕ) → j < c → get_or parents.old j 0 ≤ j) }
     ensures { Numbered c capacity parents.old parents.new result }
 {
-    let mut k = 0;
     let mut count = 0;
-    while k < c {
+    for k in 0..c {
         count = number_one(parents, k, count);
         if capacity < count {
             return count;
         }
-        k += 1;
     }
     count
 }

@@ -6,22 +6,15 @@ ghost use Rattle.memory.specs.rules.Words.{over};
 ghost use Rattle.labelling.specs.stages.Painting.{numbered, Cleared, RunPainted, Paintable, Painted, SpanPaintable, SpanPainted, RowPaintable, RowPainted};
 ghost use Rattle.labelling.specs.stages.Tallying.{Tallyable, records};
 
-use crate::span::{Span, column_sum, goes_on};
+use crate::span::{NumberedRuns, Span, column_sum};
 use crate::tally::tally_span;
-use memory::{fill_words, min_usize, wide};
+use memory::fill_words;
 
 // How many labels past a run are cleared with it: about what waits to be written while the work goes on.
 const AHEAD: usize = 128;
 
-// So many runs, in rows of w dots.
-#[derive(Clone, Copy)]
-pub struct RunRows {
-    pub c: usize,
-    pub w: usize,
-}
-
 // How far painting has come: the next run, how many components it has met, and up to where the labels are cleared.
-#[derive(Clone, Copy)]
+#[derive(Clone, Copy, Debug, PartialEq, Eq)]
 pub struct Progress {
     pub next: usize,
     pub count: usize,
@@ -36,7 +29,7 @@ fn clear_to(labels: &mut [u32], clear: usize, end: usize, limit: usize) -> usize
     if end <= clear {
         return clear;
     }
-    let to = min_usize(end + AHEAD, limit);
+    let to = (end + AHEAD).min(limit);
     fill_words(&mut labels[clear..to], 0);
     to
 }
@@ -61,83 +54,75 @@ fn paint_run(
     clear
 }
 
-// Paints the runs from `first` on that have its number and lie in its row, which starts at dot `base`.
-fn paint_span(
-    runs: &[u32],
-    numbers: &[u32],
-    rows: RunRows,
-    base: usize,
-    first: usize,
-    cleared: usize,
-    labels: &mut [u32],
-) -> Span
-    requires { (2 * rows.c ≤ length runs.now) × SpanPaintable rows.w rows.c (numbered rows.c runs.now numbers.now) labels.old base first cleared }
-    ensures { SpanPainted rows.w rows.c (numbered rows.c runs.now numbers.now) labels.old labels.new (base + rows.w) first cleared result.next result.clear result.last result.dots result.sum }
-{
-    let limit = base + rows.w;
-    let number = numbers[first];
-    let start = wide(runs[2 * first]);
-    let end = wide(runs[2 * first + 1]);
-    let mut clear = paint_run(labels, cleared, start, end, limit, number);
-    let mut last = end - base - 1;
-    let mut dots = end - start;
-    let mut sum = column_sum(start - base, last, dots);
-    let mut k = first + 1;
-    while goes_on(runs, numbers, rows.c, k, number, limit) {
-        let from = wide(runs[2 * k]);
-        let to = wide(runs[2 * k + 1]);
-        clear = paint_run(labels, clear, from, to, limit, number);
-        last = to - base - 1;
-        sum += column_sum(from - base, last, to - from);
-        dots += to - from;
-        k += 1;
-    }
-    Span {
-        next: k,
-        last: last,
-        dots: dots,
-        sum: sum,
-        clear: clear,
-    }
-}
-
-// Paints the runs of row y and writes the records of their components, from where painting has come.
-fn paint_row(
-    runs: &[u32],
-    numbers: &[u32],
-    rows: RunRows,
-    y: usize,
-    from: Progress,
-    labels: &mut [u32],
-    components: &mut [u32],
-) -> Progress
-    requires { (2 * rows.c ≤ length runs.now) × RowPaintable rows.w rows.c (numbered rows.c runs.now numbers.now) labels.old components.old y from.next from.count from.clear }
-    ensures { RowPainted rows.w rows.c (numbered rows.c runs.now numbers.now) labels.old labels.new components.old components.new y from.next from.count from.clear result.next result.count result.clear }
-{
-    let base = y * rows.w;
-    let limit = base + rows.w;
-    let mut count = from.count;
-    let mut clear = from.clear;
-    let mut k = from.next;
-    while k < rows.c {
-        let start = wide(runs[2 * k]);
-        if limit <= start {
-            return Progress {
-                next: k,
-                count: count,
-                clear: clear,
-            };
+impl NumberedRuns<'_> {
+    // Paints the runs from `first` on that have its number and lie in its row, which starts at dot `base`.
+    fn paint_span(self, base: usize, first: usize, cleared: usize, labels: &mut [u32]) -> Span
+        requires { (2 * self.c ≤ length self.runs.now) × SpanPaintable self.w self.c (numbered self.c self.runs.now self.numbers.now) labels.old base first cleared }
+        ensures { SpanPainted self.entry.w self.entry.c (numbered self.entry.c self.entry.runs.now self.entry.numbers.now) labels.old labels.new (base + self.entry.w) first cleared result.next result.clear result.last result.dots result.sum }
+    {
+        let limit = base + self.w;
+        let number = self.numbers[first];
+        let start = self.runs[2 * first] as usize;
+        let end = self.runs[2 * first + 1] as usize;
+        let mut clear = paint_run(labels, cleared, start, end, limit, number);
+        let mut last = end - base - 1;
+        let mut dots = end - start;
+        let mut sum = column_sum(start - base, last, dots);
+        let mut k = first + 1;
+        while self.goes_on(k, number, limit) {
+            let from = self.runs[2 * k] as usize;
+            let to = self.runs[2 * k + 1] as usize;
+            clear = paint_run(labels, clear, from, to, limit, number);
+            last = to - base - 1;
+            sum += column_sum(from - base, last, to - from);
+            dots += to - from;
+            k += 1;
         }
-        let number = wide(numbers[k]);
-        let span = paint_span(runs, numbers, rows, base, k, clear, labels);
-        clear = span.clear;
-        k = span.next;
-        count = tally_span(components, number, count, start - base, span, y);
+        Span {
+            next: k,
+            last,
+            dots,
+            sum,
+            clear,
+        }
     }
-    Progress {
-        next: k,
-        count: count,
-        clear: clear,
+
+    // Paints the runs of row y and writes the records of their components, from where painting has come.
+    fn paint_row(
+        self,
+        y: usize,
+        from: Progress,
+        labels: &mut [u32],
+        components: &mut [u32],
+    ) -> Progress
+        requires { (2 * self.c ≤ length self.runs.now) × RowPaintable self.w self.c (numbered self.c self.runs.now self.numbers.now) labels.old components.old y from.next from.count from.clear }
+        ensures { RowPainted self.entry.w self.entry.c (numbered self.entry.c self.entry.runs.now self.entry.numbers.now) labels.old labels.new components.old components.new y from.next from.count from.clear result.next result.count result.clear }
+    {
+        let base = y * self.w;
+        let limit = base + self.w;
+        let mut count = from.count;
+        let mut clear = from.clear;
+        let mut k = from.next;
+        while k < self.c {
+            let start = self.runs[2 * k] as usize;
+            if limit <= start {
+                return Progress {
+                    next: k,
+                    count,
+                    clear,
+                };
+            }
+            let number = self.numbers[k] as usize;
+            let span = self.paint_span(base, k, clear, labels);
+            clear = span.clear;
+            k = span.next;
+            count = tally_span(components, number, count, start - base, span, y);
+        }
+        Progress {
+            next: k,
+            count,
+            clear,
+        }
     }
 }
 
@@ -156,21 +141,20 @@ pub fn paint_runs(
     ensures { Painted (numbered c words.now (drop numbers words.now)) c labels.old labels.new (w * h) × (components.new ≡ over (records w c (numbered c words.now (drop numbers words.now)) c) components.old) }
 {
     let dots = w * h;
-    let rows = RunRows { c: c, w: w };
-    let mut count = 0;
-    let mut k = 0;
-    let mut clear = 0;
-    while k < c {
-        let y = wide(words[2 * k]) / w;
-        let from = Progress {
-            next: k,
-            count: count,
-            clear: clear,
-        };
-        let reached = paint_row(words, &words[numbers..], rows, y, from, labels, components);
-        count = reached.count;
-        k = reached.next;
-        clear = reached.clear;
+    let list = NumberedRuns {
+        runs: words,
+        numbers: &words[numbers..],
+        c,
+        w,
+    };
+    let mut reached = Progress {
+        next: 0,
+        count: 0,
+        clear: 0,
+    };
+    while reached.next < c {
+        let y = words[2 * reached.next] as usize / w;
+        reached = list.paint_row(y, reached, labels, components);
     }
-    fill_words(&mut labels[clear..dots], 0);
+    fill_words(&mut labels[reached.clear..dots], 0);
 }

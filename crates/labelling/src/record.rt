@@ -8,13 +8,6 @@ ghost use Rattle.labelling.specs.stages.Tallying.{Small};
 
 use crate::component::Component;
 
-// The same number, wider.
-fn wider(x: u32) -> u64
-    ensures { result ≡ x }
-{
-    x as u64
-}
-
 // Writes a component's record over nine words.
 pub fn encode(words: &mut [u32], c: Component)
     requires { length words.old ≡ component_words }
@@ -59,7 +52,7 @@ fn add_long(words: &mut [u32], i: usize, more: u64)
     ensures { words.new ≡ long_added words.old i more }
 {
     let high = i + 1;
-    let sum = wider(words[i]) + wider(words[high]) * 4294967296 + more;
+    let sum = u64::from(words[i]) + u64::from(words[high]) * 4294967296 + more;
     words[i] = (sum % 4294967296) as u32;
     words[high] = (sum / 4294967296) as u32;
 }
@@ -77,5 +70,5 @@ pub fn absorb_words(words: &mut [u32], x: u32, last: u32, dots: u32, sum: u64, y
     raise(words, 3, last);
     raise(words, 4, y);
     add_long(words, 5, sum);
-    add_long(words, 7, wider(dots) * wider(y));
+    add_long(words, 7, u64::from(dots) * u64::from(y));
 }

@@ -11,7 +11,6 @@ use crate::link::link_runs;
 use crate::number::number_runs;
 use crate::record::{lower, raise};
 use crate::span::{Extent, Reached, measure_span};
-use memory::{max_usize, wide};
 
 // Writes a component's area and box over five words.
 fn write_size(words: &mut [u32], c: Component)
@@ -55,56 +54,47 @@ fn size_span(words: &mut [u32], number: usize, count: usize, x: usize, span: Ext
     widen_size(&mut words[at..at + 5], x as u32, last, dots, y as u32);
 }
 
-// Writes the sizes of the components of row y's runs, from `first` on, to the words from `at` on; `before` components have one already.
-fn size_row(
-    words: &mut [u32],
+// Where sizes are written: c runs have their numbers behind them, in rows of w dots, and the sizes stand from the word `at` on.
+#[derive(Clone, Copy, Debug, PartialEq, Eq)]
+struct SizeTable {
     c: usize,
     w: usize,
-    y: usize,
-    first: usize,
-    before: usize,
     at: usize,
-) -> Reached
-    requires { (h : ℕ) × RowSizable w h c words.old at y first before }
-    ensures { RowSized w c words.old words.new at y first before result.next result.count }
-{
-    let base = y * w;
-    let limit = base + w;
-    let mut count = before;
-    let mut k = first;
-    while k < c {
-        let start = wide(words[2 * k]);
-        if limit <= start {
-            return Reached {
-                next: k,
-                count: count,
-            };
-        }
-        let number = wide(words[2 * c + k]);
-        let span = measure_span(&words[..], c, w, base, k);
-        k = span.next;
-        size_span(&mut words[at..], number, count, start - base, span, y);
-        count = max_usize(count, number);
-    }
-    Reached {
-        next: k,
-        count: count,
-    }
 }
 
-// Writes the sizes of the components of c runs, which have their numbers, to the words from `at` on; the plane is w wide and h high.
-fn size_runs(words: &mut [u32], c: usize, w: usize, h: usize, at: usize)
-    requires { Sizable w h c words.old at }
-    ensures { words.new ≡ take at words.old ++ over (sizes w c words.old c) (drop at words.old) }
-{
-    let mut count = 0;
-    let mut k = 0;
-    let mut y = 0;
-    while y < h {
-        let reached = size_row(words, c, w, y, k, count, at);
-        count = reached.count;
-        k = reached.next;
-        y += 1;
+impl SizeTable {
+    // Writes the sizes of the components of row y's runs, from where sizing has come.
+    fn size_row(self, words: &mut [u32], y: usize, from: Reached) -> Reached
+        requires { (h : ℕ) × RowSizable self.w h self.c words.old self.at y from.next from.count }
+        ensures { RowSized self.w self.c words.old words.new self.at y from.next from.count result.next result.count }
+    {
+        let base = y * self.w;
+        let limit = base + self.w;
+        let mut count = from.count;
+        let mut k = from.next;
+        while k < self.c {
+            let start = words[2 * k] as usize;
+            if limit <= start {
+                return Reached { next: k, count };
+            }
+            let number = words[2 * self.c + k] as usize;
+            let span = measure_span(words, self.c, self.w, base, k);
+            k = span.next;
+            size_span(&mut words[self.at..], number, count, start - base, span, y);
+            count = count.max(number);
+        }
+        Reached { next: k, count }
+    }
+
+    // Writes the sizes of the components of the runs of a plane, h high.
+    fn size_runs(self, words: &mut [u32], h: usize)
+        requires { Sizable self.w h self.c words.old self.at }
+        ensures { words.new ≡ take self.at words.old ++ over (sizes self.w self.c words.old self.c) (drop self.at words.old) }
+    {
+        let mut reached = Reached { next: 0, count: 0 };
+        for y in 0..h {
+            reached = self.size_row(words, y, reached);
+        }
     }
 }
 
@@ -137,6 +127,6 @@ pub fn label_sizes(
     if capacity < count {
         return count;
     }
-    size_runs(words, c, w, h, at);
+    SizeTable { c, w, at }.size_runs(words, h);
     count
 }

@@ -5,11 +5,9 @@ ghost use Rattle.memory.specs.rules.Limits.{max_mask_side};
 ghost use Rattle.labelling.specs.stages.Absorbing.{column_sum};
 ghost use Rattle.labelling.specs.stages.Spans.{SpanAhead, SpanOf};
 
-use memory::wide;
-
 // The run after it, the column of its last dot, its dots and the sum of their columns; and up to where the labels are cleared now that
 // it is painted.
-#[derive(Clone, Copy)]
+#[derive(Clone, Copy, Debug, PartialEq, Eq)]
 pub struct Span {
     pub next: usize,
     pub last: usize,
@@ -19,7 +17,7 @@ pub struct Span {
 }
 
 // The run after it, the column of its last dot and its dots.
-#[derive(Clone, Copy)]
+#[derive(Clone, Copy, Debug, PartialEq, Eq)]
 pub struct Extent {
     pub next: usize,
     pub last: usize,
@@ -27,24 +25,29 @@ pub struct Extent {
 }
 
 // How far a sweep over the runs has come: the next run, and how many components it has met.
-#[derive(Clone, Copy)]
+#[derive(Clone, Copy, Debug, PartialEq, Eq)]
 pub struct Reached {
     pub next: usize,
     pub count: usize,
 }
 
-// Whether run k, one of c, has this number and starts before dot `limit`.
-pub fn goes_on(runs: &[u32], numbers: &[u32], c: usize, k: usize, number: u32, limit: usize) -> bool
-    requires { (2 * c ≤ length runs.now) × (c ≤ length numbers.now) }
-    ensures { result ≡ true → (k < c) × (get_or numbers.now k 0 ≡ number) × (get_or runs.now (2 * k) 0 < limit) }
-{
-    if c <= k {
-        return false;
+// So many runs, in rows of w dots, and their numbers.
+#[derive(Clone, Copy, Debug, PartialEq, Eq)]
+pub struct NumberedRuns<'a> {
+    pub runs: &'a [u32],
+    pub numbers: &'a [u32],
+    pub c: usize,
+    pub w: usize,
+}
+
+impl NumberedRuns<'_> {
+    // Whether run k is there, has this number and starts before dot `limit`.
+    pub fn goes_on(self, k: usize, number: u32, limit: usize) -> bool
+        requires { (2 * self.c ≤ length self.runs.now) × (self.c ≤ length self.numbers.now) }
+        ensures { result ≡ true → (k < self.entry.c) × (get_or self.entry.numbers.now k 0 ≡ number) × (get_or self.entry.runs.now (2 * k) 0 < limit) }
+    {
+        k < self.c && self.numbers[k] == number && (self.runs[2 * k] as usize) < limit
     }
-    if numbers[k] != number {
-        return false;
-    }
-    wide(runs[2 * k]) < limit
 }
 
 // The sum of the columns from x to `last`, so many.
@@ -55,29 +58,35 @@ pub fn column_sum(x: usize, last: usize, dots: usize) -> usize
     dots * (x + last) / 2
 }
 
-// The span that starts with run `first`, in the row that starts at dot `base`.
-pub fn measure_span(runs: &[u32], c: usize, w: usize, base: usize, first: usize) -> Extent
-    requires { SpanAhead w c runs.now base first }
-    ensures { (sum : ℕ) × SpanOf w c (take (2 * c) runs.now) first result.next result.last result.dots sum }
+// The span that starts with run `first`, one of c, in the row that starts at dot `base`. The words hold the runs and behind them their numbers.
+pub fn measure_span(words: &[u32], c: usize, w: usize, base: usize, first: usize) -> Extent
+    requires { SpanAhead w c words.now base first }
+    ensures { (sum : ℕ) × SpanOf w c (take (2 * c) words.now) first result.next result.last result.dots sum }
 {
     let limit = base + w;
     let behind = 2 * c;
-    let number = runs[behind + first];
-    let start = wide(runs[2 * first]);
-    let end = wide(runs[2 * first + 1]);
+    let list = NumberedRuns {
+        runs: words,
+        numbers: &words[behind..],
+        c,
+        w,
+    };
+    let number = words[behind + first];
+    let start = words[2 * first] as usize;
+    let end = words[2 * first + 1] as usize;
     let mut last = end - base - 1;
     let mut dots = end - start;
     let mut k = first + 1;
-    while goes_on(runs, &runs[behind..], c, k, number, limit) {
-        let from = wide(runs[2 * k]);
-        let to = wide(runs[2 * k + 1]);
+    while list.goes_on(k, number, limit) {
+        let from = words[2 * k] as usize;
+        let to = words[2 * k + 1] as usize;
         last = to - base - 1;
         dots += to - from;
         k += 1;
     }
     Extent {
         next: k,
-        last: last,
-        dots: dots,
+        last,
+        dots,
     }
 }

@@ -1,21 +1,11 @@
-use native.Mathlib.Omega.{arith}
-use Rattle.labelling.proofs.RunLinkLaws.{known-all, plane-none, plane-ahead, plane-small, plane-more, plane-done}
+use Rattle.labelling.proofs.RunLinkLaws.{known-all, plane-none, plane-ahead, plane-more, plane-done}
 use Rattle.labelling.proofs.link.link_runs.Goals as goal
-
-pub overflow_mul-parents : goal.overflow_mul-parents
-overflow_mul-parents c = omega (arith, c.requires.0.few)
 
 pub loop-y-init : goal.loop-y-init
 loop-y-init c = plane-none _ _ _ _ _ (known-all c.requires.0) c.requires.1 c.requires.2
 
-pub overflow_add-base : goal.overflow_add-base
-overflow_add-base c = let h = plane-small c.loop-y.invariant in omega (arith, c.requires.0.narrow)
-
 pub link_row-next-requires : goal.link_row-next-requires
 link_row-next-requires c = plane-ahead c.loop-y.invariant
-
-pub overflow_add-base-in-loop-y : goal.overflow_add-base-in-loop-y
-overflow_add-base-in-loop-y c = let h = plane-small c.loop-y.invariant in omega (arith, c.requires.0.narrow)
 
 pub loop-y-preserved : goal.loop-y-preserved
 loop-y-preserved c = plane-more c.loop-y.invariant c.link_row-next.result c.link_row-next.ensures.row c.loop-y-test.true c.link_row-next.new.words c.link_row-next.ensures.linked

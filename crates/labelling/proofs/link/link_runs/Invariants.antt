@@ -1,9 +1,5 @@
-use Prim.Native.Nat.{◌-◌}
 use Rattle.labelling.proofs.RunLinkLaws.{PlaneSweep}
 use Rattle.labelling.proofs.link.link_runs.Given as goal
 
 abbrev pub invariant-loop-y : goal.invariant-loop-y
 invariant-loop-y l = PlaneSweep l.w l.c l.parents l.h l.initial.words l.words l.above l.here l.base l.y
-
-abbrev pub decreases-loop-y : goal.decreases-loop-y
-decreases-loop-y l = l.h - l.y

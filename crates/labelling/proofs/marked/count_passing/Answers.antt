@@ -1,32 +1,33 @@
+use borrow.Author.Rules.{rules}
 use native.Mathlib.Omega.{arith}
 use mathlib.Core.Path.{◌≡◌, ap, ◌∙◌}
-use lib.ListN.{get_or}
-use Rattle.memory.specs.rules.Lists.{count_if}
+use lib.ListN.{get_or, length}
+use Prim.Native.Nat.{◌+◌}
 use Rattle.memory.specs.rules.Masks.{is_ink}
 use lib.Dec.{ltb}
+use Rattle.std.proofs.lemmas.Slice.Zip.{zip_turn}
+use mathlib.Core.Bool.{cond}
+use mathlib.Core.List.{[], ◌∷◌, ◌++◌}
+use Rattle.memory.specs.rules.Lists.{count_if}
+use Rattle.std.proofs.lemmas.List.{length_push}
 use Rattle.labelling.specs.stages.Marked.{passes, passing}
 use Rattle.labelling.proofs.ExtractLaws.{ink-none}
 use Rattle.labelling.proofs.MarkedLaws.{bit-least, passing-more}
 use Rattle.labelling.proofs.marked.count_passing.Goals as goal
 
-pub loop-i-init : goal.loop-i-init
-loop-i-init c = (omega arith, omega arith, ink-none _)
+pub loop-byte-init : goal.loop-byte-init
+loop-byte-init c = (omega arith, ink-none _)
 
-pub bounds-ink-i : goal.bounds-ink-i
-bounds-ink-i c = omega (arith, c.requires.0, c.loop-i-test.true)
-
-pub offset_bounds-marks-i : goal.offset_bounds-marks-i
-offset_bounds-marks-i c = omega (arith, c.requires.1, c.loop-i-test.true)
-
-pub bounds-marks-i : goal.bounds-marks-i
-bounds-marks-i c = omega (arith, c.requires.1, c.loop-i-test.true)
-
-pub overflow_add-count : goal.overflow_add-count
-overflow_add-count c = let t = bit-least (passes c.args.test (ltb 0 (get_or c.args.ink.now c.loop-i.i 0)) (get_or c.args.marks.now c.loop-i.i 0)) in omega (arith, c.passes-count.ensures, c.loop-i-test.true)
-
-pub loop-i-preserved : goal.loop-i-preserved
+pub loop-byte-preserved : goal.loop-byte-preserved
 unfolding is_ink
-loop-i-preserved c = let t = bit-least (passes c.args.test (ltb 0 (get_or c.args.ink.now c.loop-i.i 0)) (get_or c.args.marks.now c.loop-i.i 0)) in (omega arith, omega (arith, c.passes-count.ensures), passing-more c.args.test c.args.ink.now c.args.marks.now 32 c.loop-i.i c.loop-i.count c.passes-count.result c.loop-i-test.true c.loop-i.invariant.2 c.passes-count.ensures)
-
-pub returns : goal.returns
-returns c = c.loop-i.invariant.2 ∙ ap (count_if (is_ink (passing c.args.test c.args.ink.now c.args.marks.now 32))) (let l = c.loop-i-test.false in let u = c.loop-i.invariant.0 in let e : c.loop-i.i ≡ 32 = omega arith in e)
+loop-byte-preserved c =
+    let t = zip_turn c.args.ink.now c.args.marks.now c.loop-byte.yielded _ c.loop-byte.byte-iterator c.next.new.self c.next.result (search rules) (search rules) c.loop-byte.yielded_by _ c.in-Some.is c.next.ensures.steps in
+    let n = length c.loop-byte.yielded in
+    let p : c.passes-count.result ≡ cond (passes c.args.test (ltb 0 (get_or c.args.ink.now n 0)) (get_or c.args.marks.now n 0)) 1 0 =
+    c.passes-count.ensures ∙ (λ i. cond (passes c.args.test (ltb 0 (t.2 0 i)) (t.3 0 i)) 1 0) in
+    let b = bit-least (passes c.args.test (ltb 0 (get_or c.args.ink.now n 0)) (get_or c.args.marks.now n 0)) in
+    let z = length_push c.loop-byte.yielded (c.in-Some.byte, c.in-Some.mark) in (
+      omega arith,
+      passing-more c.args.test c.args.ink.now c.args.marks.now 32 n c.loop-byte.count c.passes-count.result (omega (arith, t.0)) c.loop-byte.invariant.1 p
+          ∙ ap (count_if (is_ink (passing c.args.test c.args.ink.now c.args.marks.now 32))) (let e : n + 1 ≡ length (c.loop-byte.yielded ++ ((c.in-Some.byte, c.in-Some.mark) ∷ [])) = omega arith in e),
+    )

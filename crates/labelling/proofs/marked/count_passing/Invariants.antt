@@ -1,12 +1,10 @@
 use mathlib.Core.Path.{◌≡◌}
-use Prim.Native.Nat.{◌-◌, ◌≤◌}
+use Prim.Native.Nat.{◌≤◌}
+use lib.ListN.{length}
 use Rattle.memory.specs.rules.Lists.{count_if}
 use Rattle.memory.specs.rules.Masks.{is_ink}
 use Rattle.labelling.specs.stages.Marked.{passing}
 use Rattle.labelling.proofs.marked.count_passing.Given as goal
 
-abbrev pub invariant-loop-i : goal.invariant-loop-i
-invariant-loop-i l = (l.i ≤ 32) × (l.count ≤ l.i) × (l.count ≡ count_if (is_ink (passing l.test l.ink l.marks 32)) l.i)
-
-abbrev pub decreases-loop-i : goal.decreases-loop-i
-decreases-loop-i l = 32 - l.i
+abbrev pub invariant-loop-byte : goal.invariant-loop-byte
+invariant-loop-byte l = (l.count ≤ length l.yielded) × (l.count ≡ count_if (is_ink (passing l.test l.ink l.marks 32)) (length l.yielded))

@@ -1,5 +1,5 @@
 use mathlib.Core.Path.{◌≡◌}
-use Prim.Native.Nat.{◌-◌, ◌≤◌}
+use Prim.Native.Nat.{◌≤◌}
 use lib.ListN.{length}
 use Rattle.labelling.specs.stages.Extraction.{TurnsTold}
 use Rattle.labelling.specs.stages.Marked.{passing}
@@ -7,6 +7,3 @@ use Rattle.labelling.proofs.marked.tell_passing.Given as goal
 
 abbrev pub invariant-loop-i : goal.invariant-loop-i
 invariant-loop-i l = (l.i ≤ 32) × (length l.told ≡ 32) × TurnsTold (passing l.test l.ink l.marks 33) l.told l.i
-
-abbrev pub decreases-loop-i : goal.decreases-loop-i
-decreases-loop-i l = 32 - l.i

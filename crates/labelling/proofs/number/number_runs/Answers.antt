@@ -1,17 +1,11 @@
-use Rattle.labelling.proofs.NumberLaws.{number-none, number-asks, number_more, number-stop, number-done}
+use Rattle.labelling.proofs.NumberLaws.{number-none, number_more, number-stop}
 use Rattle.labelling.proofs.number.number_runs.Goals as goal
 
 pub loop-k-init : goal.loop-k-init
 loop-k-init c = number-none _ _ _ c.requires.0 c.requires.1 c.requires.2
-
-pub number_one-count-requires : goal.number_one-count-requires
-number_one-count-requires c = number-asks c.loop-k.invariant c.loop-k-test.true
 
 pub returns-then-capacity-count : goal.returns-then-capacity-count
 returns-then-capacity-count c = number-stop c.loop-k.invariant c.loop-k-test.true c.number_one-count.new.parents c.number_one-count.result c.number_one-count.ensures c.if-capacity-count.true
 
 pub loop-k-preserved : goal.loop-k-preserved
 loop-k-preserved c = number_more c.loop-k.invariant c.loop-k-test.true c.number_one-count.new.parents c.number_one-count.result c.number_one-count.ensures c.if-capacity-count.false
-
-pub returns : goal.returns
-returns c = number-done c.loop-k.invariant c.loop-k-test.false

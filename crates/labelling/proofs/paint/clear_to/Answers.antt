@@ -6,6 +6,6 @@ pub returns : goal.returns
 returns c =
     let a = c.args in
     let p = c.requires in
-    let e = c.min_usize-to.ensures in
+    let e = c.min-to.ensures in
     let l = c.if-end-clear.false in
-    record { from = omega arith; reach = omega arith; upto = omega arith; filled = stored-filled 0 a.clear c.min_usize-to.result a.labels.now c.fill_words.new.dst (omega arith) (omega arith) c.fill_words.ensures }
+    record { from = omega arith; reach = omega arith; upto = omega arith; filled = stored-filled 0 a.clear c.min-to.result a.labels.now c.fill_words.new.dst (omega arith) (omega arith) c.fill_words.ensures }

@@ -1,13 +1,6 @@
 use native.Mathlib.Omega.{arith}
-use lib.ListN.{length-set}
 use Rattle.labelling.proofs.PaintLaws.{stored-first}
 use Rattle.labelling.proofs.paint.paint_run.Goals as goal
-
-pub slice_bounds-fill_words-end : goal.slice_bounds-fill_words-end
-slice_bounds-fill_words-end c =
-    let p = c.requires in
-    let k = c.clear_to-clear.ensures.filled.within.len in
-    simp length-set (omega arith)
 
 pub returns : goal.returns
 returns c =

@@ -1,21 +1,14 @@
-use native.Mathlib.Omega.{arith}
-use Rattle.labelling.proofs.ExtractLaws.{plane-none, plane-inside, plane-row, plane-more, plane-done}
+use Rattle.labelling.proofs.ExtractLaws.{plane-none, plane-row, plane-more, plane-done}
 use Rattle.labelling.proofs.runs.extract_runs.Goals as goal
 
 pub loop-y-init : goal.loop-y-init
 loop-y-init c = plane-none c.requires
 
-pub overflow_add-end : goal.overflow_add-end
-overflow_add-end c = let h = plane-inside c.loop-y.invariant c.loop-y-test.true in omega (arith, c.requires.dots, c.requires.whole)
-
-pub slice_bounds-extract_row-end : goal.slice_bounds-extract_row-end
-slice_bounds-extract_row-end c = plane-inside c.loop-y.invariant c.loop-y-test.true
-
-pub extract_row-k-requires : goal.extract_row-k-requires
-extract_row-k-requires c = plane-row c.loop-y.invariant c.loop-y-test.true
+pub extract-k-requires : goal.extract-k-requires
+extract-k-requires c = plane-row c.loop-y.invariant c.loop-y-test.true
 
 pub loop-y-preserved : goal.loop-y-preserved
-loop-y-preserved c = plane-more c.loop-y.invariant c.loop-y-test.true _ _ c.extract_row-k.ensures
+loop-y-preserved c = plane-more c.loop-y.invariant c.loop-y-test.true _ _ c.extract-k.ensures
 
 pub returns : goal.returns
 returns c = plane-done c.loop-y.invariant c.loop-y-test.false

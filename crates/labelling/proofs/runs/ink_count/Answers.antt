@@ -1,23 +1,11 @@
 use native.Mathlib.Omega.{arith}
-use lib.ListN.{get_or, length}
-use lib.Dec.{eqb}
-use mathlib.Core.Path.{◌≡◌, ap, ◌∙◌}
-use Rattle.memory.specs.rules.Lists.{count_if}
-use Rattle.memory.specs.rules.Masks.{is_ink}
-use Rattle.labelling.proofs.ExtractLaws.{ink-none, ink-more, turn_small}
+use lib.ListN.{get_or}
+use lib.Dec.{ltb}
+use Rattle.labelling.proofs.ExtractLaws.{ink-none, byte_small, byte_more}
 use Rattle.labelling.proofs.runs.ink_count.Goals as goal
 
-pub loop-i-init : goal.loop-i-init
-loop-i-init c = (omega arith, omega arith, ink-none _)
+pub loop-byte-init : goal.loop-byte-init
+loop-byte-init c = (omega arith, omega arith, ink-none _)
 
-pub bounds-chunk-i : goal.bounds-chunk-i
-bounds-chunk-i c = omega (arith, c.requires, c.loop-i-test.true)
-
-pub overflow_add-count : goal.overflow_add-count
-overflow_add-count c = let t = turn_small (eqb (get_or c.args.chunk.now c.loop-i.i 0) 0) in omega (arith, c.ink_of-count.ensures)
-
-pub loop-i-preserved : goal.loop-i-preserved
-loop-i-preserved c = let t = turn_small (eqb (get_or c.args.chunk.now c.loop-i.i 0) 0) in (omega arith, omega (arith, c.ink_of-count.ensures), ink-more c.args.chunk.now c.loop-i.i c.loop-i.count c.ink_of-count.result c.loop-i.invariant.2 c.ink_of-count.ensures)
-
-pub returns : goal.returns
-returns c = c.loop-i.invariant.2 ∙ ap (count_if (is_ink c.args.chunk.now)) (let l = c.loop-i-test.false in let u = c.loop-i.invariant.0 in let e : c.loop-i.i ≡ length c.args.chunk.now = omega arith in e)
+pub loop-byte-preserved : goal.loop-byte-preserved
+loop-byte-preserved c = let t = byte_small (ltb 0 (get_or c.args.chunk.now c.loop-byte.byte-index 0)) in (omega arith, omega arith, byte_more c.args.chunk.now c.loop-byte.byte-index c.loop-byte.count c.loop-byte.invariant.2)

@@ -11,29 +11,14 @@ loop-i-init c = (omega arith, written_none _ _ _ _, (0, refl))
 pub write_turn-k-requires : goal.write_turn-k-requires
 write_turn-k-requires c = written-asks c.loop-i.invariant.1 c.requires.0 c.loop-i-test.true
 
-pub overflow_add-i : goal.overflow_add-i
-overflow_add-i c = let h = four-inside c.loop-i.invariant.2 c.requires.1 c.loop-i-test.true in let e = c.requires.1 in omega arith
-
 pub write_turn-k-requires-in-loop-i : goal.write_turn-k-requires-in-loop-i
 write_turn-k-requires-in-loop-i c = let h = four-inside c.loop-i.invariant.2 c.requires.1 c.loop-i-test.true in written-asks (written_one c.loop-i.invariant.1 c.requires.0 h c.write_turn-k.ensures) c.requires.0 (omega arith)
-
-pub overflow_add-i-in-loop-i : goal.overflow_add-i-in-loop-i
-overflow_add-i-in-loop-i c = let h = four-inside c.loop-i.invariant.2 c.requires.1 c.loop-i-test.true in let e = c.requires.1 in omega arith
 
 pub write_turn-k-requires-in-loop-i-2 : goal.write_turn-k-requires-in-loop-i-2
 write_turn-k-requires-in-loop-i-2 c = let h = four-inside c.loop-i.invariant.2 c.requires.1 c.loop-i-test.true in written-asks (written-two c.loop-i.invariant.1 c.requires.0 h c.write_turn-k.ensures c.write_turn-k-in-loop-i.ensures) c.requires.0 (omega arith)
 
-pub overflow_add-i-in-loop-i-2 : goal.overflow_add-i-in-loop-i-2
-overflow_add-i-in-loop-i-2 c = let h = four-inside c.loop-i.invariant.2 c.requires.1 c.loop-i-test.true in let e = c.requires.1 in omega arith
-
 pub write_turn-k-requires-in-loop-i-3 : goal.write_turn-k-requires-in-loop-i-3
 write_turn-k-requires-in-loop-i-3 c = let h = four-inside c.loop-i.invariant.2 c.requires.1 c.loop-i-test.true in written-asks (written-three c.loop-i.invariant.1 c.requires.0 h c.write_turn-k.ensures c.write_turn-k-in-loop-i.ensures c.write_turn-k-in-loop-i-2.ensures) c.requires.0 h
-
-pub overflow_add-i-in-loop-i-3 : goal.overflow_add-i-in-loop-i-3
-overflow_add-i-in-loop-i-3 c = let h = four-inside c.loop-i.invariant.2 c.requires.1 c.loop-i-test.true in let e = c.requires.1 in omega arith
-
-pub loop-i-smaller : goal.loop-i-smaller
-loop-i-smaller c = omega (arith, c.loop-i-test.true)
 
 pub loop-i-preserved : goal.loop-i-preserved
 loop-i-preserved c =
@@ -43,5 +28,5 @@ loop-i-preserved c =
     let e : c.loop-i.i ≡ 4 * q = f.1 in
     (omega arith, written-four c.loop-i.invariant.1 c.requires.0 h c.write_turn-k.ensures c.write_turn-k-in-loop-i.ensures c.write_turn-k-in-loop-i-2.ensures c.write_turn-k-in-loop-i-3.ensures, (q + 1, omega arith))
 
-pub returns : goal.returns
-returns c = subst (λ z. ToldWritten c.args.told.now z c.args.start c.args.words.now c.loop-i.words c.args.at c.loop-i.k) (let e : c.loop-i.i ≡ c.args.n = omega (arith, c.loop-i.invariant.0, c.loop-i-test.false) in e) c.loop-i.invariant.1
+pub returns-2 : goal.returns-2
+returns-2 c = let h = four-inside c.loop-i.invariant.2 c.requires.1 c.loop-i-test.true in subst (λ z. ToldWritten c.args.told.now z c.args.start c.args.words.now c.write_turn-k-in-loop-i-3.new.words c.args.at c.write_turn-k-in-loop-i-3.result) (let e : c.loop-i.i + 4 ≡ c.args.n = omega arith in e) (written-four c.loop-i.invariant.1 c.requires.0 h c.write_turn-k.ensures c.write_turn-k-in-loop-i.ensures c.write_turn-k-in-loop-i-2.ensures c.write_turn-k-in-loop-i-3.ensures)

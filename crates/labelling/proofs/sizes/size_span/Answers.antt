@@ -6,12 +6,6 @@ use Rattle.labelling.specs.stages.Sizes.{size_words}
 use Rattle.labelling.proofs.SizeSweepLaws.{five-long, span-sized, size-new, size-there}
 use Rattle.labelling.proofs.sizes.size_span.Goals as goal
 
-pub absorb_span-after-requires : goal.absorb_span-after-requires
-absorb_span-after-requires c = let p = c.requires in let e = c.none.ensures in let e₁ = ap (λ z. z.area) e in let e₂ = ap (λ z. z.sum_x) e in let e₃ = ap (λ z. z.sum_y) e in (omega arith, omega arith, omega arith, omega arith, omega arith, omega arith, omega arith)
-
-pub write_size-requires : goal.write_size-requires
-write_size-requires c = five-long ((c.args.number - 1) * 5) c.args.words.now (let p = c.requires in omega arith)
-
 pub returns-then-count-number : goal.returns-then-count-number
 returns-then-count-number c = span-sized c.args.words.now c.args.number c.args.count c.args.x c.args.span.last c.args.span.dots c.args.y c.none.result c.write_size.new.words (c.none.ensures ∙ size-new c.args.words.now c.args.number c.args.count c.if-count-number.true) (c.write_size.ensures ∙ ap size_words c.absorb_span-after.ensures)
 

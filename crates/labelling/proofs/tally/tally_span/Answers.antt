@@ -1,15 +1,9 @@
 use native.Mathlib.Omega.{arith}
-use mathlib.Core.Path.{refl, sym, ap, ◌∙◌, subst}
+use mathlib.Core.Path.{refl, sym, ◌∙◌, subst}
 use Prim.Native.Nat.{◌-◌, ◌*◌}
 use Rattle.labelling.specs.stages.Tallying.{Small}
 use Rattle.labelling.proofs.TallyLaws.{nine-long, span-tallied, held_none, held-words}
 use Rattle.labelling.proofs.tally.tally_span.Goals as goal
-
-pub absorb_span-after-requires : goal.absorb_span-after-requires
-absorb_span-after-requires c = let p = c.requires in let e = c.none.ensures in let e₁ = ap (λ z. z.area) e in let e₂ = ap (λ z. z.sum_x) e in let e₃ = ap (λ z. z.sum_y) e in (omega arith, omega arith, omega arith, omega arith, omega arith, omega arith, omega arith)
-
-pub encode-requires : goal.encode-requires
-encode-requires c = nine-long ((c.args.number - 1) * 9) c.args.components.now (let p = c.requires in omega arith)
 
 pub returns-then-count-number : goal.returns-then-count-number
 returns-then-count-number c = (span-tallied c.args.components.now c.args.number c.args.count c.args.x c.args.span.last c.args.span.dots c.args.span.sum c.args.y c.none.result c.absorb_span-after.result c.encode.new.words (c.none.ensures ∙ held_none c.args.components.now c.args.number c.args.count c.if-count-number.true) c.absorb_span-after.ensures c.encode.ensures, omega (arith, c.if-count-number.true))

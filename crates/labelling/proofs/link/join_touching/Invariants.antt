@@ -1,9 +1,0 @@
-use Prim.Native.Nat.{◌-◌}
-use Rattle.labelling.proofs.RunLinkLaws.{Sweep}
-use Rattle.labelling.proofs.link.join_touching.Given as goal
-
-abbrev pub invariant-loop-k : goal.invariant-loop-k
-invariant-loop-k l = Sweep l.list.w l.list.c l.list.parents l.initial.words l.words l.first l.to l.j l.k l.member
-
-abbrev pub decreases-loop-k : goal.decreases-loop-k
-decreases-loop-k l = l.to - l.k

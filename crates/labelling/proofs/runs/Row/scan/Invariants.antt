@@ -1,0 +1,5 @@
+use Rattle.labelling.proofs.ExtractLaws.{ScanSweep}
+use Rattle.labelling.proofs.runs.Row.scan.Given as goal
+
+abbrev pub invariant-loop-x : goal.invariant-loop-x
+invariant-loop-x l = ScanSweep l.self.dots.now l.from l.to l.self.base l.initial.words l.words l.at l.k l.before l.x

@@ -1,9 +1,0 @@
-use Prim.Native.Nat.{◌-◌}
-use Rattle.labelling.proofs.RowSizeLaws.{PlaneSweep}
-use Rattle.labelling.proofs.sizes.size_runs.Given as goal
-
-abbrev pub invariant-loop-y : goal.invariant-loop-y
-invariant-loop-y l = PlaneSweep l.w l.h l.c l.at l.initial.words l.words l.k l.count l.y
-
-abbrev pub decreases-loop-y : goal.decreases-loop-y
-decreases-loop-y l = l.h - l.y
