@@ -3,8 +3,6 @@
 ghost use Rattle.std.specs.Prelude.{◌≡◌, true, cond, ◌&&◌, List, ℕ, ◌+◌, ◌-◌, ◌*◌, ◌≤◌, ◌<◌, length, set, ltb, leb};
 ghost use Rattle.smoothing.specs.stages.RowRuns.{SmoothRoom, SmoothLeft, SmoothingInput, PageWalk, row_start, RowEnd, RowOf, RowParts, RunOfGlyph, GlyphAt, RunAdded};
 
-use memory::{max_usize, wide};
-
 // The kind of a glyph.
 const GLYPH: u32 = 4;
 
@@ -64,12 +62,10 @@ pub fn smooth_runs(
         last: 0,
     };
     let mut limit = 0;
-    let mut y = 0;
-    while y < h {
+    for _y in 0..h {
         limit += w;
         let end = row_end(&words[..], walk.passed, c, limit);
         walk = smooth_row(words, places, end, gap, walk);
-        y += 1;
     }
     walk.smoothed
 }
@@ -79,14 +75,12 @@ fn row_end(words: &[u32], first: usize, c: usize, limit: usize) -> usize
     requires { (first ≤ c) × (2 * c ≤ length words.now) }
     ensures { RowEnd words.now first c limit result }
 {
-    let mut end = first;
-    while end < c {
-        if limit <= wide(words[2 * end]) {
+    for end in first..c {
+        if limit <= words[2 * end] as usize {
             return end;
         }
-        end += 1;
     }
-    end
+    c
 }
 
 // The walk with the runs of one row, those up to run `end`.
@@ -102,7 +96,7 @@ fn smooth_row(words: &mut [u32], places: Places, end: usize, gap: usize, before:
         newest: before.newest,
         last: 0,
     };
-    while walk.passed < end {
+    for _i in first..end {
         walk = smooth_run(words, places, first, end, gap, walk);
     }
     walk
@@ -151,7 +145,7 @@ fn glyph_run(row: &[u32], numbers: &[u32], kinds: &[u32], j: usize) -> GlyphRun
     requires { RowParts row.now numbers.now kinds.now × (j < length numbers.now) }
     ensures { RunOfGlyph row.now numbers.now kinds.now j result }
 {
-    let number = wide(numbers[j]);
+    let number = numbers[j] as usize;
     if kinds[number - 1] == GLYPH {
         return GlyphRun {
             number,
@@ -175,14 +169,14 @@ fn smooth_glyph(words: &mut [u32], places: Places, gap: usize, walk: Walk, run: 
     let start = run.start;
     let end = run.end;
     let number = run.number;
-    let joins = joins_last(walk.last, wide(start), gap);
+    let joins = joins_last(walk.last, start as usize, gap);
     let smoothed = add_run(words, places.smoothed, walk.smoothed, start, end, joins);
     mark_first(words, places.firsts, walk.newest, number, smoothed);
     Walk {
         passed: walk.passed + 1,
         smoothed,
-        newest: max_usize(walk.newest, number),
-        last: wide(end),
+        newest: walk.newest.max(number),
+        last: end as usize,
     }
 }
 

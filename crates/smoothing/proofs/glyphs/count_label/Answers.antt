@@ -14,9 +14,6 @@ bounds-words-at c = let e = c.requires c.if-label-gt0.true in omega arith
 pub overflow_add-words : goal.overflow_add-words
 overflow_add-words c = let e = c.requires c.if-label-gt0.true in omega arith
 
-pub offset_bounds-words-at-then-label-gt0 : goal.offset_bounds-words-at-then-label-gt0
-offset_bounds-words-at-then-label-gt0 c = let e = c.requires c.if-label-gt0.true in omega arith
-
 pub bounds-words-at-then-label-gt0 : goal.bounds-words-at-then-label-gt0
 bounds-words-at-then-label-gt0 c = let e = c.requires c.if-label-gt0.true in omega arith
 
