@@ -20,7 +20,7 @@ ghost use Rattle.grouping.specs.stages.Counts.{counts};
 use crate::counts::count_below;
 use crate::number::{number_blocks, write_numbers};
 use crate::record::write_blocks;
-use memory::{Rect, fill_words, max_u32, min_u32, wide};
+use memory::{Rect, fill_words};
 use params::LayoutParams;
 use smoothing::LINE_WORDS;
 use sorting::median_of_counts;
@@ -53,7 +53,7 @@ fn number_lines(lines: &[u32], n: usize, sheet: LayoutParams, h: u32, scratch: &
     ensures { (k : ℕ) → k < n → get_or scratch.new k 0 ≡ block_number (block_firsts sheet (line_boxes lines.now n)) k }
 {
     let limits = gap_limits(lines, n, sheet, h, scratch);
-    let limit = min_u32(limits.cap, limits.most);
+    let limit = limits.cap.min(limits.most);
     let overlap = sheet.block_min_overlap;
     join_lines(lines, n, overlap, limit, scratch);
     number_blocks(scratch, n);
@@ -78,8 +78,7 @@ fn line_gap(a: Rect, b: Rect) -> u32
     requires { a.y1 + 1 ≤ 4294967295 }
     ensures { result ≡ line_gap a b }
 {
-    let below = a.y1 + 1;
-    if b.y0 < below { 0 } else { b.y0 - below }
+    b.y0.saturating_sub(a.y1 + 1)
 }
 
 // The columns that two lines share.
@@ -87,9 +86,9 @@ fn shared_columns(a: Rect, b: Rect) -> u32
     requires { a.x1 + 1 ≤ 4294967295 }
     ensures { result ≡ shared_columns a b }
 {
-    let end = min_u32(a.x1, b.x1) + 1;
-    let start = max_u32(a.x0, b.x0);
-    if end < start { 0 } else { end - start }
+    let end = a.x1.min(b.x1) + 1;
+    let start = a.x0.max(b.x0);
+    end.saturating_sub(start)
 }
 
 // Whether two lines share at least one column and at least `overlap` times the narrower width.
@@ -98,7 +97,7 @@ fn overlaps(overlap: f64, a: Rect, b: Rect) -> bool
     ensures { result ≡ overlapping overlap a b }
 {
     let shared = shared_columns(a, b);
-    let narrow = min_u32(a.width(), b.width());
+    let narrow = a.width().min(b.width());
     (0 < shared) & (overlap * (narrow as f64) <= shared as f64)
 }
 
@@ -124,15 +123,13 @@ fn nearest_gap(lines: &[u32], n: usize, i: usize, overlap: f64, cap: u32, h: u32
 {
     let a = line_box(lines, i);
     let mut nearest = h;
-    let mut j = i + 1;
-    while j < n {
+    for j in i + 1..n {
         let b = line_box(lines, j);
         let gap = line_gap(a, b);
         if cap < gap {
             return nearest;
         }
         nearest = nearer(nearest, gap, overlap, a, b);
-        j += 1;
     }
     nearest
 }
@@ -173,11 +170,9 @@ fn count_heights(lines: &[u32], n: usize, h: u32, table: &mut [u32])
     ensures { table.new ≡ over (counts (map height (line_boxes lines.now n)) (h + 1)) table.old }
 {
     fill_words(&mut table[0..(h as usize) + 1], 0);
-    let mut i = 0;
-    while i < n {
-        let v = wide(line_box(lines, i).height());
-        table[v] = table[v] + 1;
-        i += 1;
+    for i in 0..n {
+        let v = line_box(lines, i).height() as usize;
+        table[v] += 1;
     }
 }
 
@@ -199,11 +194,9 @@ fn count_gaps(lines: &[u32], n: usize, overlap: f64, cap: u32, h: u32, table: &m
 {
     fill_words(&mut table[0..h as usize], 0);
     let mut found = 0;
-    let mut i = 0;
-    while i < n {
+    for i in 0..n {
         let gap = nearest_gap(lines, n, i, overlap, cap, h);
-        found = found + count_below(table, h, gap);
-        i += 1;
+        found += count_below(table, h, gap);
     }
     found
 }
@@ -213,10 +206,8 @@ fn own_parents(parents: &mut [u32], n: usize)
     requires { (n ≤ length parents.old) × (n ≤ 4294967295) }
     ensures { parents.new ≡ over (table (λ (k : ℕ). k) n) parents.old }
 {
-    let mut i = 0;
-    while i < n {
+    for i in 0..n {
         parents[i] = i as u32;
-        i += 1;
     }
 }
 
@@ -227,10 +218,8 @@ fn join_lines(lines: &[u32], n: usize, overlap: f64, limit: u32, parents: &mut [
     ensures { Forest (first_of (firsts (joins overlap limit lines.now) n)) parents.new n }
 {
     own_parents(parents, n);
-    let mut i = 0;
-    while i < n {
+    for i in 0..n {
         join_after(lines, n, overlap, limit, i, parents);
-        i += 1;
     }
 }
 
@@ -241,8 +230,7 @@ fn join_after(lines: &[u32], n: usize, overlap: f64, limit: u32, i: usize, paren
 {
     let a = line_box(lines, i);
     let mut root = find(parents, i);
-    let mut j = i + 1;
-    while j < n {
+    for j in i + 1..n {
         let b = line_box(lines, j);
         if limit < line_gap(a, b) {
             return;
@@ -250,6 +238,5 @@ fn join_after(lines: &[u32], n: usize, overlap: f64, limit: u32, i: usize, paren
         if overlaps(overlap, a, b) {
             root = unite(parents, root, j);
         }
-        j += 1;
     }
 }

@@ -6,7 +6,7 @@ ghost use Rattle.smoothing.specs.rules.LineRecords.{line_words};
 ghost use Rattle.memory.specs.rules.Records.{fields};
 ghost use Rattle.grouping.specs.stages.Counts.{counts, below};
 
-use memory::{fill_words, wide};
+use memory::fill_words;
 use smoothing::LINE_WORDS;
 
 // Counts the values, all below m, of word `field` of the n lines.
@@ -15,11 +15,9 @@ pub fn count_field(lines: &[u32], n: usize, field: usize, table: &mut [u32], m: 
     ensures { table.new ≡ over (counts (fields line_words field lines.now n) m) table.old }
 {
     fill_words(&mut table[0..m], 0);
-    let mut i = 0;
-    while i < n {
-        let v = wide(lines[i * LINE_WORDS + field]);
-        table[v] = table[v] + 1;
-        i += 1;
+    for i in 0..n {
+        let v = lines[i * LINE_WORDS + field] as usize;
+        table[v] += 1;
     }
 }
 
@@ -29,8 +27,7 @@ pub fn count_below(table: &mut [u32], m: u32, v: u32) -> u32
     ensures { (l s : List ℕ) → table.old ≡ over (counts l m) s → (result ≡ length (below m v)) × (table.new ≡ over (counts (l ++ below m v) m) s) }
 {
     if v < m {
-        let at = wide(v);
-        table[at] = table[at] + 1;
+        table[v as usize] += 1;
         return 1;
     }
     0

@@ -8,7 +8,7 @@ ghost use Rattle.grouping.specs.stages.Dots.{frame_by, listed_at, FrameWords, On
 
 use crate::spans::{column_span, row_span};
 use levelling::Sides;
-use memory::{Rect, wide};
+use memory::Rect;
 
 // The dots asked for: those of one kind inside a frame box.
 #[derive(Clone, Copy)]
@@ -32,12 +32,9 @@ pub fn count_dots(
 {
     let q = DotQuery { sides, kind, r };
     let rows = row_span(shear, shear_x, sides, r);
-    let end = rows.to + 1;
     let mut n = 0;
-    let mut y = rows.from;
-    while y < end {
+    for y in rows.from..=rows.to {
         n = count_row(shear, shear_x, kinds, q, y, n);
-        y += 1;
     }
     n
 }
@@ -49,12 +46,9 @@ fn count_row(shear: &[u32], shear_x: &[u32], kinds: &[u8], q: DotQuery, y: usize
     ensures { result ≡ count_if (listed (frame_by q.sides shear.now shear_x.now) kinds.now q.kind q.r) ((y + 1) * q.sides.page_w) }
 {
     let columns = column_span(shear, shear_x, q.sides, q.r, y);
-    let end = columns.to;
     let mut m = n;
-    let mut c = columns.from;
-    while c < end {
-        m = m + one_if(is_listed(shear, shear_x, kinds, q, c, y));
-        c += 1;
+    for c in columns.from..columns.to {
+        m += one_if(is_listed(shear, shear_x, kinds, q, c, y));
     }
     m
 }
@@ -75,12 +69,9 @@ pub fn write_dots(
 {
     let q = DotQuery { sides, kind, r };
     let rows = row_span(shear, shear_x, sides, r);
-    let end = rows.to + 1;
     let mut n = 0;
-    let mut y = rows.from;
-    while y < end {
+    for y in rows.from..=rows.to {
         n = write_row(shear, shear_x, kinds, q, y, n, out);
-        y += 1;
     }
     n
 }
@@ -102,15 +93,12 @@ fn write_row(
         → out.new ≡ over (columns_and_rows q.sides.page_w (keep (listed (frame_by q.sides shear.now shear_x.now) kinds.now q.kind q.r) (upto ((y + 1) * q.sides.page_w)))) s) }
 {
     let columns = column_span(shear, shear_x, q.sides, q.r, y);
-    let end = columns.to;
     let mut m = n;
-    let mut c = columns.from;
-    while c < end {
+    for c in columns.from..columns.to {
         if is_listed(shear, shear_x, kinds, q, c, y) {
             put_dot(out, m, c as u32, y as u32);
             m += 1;
         }
-        c += 1;
     }
     m
 }
@@ -138,8 +126,8 @@ fn is_listed(shear: &[u32], shear_x: &[u32], kinds: &[u8], q: DotQuery, c: usize
     ensures { result ≡ listed_at (frame_by q.sides shear.now shear_x.now) kinds.now q.kind q.r c y }
 {
     let w = q.sides.w;
-    let row = y + wide(shear[c]);
-    let column = c + wide(shear_x[row]);
+    let row = y + shear[c] as usize;
+    let column = c + shear_x[row] as usize;
     let at = row * w + column;
     (kinds[at] == q.kind) & in_box(q.r, column as u32, row as u32)
 }

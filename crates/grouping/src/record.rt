@@ -11,7 +11,7 @@ ghost use Rattle.grouping.specs.rules.BlockRecords.{block_words, block_record};
 ghost use Rattle.memory.specs.rules.Words.{put_at};
 
 use crate::block::line_box;
-use memory::{Rect, wide};
+use memory::Rect;
 
 // The words of a block.
 pub const BLOCK_WORDS: usize = 5;
@@ -25,12 +25,10 @@ pub fn write_blocks(words: &mut [u32], n: usize, numbers: &[u32], at: usize) -> 
         → (result ≡ length (blocks_of (line_boxes words.old n) fs)) × (words.new ≡ put_at at (encoded block_record (blocks_of (line_boxes words.old n) fs)) words.old) }
 {
     let mut count = 0;
-    let mut i = 0;
-    while i < n {
-        let b = wide(numbers[i]);
+    for i in 0..n {
+        let b = numbers[i] as usize;
         let line = line_box(&words[..], i);
         count = add_line(line, b, count, &mut words[at..]);
-        i += 1;
     }
     count
 }

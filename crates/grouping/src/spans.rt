@@ -4,7 +4,7 @@ ghost use Rattle.levelling.specs.rules.Frames.{row_of, column_of};
 ghost use Rattle.grouping.specs.stages.Dots.{frame_by, Sheared, RowSpan, ColumnSpan, is_short, FirstReached};
 
 use levelling::Sides;
-use memory::{Rect, max_usize, min_usize, wide};
+use memory::Rect;
 
 // From one number to another.
 #[derive(Clone, Copy)]
@@ -27,8 +27,8 @@ pub fn row_span(shear: &[u32], shear_x: &[u32], sides: Sides, r: Rect) -> Span
     requires { Sheared (frame_by sides shear.now shear_x.now) }
     ensures { RowSpan (frame_by sides shear.now shear_x.now) r result.from result.to }
 {
-    let top = min_usize(r.y0 as usize, sides.h - 1);
-    let bottom = min_usize(r.y1 as usize, sides.h - 1);
+    let top = (r.y0 as usize).min(sides.h - 1);
+    let bottom = (r.y1 as usize).min(sides.h - 1);
     let columns = reach(r.x0, r.x1, ends(shear_x, top, bottom), sides.page_w - 1);
     let first = columns.from;
     let last = columns.to;
@@ -40,11 +40,11 @@ fn ends(table: &[u32], a: usize, b: usize) -> Span
     requires { (a < length table.now) × (b < length table.now) }
     ensures { (result.from ≡ min (get_or table.now a 0) (get_or table.now b 0)) × (result.to ≡ max (get_or table.now a 0) (get_or table.now b 0)) }
 {
-    let p = wide(table[a]);
-    let q = wide(table[b]);
+    let p = table[a] as usize;
+    let q = table[b] as usize;
     Span {
-        from: min_usize(p, q),
-        to: max_usize(p, q),
+        from: p.min(q),
+        to: p.max(q),
     }
 }
 
@@ -53,16 +53,9 @@ fn reach(low: u32, high: u32, by: Span, last: usize) -> Span
     ensures { (result.from ≡ min (low - by.to) last) × (result.to ≡ min (high - by.from) last) }
 {
     Span {
-        from: min_usize(less(wide(low), by.to), last),
-        to: min_usize(less(wide(high), by.from), last),
+        from: (low as usize).saturating_sub(by.to).min(last),
+        to: (high as usize).saturating_sub(by.from).min(last),
     }
-}
-
-// a - b, and 0 where that lies below 0.
-fn less(a: usize, b: usize) -> usize
-    ensures { result ≡ a - b }
-{
-    if a < b { 0 } else { a - b }
 }
 
 // The columns of page row y, from the first up to the second, that can hold a dot of the box.
@@ -71,7 +64,7 @@ pub fn column_span(shear: &[u32], shear_x: &[u32], sides: Sides, r: Rect, y: usi
     ensures { ColumnSpan (frame_by sides shear.now shear_x.now) r y result.from result.to }
 {
     let last = sides.page_w - 1;
-    let falls = wide(shear[last]) < wide(shear[0]);
+    let falls = shear[last] < shear[0];
     let start = BoxEnd {
         r,
         falls,
@@ -111,8 +104,8 @@ fn is_short(shear: &[u32], shear_x: &[u32], sides: Sides, end: BoxEnd, c: usize,
     requires { Sheared (frame_by sides shear.now shear_x.now) × (c < sides.page_w) × (y < sides.page_h) }
     ensures { result ≡ is_short end.r end.falls end.start (column_of (frame_by sides shear.now shear_x.now) c y) (row_of (frame_by sides shear.now shear_x.now) c y) }
 {
-    let row = y + wide(shear[c]);
-    let column = c + wide(shear_x[row]);
+    let row = y + shear[c] as usize;
+    let column = c + shear_x[row] as usize;
     point_short(end, column as u32, row as u32)
 }
 

@@ -1,4 +1,3 @@
-use Prim.Native.Nat.{◌-◌, ◌≤◌}
 use mathlib.Core.Path.{◌≡◌}
 use lib.ListN.{length}
 use Rattle.memory.specs.rules.Words.{over}
@@ -7,7 +6,4 @@ use Rattle.grouping.proofs.GapLaws.{gaps_before}
 use Rattle.grouping.proofs.block.count_gaps.Given as goal
 
 abbrev pub invariant-loop-i : goal.invariant-loop-i
-invariant-loop-i l = (l.i ≤ l.n) × (length l.table ≡ length l.initial.table) × (l.found ≡ length (gaps_before l.overlap l.cap l.h l.n l.lines l.i)) × (l.table ≡ over (counts (gaps_before l.overlap l.cap l.h l.n l.lines l.i) l.h) l.initial.table)
-
-abbrev pub decreases-loop-i : goal.decreases-loop-i
-decreases-loop-i l = l.n - l.i
+invariant-loop-i l = (length l.table ≡ length l.initial.table) × (l.found ≡ length (gaps_before l.overlap l.cap l.h l.n l.lines l.i)) × (l.table ≡ over (counts (gaps_before l.overlap l.cap l.h l.n l.lines l.i) l.h) l.initial.table)

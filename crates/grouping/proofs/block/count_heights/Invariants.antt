@@ -1,4 +1,4 @@
-use Prim.Native.Nat.{◌+◌, ◌-◌, ◌≤◌}
+use Prim.Native.Nat.{◌+◌}
 use mathlib.Core.Path.{◌≡◌}
 use lib.ListN.{length}
 use Rattle.memory.specs.rules.Words.{over}
@@ -7,7 +7,4 @@ use Rattle.grouping.proofs.MedianWords.{heights}
 use Rattle.grouping.proofs.block.count_heights.Given as goal
 
 abbrev pub invariant-loop-i : goal.invariant-loop-i
-invariant-loop-i l = (l.i ≤ l.n) × (length l.table ≡ length l.initial.table) × (l.table ≡ over (counts (heights l.lines l.i) (l.h + 1)) l.initial.table)
-
-abbrev pub decreases-loop-i : goal.decreases-loop-i
-decreases-loop-i l = l.n - l.i
+invariant-loop-i l = (length l.table ≡ length l.initial.table) × (l.table ≡ over (counts (heights l.lines l.i) (l.h + 1)) l.initial.table)

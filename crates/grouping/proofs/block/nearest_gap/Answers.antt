@@ -11,7 +11,7 @@ pub line_box-a-requires : goal.line_box-a-requires
 line_box-a-requires c = omega (arith, c.requires.0.1.room)
 
 pub loop-j-init : goal.loop-j-init
-loop-j-init c = (omega arith, refl)
+loop-j-init c = refl
 
 pub line_box-b-requires : goal.line_box-b-requires
 line_box-b-requires c = omega (arith, c.requires.0.1.room)
@@ -22,18 +22,16 @@ line_gap-gap-requires c = omega (arith, ap (λ (r : Rect). r.y1) c.line_box-a.en
 pub returns-then-cap-gap : goal.returns-then-cap-gap
 returns-then-cap-gap c = let far = rw (c.line_gap-gap.ensures, c.line_box-b.ensures) at c.if-cap-gap.true in
     sym (walk-stop c.args.overlap c.args.cap c.line_box-a.result c.args.lines.now c.args.n c.loop-j.j c.loop-j.nearest c.requires.1 (omega arith) far)
-    ∙ (sym c.loop-j.invariant.1 ∙ ap (λ (r : Rect). least_with c.args.h (gaps_from c.args.overlap c.args.cap r c.args.lines.now c.args.n (c.args.i + 1))) c.line_box-a.ensures)
+    ∙ (sym c.loop-j.invariant ∙ ap (λ (r : Rect). least_with c.args.h (gaps_from c.args.overlap c.args.cap r c.args.lines.now c.args.n (c.args.i + 1))) c.line_box-a.ensures)
 
 pub nearer-nearest-requires : goal.nearer-nearest-requires
 nearer-nearest-requires c = let i = c.requires.0.1.boxes in pair_fits c.requires.0.0 c.args.h _ _ c.requires.0.2 (subst (Inside c.requires.0.0 c.args.h) (sym c.line_box-a.ensures) (i c.args.i c.requires.2)) (subst (Inside c.requires.0.0 c.args.h) (sym c.line_box-b.ensures) (i c.loop-j.j (omega arith)))
 
 pub loop-j-preserved : goal.loop-j-preserved
-loop-j-preserved c = (
-  omega arith,
+loop-j-preserved c =
   rw (c.nearer-nearest.ensures, c.line_gap-gap.ensures, c.line_box-b.ensures)
-      (c.loop-j.invariant.1 ∙ walk-on c.args.overlap c.args.cap c.line_box-a.result c.args.lines.now c.args.n c.loop-j.j c.loop-j.nearest (omega arith) (rw (c.line_gap-gap.ensures, c.line_box-b.ensures) at c.if-cap-gap.false)),
-)
+      (c.loop-j.invariant ∙ walk-on c.args.overlap c.args.cap c.line_box-a.result c.args.lines.now c.args.n c.loop-j.j c.loop-j.nearest (omega arith) (rw (c.line_gap-gap.ensures, c.line_box-b.ensures) at c.if-cap-gap.false))
 
 pub returns : goal.returns
 returns c = sym (walk_end c.args.overlap c.args.cap c.line_box-a.result c.args.lines.now c.args.n c.loop-j.j c.loop-j.nearest c.loop-j-test.false)
-    ∙ (sym c.loop-j.invariant.1 ∙ ap (λ (r : Rect). least_with c.args.h (gaps_from c.args.overlap c.args.cap r c.args.lines.now c.args.n (c.args.i + 1))) c.line_box-a.ensures)
+    ∙ (sym c.loop-j.invariant ∙ ap (λ (r : Rect). least_with c.args.h (gaps_from c.args.overlap c.args.cap r c.args.lines.now c.args.n (c.args.i + 1))) c.line_box-a.ensures)

@@ -1,11 +1,8 @@
-use Prim.Native.Nat.{◌+◌, ◌-◌, ◌≤◌}
+use Prim.Native.Nat.{◌+◌}
 use mathlib.Core.Path.{◌≡◌}
 use Rattle.grouping.specs.stages.Joining.{least_with}
 use Rattle.grouping.proofs.GapLaws.{gaps_from}
 use Rattle.grouping.proofs.block.nearest_gap.Given as goal
 
 abbrev pub invariant-loop-j : goal.invariant-loop-j
-invariant-loop-j l = (l.i + 1 ≤ l.j) × (least_with l.h (gaps_from l.overlap l.cap l.a l.lines l.n (l.i + 1)) ≡ least_with l.nearest (gaps_from l.overlap l.cap l.a l.lines l.n l.j))
-
-abbrev pub decreases-loop-j : goal.decreases-loop-j
-decreases-loop-j l = l.n - l.j
+invariant-loop-j l = (least_with l.h (gaps_from l.overlap l.cap l.a l.lines l.n (l.i + 1)) ≡ least_with l.nearest (gaps_from l.overlap l.cap l.a l.lines l.n l.j))

@@ -14,6 +14,6 @@ number_blocks-requires c = let g = c.requires in (omega (arith, c.gap_limits-lim
 pub returns : goal.returns
 returns c = let ls = line_boxes c.args.lines.now c.args.n in
     numbers-right c.args.sheet c.args.n c.args.lines.now _ c.join_lines.new.parents c.number_blocks.new.parents
-    (joins-firsts c.args.sheet c.args.n c.args.lines.now c.min_u32-limit.result c.gap_limits-limits.result.cap c.gap_limits-limits.result.most c.min_u32-limit.ensures c.gap_limits-limits.ensures.0 c.gap_limits-limits.ensures.1)
+    (joins-firsts c.args.sheet c.args.n c.args.lines.now c.min-limit.result c.gap_limits-limits.result.cap c.gap_limits-limits.result.most c.min-limit.ensures c.gap_limits-limits.ensures.0 c.gap_limits-limits.ensures.1)
     c.join_lines.ensures
     (λ fs F l. filled_at (block_number fs) c.args.n c.number_blocks.new.parents c.join_lines.new.parents (c.number_blocks.ensures fs F l).1)

@@ -1,4 +1,3 @@
-use Prim.Native.Nat.{◌-◌, ◌≤◌}
 use mathlib.Core.Path.{◌≡◌}
 use lib.ListN.{length}
 use Rattle.memory.specs.rules.Words.{over}
@@ -8,7 +7,4 @@ use Rattle.grouping.specs.stages.Counts.{counts}
 use Rattle.grouping.proofs.counts.count_field.Given as goal
 
 abbrev pub invariant-loop-i : goal.invariant-loop-i
-invariant-loop-i l = (l.i ≤ l.n) × (length l.table ≡ length l.initial.table) × (l.table ≡ over (counts (fields line_words l.field l.lines l.i) l.m) l.initial.table)
-
-abbrev pub decreases-loop-i : goal.decreases-loop-i
-decreases-loop-i l = l.n - l.i
+invariant-loop-i l = (length l.table ≡ length l.initial.table) × (l.table ≡ over (counts (fields line_words l.field l.lines l.i) l.m) l.initial.table)

@@ -10,7 +10,7 @@ pub overflow_sub-sides-2 : goal.overflow_sub-sides-2
 overflow_sub-sides-2 c = omega (arith, some-sides c.requires)
 
 pub ends-requires : goal.ends-requires
-ends-requires c = (row-place c.requires c.min_usize-top.result c.args.r.y0 c.min_usize-top.ensures, row-place c.requires c.min_usize-bottom.result c.args.r.y1 c.min_usize-bottom.ensures)
+ends-requires c = (row-place c.requires c.min-top.result c.args.r.y0 c.min-top.ensures, row-place c.requires c.min-bottom.result c.args.r.y1 c.min-bottom.ensures)
 
 pub overflow_sub-sides-3 : goal.overflow_sub-sides-3
 overflow_sub-sides-3 c = omega (arith, some-sides c.requires)
@@ -22,4 +22,4 @@ pub overflow_sub-sides-4 : goal.overflow_sub-sides-4
 overflow_sub-sides-4 c = omega (arith, some-sides c.requires)
 
 pub returns : goal.returns
-returns c = row-span c.requires c.min_usize-top.ensures c.min_usize-bottom.ensures c.ends.ensures.0 c.ends.ensures.1 c.reach-columns.ensures.0 c.reach-columns.ensures.1 c.ends-2.ensures.0 c.ends-2.ensures.1 c.reach.ensures.0 c.reach.ensures.1
+returns c = row-span c.requires c.min-top.ensures c.min-bottom.ensures c.ends.ensures.0 c.ends.ensures.1 c.reach-columns.ensures.0 c.reach-columns.ensures.1 c.ends-2.ensures.0 c.ends-2.ensures.1 c.reach.ensures.0 c.reach.ensures.1
