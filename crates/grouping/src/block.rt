@@ -20,7 +20,7 @@ ghost use Rattle.grouping.specs.stages.Counts.{counts};
 use crate::counts::count_below;
 use crate::number::{number_blocks, write_numbers};
 use crate::record::write_blocks;
-use memory::{Rect, fill_words};
+use memory::{Rect, box_at, fill_words};
 use params::LayoutParams;
 use smoothing::LINE_WORDS;
 use sorting::median_of_counts;
@@ -64,13 +64,7 @@ pub fn line_box(lines: &[u32], i: usize) -> Rect
     requires { i * line_words + line_words ≤ length lines.now }
     ensures { result ≡ line_box lines.now i }
 {
-    let at = i * LINE_WORDS;
-    Rect {
-        x0: lines[at],
-        y0: lines[at + 1],
-        x1: lines[at + 2],
-        y1: lines[at + 3],
-    }
+    box_at(lines, i * LINE_WORDS)
 }
 
 // The rows between two lines, 0 where they overlap.

@@ -11,7 +11,7 @@ ghost use Rattle.grouping.specs.rules.BlockRecords.{block_words, block_record};
 ghost use Rattle.memory.specs.rules.Words.{put_at};
 
 use crate::block::line_box;
-use memory::Rect;
+use memory::{Rect, box_at, put_box};
 
 // The words of a block.
 pub const BLOCK_WORDS: usize = 5;
@@ -53,13 +53,7 @@ fn block_box(out: &[u32], b: usize) -> Rect
     requires { b * block_words + block_words ≤ length out.now }
     ensures { result ≡ block_box out.now b }
 {
-    let at = b * BLOCK_WORDS;
-    Rect {
-        x0: out[at],
-        y0: out[at + 1],
-        x1: out[at + 2],
-        y1: out[at + 3],
-    }
+    box_at(out, b * BLOCK_WORDS)
 }
 
 // The record of block b.
@@ -68,9 +62,6 @@ fn put_block(out: &mut [u32], b: usize, r: Rect, n: u32)
     ensures { out.new ≡ sets out.old (b * block_words) (block_fields r n) }
 {
     let at = b * BLOCK_WORDS;
-    out[at] = r.x0;
-    out[at + 1] = r.y0;
-    out[at + 2] = r.x1;
-    out[at + 3] = r.y1;
+    put_box(out, at, r);
     out[at + 4] = n;
 }

@@ -7,7 +7,7 @@ ghost use Rattle.memory.specs.stages.Stored.{Stored};
 ghost use Rattle.sorting.specs.rules.Kinds.{glyph_kind};
 ghost use Rattle.smoothing.specs.stages.LineWords.{kind_word, first_number, LabelRoom, label_at, labels_at, CountRoom, glyph_fields, glyph_record_at, GlyphRoom, WrittenGlyph, WrittenGlyphs};
 
-use memory::{Rect, fill_words};
+use memory::{Rect, fill_words, put_box};
 use sorting::{GLYPH, SIZE_WORDS, size_box};
 
 // The words of a glyph's record.
@@ -109,10 +109,7 @@ fn put_glyph(out: &mut [u32], n: usize, r: Rect, area: u32, line: u32)
     ensures { out.new ≡ sets out.old (n * 6) (glyph_fields r area line) }
 {
     let at = n * GLYPH_WORDS;
-    out[at] = r.x0;
-    out[at + 1] = r.y0;
-    out[at + 2] = r.x1;
-    out[at + 3] = r.y1;
+    put_box(out, at, r);
     out[at + 4] = area;
     out[at + 5] = line;
 }

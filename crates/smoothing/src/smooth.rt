@@ -3,8 +3,7 @@
 ghost use Rattle.std.specs.Prelude.{◌≡◌, true, cond, ◌&&◌, List, ℕ, ◌+◌, ◌-◌, ◌*◌, ◌≤◌, ◌<◌, length, set, ltb, leb};
 ghost use Rattle.smoothing.specs.stages.RowRuns.{SmoothRoom, SmoothLeft, SmoothingInput, PageWalk, row_start, RowEnd, RowOf, RowParts, RunOfGlyph, GlyphAt, RunAdded};
 
-// The kind of a glyph.
-const GLYPH: u32 = 4;
+use sorting::GLYPH;
 
 // Where things stand in the words behind the runs: the numbers of their components, the smoothed runs of the page, the kinds of all
 // components and their words.

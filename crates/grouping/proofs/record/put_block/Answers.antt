@@ -1,19 +1,5 @@
-use lib.ListN.{length-set}
 use native.Mathlib.Numerals.{towards_suc}
-use native.Mathlib.Omega.{arith}
 use Rattle.grouping.proofs.record.put_block.Goals as goal
 
-pub bounds-out-at-2 : goal.bounds-out-at-2
-bounds-out-at-2 c = simp length-set (omega arith)
-
-pub bounds-out-at-3 : goal.bounds-out-at-3
-bounds-out-at-3 c = simp length-set (omega arith)
-
-pub bounds-out-at-4 : goal.bounds-out-at-4
-bounds-out-at-4 c = simp length-set (omega arith)
-
-pub bounds-out-at-5 : goal.bounds-out-at-5
-bounds-out-at-5 c = simp length-set (omega arith)
-
 pub returns : goal.returns
-returns c = simp towards_suc
+returns c = rw c.put_box.ensures (simp towards_suc)
