@@ -1,7 +1,8 @@
 // Smoothing on the runs of rows: gaps between the glyph runs of a row are closed where they are small enough. The runs after the cut
 // and the numbers of their components lie in scratch; the smoothed runs go behind them.
-ghost use Rattle.std.specs.Prelude.{◌≡◌, true, cond, ◌&&◌, List, ℕ, ◌+◌, ◌-◌, ◌*◌, ◌≤◌, ◌<◌, length, set, ltb, leb};
-ghost use Rattle.smoothing.specs.stages.RowRuns.{SmoothRoom, SmoothLeft, SmoothingInput, PageWalk, row_start, RowEnd, RowOf, RowParts, RunOfGlyph, GlyphAt, RunAdded};
+ghost use Rattle.std.specs.Prelude.{◌≡◌, ◌≢◌, MatchOption, true, cond, ◌&&◌, List, ℕ, ◌+◌, ◌-◌, ◌*◌, ◌≤◌, ◌<◌, length, set, ltb, leb};
+ghost use Rattle.sorting.specs.rules.Kinds.{glyph_kind};
+ghost use Rattle.smoothing.specs.stages.RowRuns.{kind_of, SmoothRoom, SmoothLeft, SmoothingInput, PageWalk, row_start, RowEnd, RowOf, RowParts, RunOfGlyph, GlyphAt, RunAdded};
 
 use sorting::GLYPH;
 
@@ -25,7 +26,7 @@ pub struct Walk {
     pub last: usize,
 }
 
-// A glyph run: the number of its component, its first dot and its end. A run of another component has number 0.
+// A glyph run: the number of its component, its first dot and its end.
 #[derive(Clone, Copy)]
 pub struct GlyphRun {
     pub number: usize,
@@ -89,12 +90,7 @@ fn smooth_row(words: &mut [u32], places: Places, end: usize, gap: usize, before:
         → PageWalk g words.new places gap y result) }
 {
     let first = before.passed;
-    let mut walk = Walk {
-        passed: first,
-        smoothed: before.smoothed,
-        newest: before.newest,
-        last: 0,
-    };
+    let mut walk = Walk { last: 0, ..before };
     for _i in first..end {
         walk = smooth_run(words, places, first, end, gap, walk);
     }
@@ -128,35 +124,29 @@ fn smooth_run(
         &whole[kinds..firsts],
         walk.passed - first,
     );
-    if run.number == 0 {
-        return Walk {
+    match run {
+        Some(run) => smooth_glyph(words, places, gap, walk, run),
+        None => Walk {
             passed: walk.passed + 1,
-            smoothed: walk.smoothed,
-            newest: walk.newest,
-            last: walk.last,
-        };
+            ..walk
+        },
     }
-    smooth_glyph(words, places, gap, walk, run)
 }
 
-// Run j of a row, where the numbers of the row's runs and the kinds of all components tell that it is one of a glyph.
-fn glyph_run(row: &[u32], numbers: &[u32], kinds: &[u32], j: usize) -> GlyphRun
+// Run j of a row, if the numbers of the row's runs and the kinds of all components tell that it is one of a glyph.
+fn glyph_run(row: &[u32], numbers: &[u32], kinds: &[u32], j: usize) -> Option<GlyphRun>
     requires { RowParts row.now numbers.now kinds.now × (j < length numbers.now) }
-    ensures { RunOfGlyph row.now numbers.now kinds.now j result }
+    ensures { MatchOption result (kind_of numbers.now kinds.now j ≢ glyph_kind) (λ run. (0 < run.number) × RunOfGlyph row.now numbers.now kinds.now j run) }
 {
     let number = numbers[j] as usize;
-    if kinds[number - 1] == GLYPH {
-        return GlyphRun {
-            number,
-            start: row[2 * j],
-            end: row[2 * j + 1],
-        };
+    if kinds[number - 1] != GLYPH {
+        return None;
     }
-    GlyphRun {
-        number: 0,
-        start: 0,
-        end: 0,
-    }
+    Some(GlyphRun {
+        number,
+        start: row[2 * j],
+        end: row[2 * j + 1],
+    })
 }
 
 // The walk with the next run of the row, one of a glyph.

@@ -12,8 +12,7 @@ offset_bounds-kinds-number c = let k = (c.requires.0.known c.args.j c.requires.1
 pub bounds-kinds-number : goal.bounds-kinds-number
 bounds-kinds-number c = let k = (c.requires.0.known c.args.j c.requires.1).0 in let l = (c.requires.0.known c.args.j c.requires.1).1 in omega arith
 
-pub returns-then-kinds-number-eq-GLYPH : goal.returns-then-kinds-number-eq-GLYPH
-returns-then-kinds-number-eq-GLYPH c = record { other = λ z. absurd (let k = (c.requires.0.known c.args.j c.requires.1).0 in omega arith); glyph = λ l. c.if-kinds-number-eq-GLYPH.true; number = λ l. refl; start = λ l. refl; end = λ l. refl }
-
 pub returns : goal.returns
-returns c = record { other = λ z e. c.if-kinds-number-eq-GLYPH.false e; glyph = λ l. absurd (omega arith); number = λ l. absurd (omega arith); start = λ l. absurd (omega arith); end = λ l. absurd (omega arith) }
+returns c =
+    let some = (c.requires.0.known c.args.j c.requires.1).0 in
+    (omega arith, record { other = λ z. absurd (omega arith); glyph = λ l. omega arith; number = λ l. refl; start = λ l. refl; end = λ l. refl })
