@@ -129,7 +129,7 @@ fn nearest_gap(lines: &[u32], n: usize, i: usize, overlap: f64, cap: u32, h: u32
 }
 
 // The limits of the gaps between lines: of candidates, and within a block.
-#[derive(Clone, Copy)]
+#[derive(Clone, Copy, Debug, PartialEq, Eq)]
 pub struct GapLimits {
     pub cap: u32,
     pub most: u32,

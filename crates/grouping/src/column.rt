@@ -14,7 +14,7 @@ use crate::counts::count_field;
 use params::LayoutParams;
 
 // A column of the page: its first and its last frame column.
-#[derive(Clone, Copy)]
+#[derive(Clone, Copy, Debug, PartialEq, Eq)]
 pub struct Column {
     pub x0: u32,
     pub x1: u32,

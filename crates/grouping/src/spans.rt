@@ -7,7 +7,7 @@ use levelling::Sides;
 use memory::Rect;
 
 // From one number to another.
-#[derive(Clone, Copy)]
+#[derive(Clone, Copy, Debug, PartialEq, Eq)]
 pub struct Span {
     pub from: usize,
     pub to: usize,

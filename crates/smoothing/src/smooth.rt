@@ -8,7 +8,7 @@ use sorting::GLYPH;
 
 // Where things stand in the words behind the runs: the numbers of their components, the smoothed runs of the page, the kinds of all
 // components and their words.
-#[derive(Clone, Copy)]
+#[derive(Clone, Copy, Debug, PartialEq, Eq)]
 pub struct Places {
     pub numbers: usize,
     pub smoothed: usize,
@@ -18,7 +18,7 @@ pub struct Places {
 
 // How far the walk has come: runs and smoothed runs of the page so far, the greatest number of a glyph among them, and the end of the
 // row's last glyph run, or 0 where there is none yet.
-#[derive(Clone, Copy)]
+#[derive(Clone, Copy, Debug, PartialEq, Eq)]
 pub struct Walk {
     pub passed: usize,
     pub smoothed: usize,
@@ -27,7 +27,7 @@ pub struct Walk {
 }
 
 // A glyph run: the number of its component, its first dot and its end.
-#[derive(Clone, Copy)]
+#[derive(Clone, Copy, Debug, PartialEq, Eq)]
 pub struct GlyphRun {
     pub number: usize,
     pub start: u32,
