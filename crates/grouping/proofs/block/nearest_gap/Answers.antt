@@ -29,8 +29,8 @@ nearer-nearest-requires c = let i = c.requires.0.1.boxes in pair_fits c.requires
 
 pub loop-j-preserved : goal.loop-j-preserved
 loop-j-preserved c =
-  rw (c.nearer-nearest.ensures, c.line_gap-gap.ensures, c.line_box-b.ensures)
-      (c.loop-j.invariant ∙ walk-on c.args.overlap c.args.cap c.line_box-a.result c.args.lines.now c.args.n c.loop-j.j c.loop-j.nearest (omega arith) (rw (c.line_gap-gap.ensures, c.line_box-b.ensures) at c.if-cap-gap.false))
+    rw (c.nearer-nearest.ensures, c.line_gap-gap.ensures, c.line_box-b.ensures)
+    (c.loop-j.invariant ∙ walk-on c.args.overlap c.args.cap c.line_box-a.result c.args.lines.now c.args.n c.loop-j.j c.loop-j.nearest (omega arith) (rw (c.line_gap-gap.ensures, c.line_box-b.ensures) at c.if-cap-gap.false))
 
 pub returns : goal.returns
 returns c = sym (walk_end c.args.overlap c.args.cap c.line_box-a.result c.args.lines.now c.args.n c.loop-j.j c.loop-j.nearest c.loop-j-test.false)

@@ -41,14 +41,16 @@ pub loop-i-preserved : goal.loop-i-preserved
 loop-i-preserved c =
     let a = c.args in
     let h = c.requires.5 in
-    let few = written-few (line_boxes a.words.now a.n) h.0 (drop a.at a.words.now) (drop a.at c.loop-i.words) c.loop-i.count c.loop-i.i h.1 h.2 (c.loop-i.invariant.1 h.0 h.1 h.2 h.3).written in (behind-long c.loop-i.words c.add_line-count.new.out a.at (omega arith) c.add_line-count.auto.out ∙ c.loop-i.invariant.0,
+    let few = written-few (line_boxes a.words.now a.n) h.0 (drop a.at a.words.now) (drop a.at c.loop-i.words) c.loop-i.count c.loop-i.i h.1 h.2 (c.loop-i.invariant.1 h.0 h.1 h.2 h.3).written in (
+      behind-long c.loop-i.words c.add_line-count.new.out a.at (omega arith) c.add_line-count.auto.out ∙ c.loop-i.invariant.0,
       λ fs l m k.
           let w = c.loop-i.invariant.1 fs l m k in
           behind_more (line_boxes a.words.now a.n) fs a.words.now c.loop-i.words c.add_line-count.new.out a.at c.loop-i.count c.loop-i.i l m w c.loop-i.invariant.0 (omega arith)
           c.line_box-line.result c.add_line-count.result _
           (c.line_box-line.ensures ∙ (line-there a.words.now c.loop-i.words a.at c.loop-i.i w.front (omega arith) ∙ sym (get_or-table (line_box a.words.now) a.n c.loop-i.i no_rect (omega arith))))
           (k c.loop-i.i (omega arith))
-          c.add_line-count.ensures)
+          c.add_line-count.ensures,
+    )
 
 pub returns : goal.returns
 returns c = λ fs l m k.

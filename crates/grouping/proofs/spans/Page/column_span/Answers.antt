@@ -1,6 +1,6 @@
 use mathlib.Core.Path.{refl}
 use Rattle.grouping.proofs.SpanLaws.{column-span}
-use Rattle.grouping.proofs.spans.column_span.Goals as goal
+use Rattle.grouping.proofs.spans.Page.column_span.Goals as goal
 
 pub first_reached-requires : goal.first_reached-requires
 first_reached-requires c = (c.requires.0, refl, c.requires.1)
