@@ -82,8 +82,8 @@ fn write_columns(
         × (out.new ≡ over (encoded column_record (column_runs gap (keep (λ (x : ℕ). enough_cover frac busiest (get_or cover.now x 0)) (upto w)))) out.old) }
 {
     let mut n = 0;
-    for x in 0..w {
-        if enough_cover(frac, busiest, cover[x]) {
+    for (x, count) in cover[..w].iter().enumerate() {
+        if enough_cover(frac, busiest, *count) {
             n = put_column(out, n, x as u32, gap);
         }
     }

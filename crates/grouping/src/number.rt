@@ -42,7 +42,7 @@ pub fn write_numbers(lines: &mut [u32], n: usize, numbers: &[u32])
     requires { (n * line_words ≤ length lines.old) × (n ≤ length numbers.now) }
     ensures { lines.new ≡ with_blocks (λ (k : ℕ). get_or numbers.now k 0) n lines.old }
 {
-    for i in 0..n {
-        lines[i * LINE_WORDS + 7] = numbers[i];
+    for (i, number) in numbers[..n].iter().enumerate() {
+        lines[i * LINE_WORDS + 7] = *number;
     }
 }

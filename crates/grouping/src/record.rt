@@ -25,10 +25,9 @@ pub fn write_blocks(words: &mut [u32], n: usize, numbers: &[u32], at: usize) -> 
         → (result ≡ length (blocks_of (line_boxes words.old n) fs)) × (words.new ≡ put_at at (encoded block_record (blocks_of (line_boxes words.old n) fs)) words.old) }
 {
     let mut count = 0;
-    for i in 0..n {
-        let b = numbers[i] as usize;
+    for (i, b) in numbers[..n].iter().enumerate() {
         let line = line_box(&words[..], i);
-        count = add_line(line, b, count, &mut words[at..]);
+        count = add_line(line, *b as usize, count, &mut words[at..]);
     }
     count
 }
