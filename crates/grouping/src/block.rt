@@ -17,7 +17,7 @@ ghost use Rattle.grouping.specs.rules.HeldLines.{line_box};
 ghost use Rattle.memory.specs.rules.Records.{encoded};
 ghost use Rattle.grouping.specs.stages.Counts.{counts};
 
-use crate::counts::count_below;
+use crate::counts::{count_below, count_values};
 use crate::number::{number_blocks, write_numbers};
 use crate::record::write_blocks;
 use memory::{Rect, box_at, fill_words};
@@ -163,11 +163,8 @@ fn count_heights(lines: &[u32], n: usize, h: u32, table: &mut [u32])
     requires { ((w : ℕ) × Lines w h n lines.now) × (n ≤ 4294967295) × (h < 4294967295) × (h + 1 ≤ length table.old) }
     ensures { table.new ≡ over (counts (map height (line_boxes lines.now n)) (h + 1)) table.old }
 {
-    fill_words(&mut table[0..(h as usize) + 1], 0);
-    for i in 0..n {
-        let v = line_box(lines, i).height() as usize;
-        table[v] += 1;
-    }
+    let values = (h as usize) + 1;
+    count_values(|i| line_box(lines, i).height(), n, table, values);
 }
 
 // The median of the gaps of the lines to their nearest candidates.
