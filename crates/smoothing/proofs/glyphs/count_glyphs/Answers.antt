@@ -7,15 +7,6 @@ use Rattle.smoothing.proofs.glyphs.count_glyphs.Goals as goal
 pub loop-k-init : goal.loop-k-init
 loop-k-init c = labels-none _ _ c.args.kinds c.args.glyphs c.args.smears (stored-again (stored-fill 0 c.args.glyphs c.args.smears c.args.words.now _ c.requires.room c.fill_words.ensures))
 
-pub overflow_add-label : goal.overflow_add-label
-overflow_add-label c = omega (arith, c.requires.behind, c.requires.room)
-
-pub offset_bounds-words-kinds : goal.offset_bounds-words-kinds
-offset_bounds-words-kinds c = omega (arith, c.requires.behind, c.requires.room)
-
-pub bounds-words-kinds : goal.bounds-words-kinds
-bounds-words-kinds c = omega (arith, c.requires.behind, c.requires.room, c.loop-k.invariant.within.len, (stored-fill 0 c.args.glyphs c.args.smears c.args.words.now _ c.requires.room c.fill_words.ensures).within.len)
-
 pub count_label-requires : goal.count_label-requires
 count_label-requires c = label-room c.args.kinds c.args.count c.args.glyphs c.args.smears c.loop-k.k _ c.loop-k.words (count_room c.args.kinds c.args.count c.args.glyphs c.args.smears c.args.words.now _ (λ t. 0) c.requires (stored-fill 0 c.args.glyphs c.args.smears c.args.words.now _ c.requires.room c.fill_words.ensures)) (omega arith) c.loop-k.invariant _ refl
 

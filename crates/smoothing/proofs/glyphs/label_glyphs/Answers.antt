@@ -4,18 +4,9 @@ use native.Mathlib.Omega.{arith}
 use lib.ListN.{get_or}
 use Rattle.smoothing.specs.stages.LineWords.{kind_word, first_number}
 use Rattle.memory.specs.stages.Stored.{Stored}
-use Rattle.memory.proofs.StoredLaws.{stored-none, stored_more}
+use Rattle.memory.proofs.StoredLaws.{stored_more}
 use Rattle.smoothing.proofs.LabelCounts.{kept-kind, kept_word}
 use Rattle.smoothing.proofs.glyphs.label_glyphs.Goals as goal
-
-pub loop-k-init : goal.loop-k-init
-loop-k-init c = stored-none (λ i. kind_word (get_or c.args.words.now (c.args.kinds + i) 0) (first_number c.args.words.now c.args.firsts c.args.numbers i)) c.args.kinds c.args.words.now
-
-pub overflow_add-kinds : goal.overflow_add-kinds
-overflow_add-kinds c = omega (arith, c.requires.behind, c.requires.room)
-
-pub overflow_add-firsts : goal.overflow_add-firsts
-overflow_add-firsts c = omega (arith, c.requires.behind, c.requires.room)
 
 pub labelled_kind-requires : goal.labelled_kind-requires
 labelled_kind-requires c =
@@ -24,15 +15,6 @@ labelled_kind-requires c =
     let s = c.args.words.now in
     let k = kept-kind c.args.kinds c.args.count c.args.firsts c.args.numbers c.loop-k.k s c.loop-k.words r (omega arith) c.loop-k.invariant in
     (omega (arith, r.behind, r.room), omega (arith, r.room), λ g. k.1 g)
-
-pub overflow_add-words : goal.overflow_add-words
-overflow_add-words c = omega (arith, c.requires.behind, c.requires.room)
-
-pub offset_bounds-words-kinds : goal.offset_bounds-words-kinds
-offset_bounds-words-kinds c = omega (arith, c.requires.behind, c.requires.room)
-
-pub bounds-words-kinds : goal.bounds-words-kinds
-bounds-words-kinds c = let e = c.loop-k.invariant.within.len in omega (arith, c.requires.behind, c.requires.room)
 
 pub loop-k-preserved : goal.loop-k-preserved
 loop-k-preserved c =

@@ -15,15 +15,6 @@ returns-then-label-eq0 c =
       some_words = λ p. absurd (omega arith);
     }
 
-pub overflow_add-line : goal.overflow_add-line
-overflow_add-line c = let e = c.requires.2 (omega arith) in omega arith
-
-pub offset_bounds-words-numbers : goal.offset_bounds-words-numbers
-offset_bounds-words-numbers c = let e = c.requires.2 (omega arith) in omega arith
-
-pub bounds-words-numbers : goal.bounds-words-numbers
-bounds-words-numbers c = let e = c.requires.2 (omega arith) in omega arith
-
 pub returns : goal.returns
 returns c =
     record {

@@ -3,9 +3,6 @@ use native.Mathlib.Nat.{le_refl}
 use native.Mathlib.Omega.{arith}
 use Rattle.smoothing.proofs.smooth.row_end.Goals as goal
 
-pub loop-end-init : goal.loop-end-init
-loop-end-init c = λ k l a. absurd (omega arith)
-
 pub returns-then-limit-words : goal.returns-then-limit-words
 returns-then-limit-words c = record { low = omega arith; high = omega arith; inside = λ j a b. c.loop-end.invariant j b a; past = λ l. c.if-limit-words.true }
 
