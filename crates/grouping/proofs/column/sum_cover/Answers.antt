@@ -10,9 +10,6 @@ loop-x-init c = (refl, λ f s. summed-none _ _ f s)
 pub overflow_add-depth : goal.overflow_add-depth
 overflow_add-depth c = omega (arith, summed-here c.args.w c.args.counts.now c.requires.0.0 c.requires.0.1 c.loop-x.counts c.loop-x.depth c.loop-x.busiest c.loop-x.x (c.loop-x.invariant.1 c.requires.0.0 c.requires.0.1) (omega arith), c.requires.0.1.fits c.loop-x.x)
 
-pub bounds-counts-w : goal.bounds-counts-w
-bounds-counts-w c = simp length-set (omega (arith, c.requires.0.1.room))
-
 pub overflow_sub-depth : goal.overflow_sub-depth
 overflow_sub-depth c = summed-ended c.args.w c.args.counts.now c.requires.0.0 c.requires.0.1 c.loop-x.counts c.loop-x.depth c.loop-x.busiest c.loop-x.x (c.loop-x.invariant.1 c.requires.0.0 c.requires.0.1) (omega arith)
 

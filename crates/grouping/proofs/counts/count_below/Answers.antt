@@ -1,9 +1,5 @@
 use Rattle.grouping.proofs.TableWords.{below-counted, below_left}
-use native.Mathlib.Omega.{arith}
 use Rattle.grouping.proofs.counts.count_below.Goals as goal
-
-pub overflow_add-table : goal.overflow_add-table
-overflow_add-table c = let w = c.requires.1 c.if-v-m.true in omega arith
 
 pub returns-then-v-m : goal.returns-then-v-m
 returns-then-v-m c = λ l s e. below-counted l s c.args.table.now c.args.m c.args.v c.if-v-m.true e

@@ -12,9 +12,6 @@ use Rattle.grouping.proofs.pitch.count_pitches.Goals as goal
 pub loop-i-init : goal.loop-i-init
 loop-i-init c = (refl, walked_none (centre_at c.args.lines.now) (block_at c.args.lines.now) c.args.values c.args.blocks c.args.table.now c.requires.3)
 
-pub overflow_add-centre-in-loop-i-2 : goal.overflow_add-centre-in-loop-i-2
-overflow_add-centre-in-loop-i-2 c = let e = (c.requires.0.1.centres c.loop-i.i (omega arith)) in omega (arith, c.requires.0.2)
-
 pub add_pitch-found-requires : goal.add_pitch-found-requires
 add_pitch-found-requires c = let b = c.requires.0.1.blocks c.loop-i.i (omega arith) in let e = c.requires.0.1.centres c.loop-i.i (omega arith) in let w = c.loop-i.invariant.1 in let f = walked-few (centre_at c.args.lines.now) (block_at c.args.lines.now) c.loop-i.i in let g = w.found-is in (omega arith, omega (arith, c.requires.0.2), c.requires.2, λ k l. let o = w.each k l in let m = occurs-length k (walked_pitches (centre_at c.args.lines.now) (block_at c.args.lines.now) c.loop-i.i) in omega (arith, c.requires.0.1.few))
 

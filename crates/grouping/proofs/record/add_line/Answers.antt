@@ -11,9 +11,6 @@ use Rattle.grouping.proofs.record.add_line.Goals as goal
 pub returns-then-b-count : goal.returns-then-b-count
 returns-then-b-count c = record { first = λ e. (c.put_block.ensures, refl); later = λ l. absurd (omega arith) }
 
-pub overflow_add-n-2 : goal.overflow_add-n-2
-overflow_add-n-2 c = let n = c.requires.2 (omega arith) in omega arith
-
 pub returns : goal.returns
 returns c = let q = c.args in record {
   first = λ e. absurd (c.if-b-count.false e);

@@ -1,14 +1,10 @@
 use Prim.Native.Nat.{◌+◌}
-use mathlib.Core.Path.{sym, subst}
+use mathlib.Core.Path.{subst}
 use lib.ListN.{take, length-take}
-use lib.Seq.{length-take-le}
 use Rattle.sorting.specs.stages.Counts.{CountsOf}
 use Rattle.grouping.proofs.MedianWords.{counts_of, heights, heights-length, heights-below}
 use native.Mathlib.Omega.{arith}
 use Rattle.grouping.proofs.block.TextLines.line_height.Goals as goal
-
-pub slice_bounds-median_of_counts-end-2 : goal.slice_bounds-median_of_counts-end-2
-slice_bounds-median_of_counts-end-2 c = sym (length-take-le (c.args.self.now.h + 1) c.count_heights.new.table (omega (arith, c.count_heights.auto.table)))
 
 pub median_of_counts-requires : goal.median_of_counts-requires
 median_of_counts-requires c = omega (arith, length-take (c.args.self.now.h + 1) c.count_heights.new.table)

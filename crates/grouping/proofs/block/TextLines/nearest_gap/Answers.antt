@@ -1,5 +1,5 @@
 use Prim.Native.Nat.{◌+◌}
-use mathlib.Core.Path.{refl, sym, ap, ◌∙◌, subst}
+use mathlib.Core.Path.{sym, ap, ◌∙◌, subst}
 use Rattle.memory.specs.declared.rect.Rect.{Rect}
 use Rattle.grouping.specs.stages.Joining.{least_with}
 use Rattle.memory.specs.stages.Boxes.{Inside}
@@ -9,9 +9,6 @@ use Rattle.grouping.proofs.block.TextLines.nearest_gap.Goals as goal
 
 pub line_box-a-requires : goal.line_box-a-requires
 line_box-a-requires c = omega (arith, c.requires.0.1.room)
-
-pub loop-j-init : goal.loop-j-init
-loop-j-init c = refl
 
 pub line_box-b-requires : goal.line_box-b-requires
 line_box-b-requires c = omega (arith, c.requires.0.1.room)

@@ -1,14 +1,9 @@
-use mathlib.Core.Path.{sym}
 use lib.ListN.{length-take}
-use lib.Seq.{length-take-le}
 use Rattle.grouping.specs.rules.Blocks.{nearest_gaps}
 use Rattle.grouping.specs.stages.LineBoxes.{line_boxes}
 use Rattle.grouping.proofs.MedianWords.{counts_of, gaps-below}
 use native.Mathlib.Omega.{arith}
 use Rattle.grouping.proofs.block.TextLines.typical_gap.Goals as goal
-
-pub slice_bounds-median_of_counts-end-2 : goal.slice_bounds-median_of_counts-end-2
-slice_bounds-median_of_counts-end-2 c = sym (length-take-le c.args.self.now.h c.count_gaps-found.new.table (omega (arith, c.count_gaps-found.auto.table)))
 
 pub median_of_counts-requires : goal.median_of_counts-requires
 median_of_counts-requires c = omega (arith, length-take c.args.self.now.h c.count_gaps-found.new.table)

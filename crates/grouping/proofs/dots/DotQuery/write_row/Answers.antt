@@ -17,12 +17,6 @@ loop-c-init c = (c.column_span-columns.ensures.first_inside, refl, count-gap (ro
 pub is_listed-requires : goal.is_listed-requires
 is_listed-requires c = (c.requires.0, c.requires.1, omega (arith, c.column_span-columns.ensures.end_inside), c.requires.2)
 
-pub overflow_cast-c : goal.overflow_cast-c
-overflow_cast-c c = omega (arith, c.column_span-columns.ensures.end_inside, c.requires.0.page_wide)
-
-pub overflow_cast-y : goal.overflow_cast-y
-overflow_cast-y c = omega (arith, c.requires.0.page_high)
-
 pub put_dot-requires : goal.put_dot-requires
 put_dot-requires c = let e = dot-room (page_frame c.args.self.now.page) c.args.self.now.kinds.now c.args.self.now.kind c.args.self.now.r c.loop-c.c c.args.y (omega (arith, c.column_span-columns.ensures.end_inside)) c.requires.2 (sym c.is_listed.ensures ∙ c.if-is_listed.true) in omega arith
 

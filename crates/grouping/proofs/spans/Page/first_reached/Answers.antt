@@ -5,17 +5,8 @@ use native.Mathlib.Omega.{arith}
 use Rattle.grouping.proofs.SpanLaws.{short-there, first-reached-low, first-reached-high}
 use Rattle.grouping.proofs.spans.Page.first_reached.Goals as goal
 
-pub loop-low-init : goal.loop-low-init
-loop-low-init c = (omega arith, omega arith, λ i l. absurd (omega arith), λ i l k. absurd (omega arith))
-
-pub overflow_add-middle : goal.overflow_add-middle
-overflow_add-middle c = omega (arith, c.requires.0.page_wide)
-
 pub point-requires : goal.point-requires
 point-requires c = (c.requires.0, omega arith, c.requires.2)
-
-pub overflow_add-low : goal.overflow_add-low
-overflow_add-low c = omega (arith, c.requires.0.page_wide)
 
 pub loop-low-preserved-then-is_short : goal.loop-low-preserved-then-is_short
 loop-low-preserved-then-is_short c = (omega arith, omega arith, first-reached-low c.requires.0 c.args.end.r c.args.end.falls c.args.end.start c.requires.1 c.args.y c.requires.2 ((c.loop-low.low + c.loop-low.high) / 2) (omega arith) (sym (short-there (page_frame c.args.self.now) ((c.loop-low.low + c.loop-low.high) / 2) c.args.y c.args.end.r c.args.end.falls c.args.end.start c.point.ensures.0 c.point.ensures.1 c.is_short.ensures) ∙ c.if-is_short.true), c.loop-low.invariant.3)

@@ -3,12 +3,6 @@ use native.Mathlib.Omega.{arith}
 use Rattle.grouping.proofs.SpanLaws.{row_read, point}
 use Rattle.grouping.proofs.spans.Page.point.Goals as goal
 
-pub overflow_add-row : goal.overflow_add-row
-overflow_add-row c = let a = row_read c.requires.0 c.args.c c.args.y c.requires.1 c.requires.2 refl in omega arith
-
-pub overflow_add-column : goal.overflow_add-column
-overflow_add-column c = let a = (point c.requires.0 c.args.c c.args.y c.requires.1 c.requires.2 refl refl).column-low in omega arith
-
 pub returns : goal.returns
 returns c = let p = point c.requires.0 c.args.c c.args.y c.requires.1 c.requires.2 refl refl in (p.column-is, p.row_is)
 
