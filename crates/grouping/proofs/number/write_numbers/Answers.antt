@@ -1,8 +1,7 @@
 use Prim.Native.Nat.{ℕ, ◌+◌, ◌*◌}
-use mathlib.Core.Path.{◌≡◌, refl, ap, ◌∙◌}
+use mathlib.Core.Path.{refl, ap, ◌∙◌}
 use lib.ListN.{get_or, set, length-set}
 use lib.Seq.{get_or-take, length-take-le}
-use Rattle.grouping.specs.stages.Numbering.{with_blocks}
 use Rattle.grouping.proofs.NumberLaws.{blocks-none, blocks_more}
 use native.Mathlib.Omega.{arith}
 use Rattle.grouping.proofs.number.write_numbers.Goals as goal
@@ -15,6 +14,3 @@ loop-i-preserved c =
     let z = length-take-le c.args.n c.args.numbers.now (omega arith) in
     let e = get_or-take c.args.n c.args.numbers.now c.loop-i.i 0 (omega arith) in
     (simp length-set c.loop-i.invariant.0, ap (set c.loop-i.lines (c.loop-i.i * 8 + 7)) e ∙ blocks_more (λ (k : ℕ). get_or c.args.numbers.now k 0) c.loop-i.i c.args.lines.now c.loop-i.lines c.loop-i.invariant.1)
-
-pub returns : goal.returns
-returns c = let z = length-take-le c.args.n c.args.numbers.now (omega arith) in c.loop-i.invariant.1 ∙ ap (λ (k : ℕ). with_blocks (λ (j : ℕ). get_or c.args.numbers.now j 0) k c.args.lines.now) (let e : c.loop-i.i ≡ c.args.n = omega arith in e)

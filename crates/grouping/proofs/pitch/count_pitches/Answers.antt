@@ -1,9 +1,7 @@
-use Rattle.memory.specs.rules.Lists.{occurs}
 use Rattle.grouping.specs.stages.Pitches.{walked_pitches, PitchAdded}
 use Rattle.memory.proofs.PlaceLaws.{occurs-length}
-use Prim.Native.Nat.{ℕ, ◌+◌, ◌<◌}
-use mathlib.Core.Path.{◌≡◌, refl, ◌∙◌, subst}
-use lib.ListN.{length, get_or}
+use Prim.Native.Nat.{◌+◌}
+use mathlib.Core.Path.{refl, ◌∙◌, subst}
 use Rattle.grouping.specs.rules.HeldLines.{centre_at, block_at}
 use Rattle.grouping.proofs.PitchLaws.{walked_none, walked_more, walked-few}
 use native.Mathlib.Omega.{arith}
@@ -20,6 +18,3 @@ overflow_add-found c = let m = walked_more (centre_at c.args.lines.now) (block_a
 
 pub loop-i-preserved : goal.loop-i-preserved
 loop-i-preserved c = (c.add_pitch-found.auto.table ∙ c.loop-i.invariant.0, walked_more (centre_at c.args.lines.now) (block_at c.args.lines.now) c.args.values c.args.blocks c.loop-i.table c.add_pitch-found.new.table c.loop-i.found c.loop-i.i c.add_pitch-found.result (c.requires.0.1.blocks c.loop-i.i (omega arith)) c.loop-i.invariant.1 (subst (λ b. PitchAdded c.args.values b (centre_at c.args.lines.now c.loop-i.i) c.loop-i.table c.add_pitch-found.new.table c.add_pitch-found.result) refl c.add_pitch-found.ensures))
-
-pub returns : goal.returns
-returns c = let e : c.loop-i.i ≡ c.args.n = omega arith in subst (λ k. (c.loop-i.found ≡ length (walked_pitches (centre_at c.args.lines.now) (block_at c.args.lines.now) k)) × ((v : ℕ) → v < c.args.values → get_or c.loop-i.table v 0 ≡ occurs v (walked_pitches (centre_at c.args.lines.now) (block_at c.args.lines.now) k))) e (c.loop-i.invariant.1.found-is, c.loop-i.invariant.1.each)

@@ -15,9 +15,6 @@ use Rattle.grouping.proofs.record.write_blocks.Goals as goal
 pub loop-i-init : goal.loop-i-init
 loop-i-init c = (refl, λ fs l m k. behind-none _ fs _ _)
 
-pub line_box-line-requires : goal.line_box-line-requires
-line_box-line-requires c = let size_n = length-take-le c.args.n c.args.numbers.now (omega arith) in omega (arith, c.requires.3, c.requires.4, c.loop-i.invariant.0, c.loop-i-test.true)
-
 pub add_line-count-requires : goal.add_line-count-requires
 add_line-count-requires c =
     let a = c.args in

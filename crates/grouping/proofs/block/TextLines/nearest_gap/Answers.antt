@@ -1,28 +1,15 @@
 use Prim.Native.Nat.{◌+◌}
-use mathlib.Core.Path.{sym, ap, ◌∙◌, subst}
+use mathlib.Core.Path.{sym, ap, ◌∙◌}
 use Rattle.memory.specs.declared.rect.Rect.{Rect}
 use Rattle.grouping.specs.stages.Joining.{least_with}
-use Rattle.memory.specs.stages.Boxes.{Inside}
-use Rattle.grouping.proofs.GapLaws.{gaps_from, pair_fits, walk-on, walk_end, walk-stop}
+use Rattle.grouping.proofs.GapLaws.{gaps_from, walk-on, walk_end, walk-stop}
 use native.Mathlib.Omega.{arith}
 use Rattle.grouping.proofs.block.TextLines.nearest_gap.Goals as goal
-
-pub line_box-a-requires : goal.line_box-a-requires
-line_box-a-requires c = omega (arith, c.requires.0.1.room)
-
-pub line_box-b-requires : goal.line_box-b-requires
-line_box-b-requires c = omega (arith, c.requires.0.1.room)
-
-pub line_gap-gap-requires : goal.line_gap-gap-requires
-line_gap-gap-requires c = omega (arith, ap (λ (r : Rect). r.y1) c.line_box-a.ensures, (c.requires.0.1.boxes c.args.i c.requires.2).bottom)
 
 pub returns-then-cap-gap : goal.returns-then-cap-gap
 returns-then-cap-gap c = let far = rw (c.line_gap-gap.ensures, c.line_box-b.ensures) at c.if-cap-gap.true in
     sym (walk-stop c.args.self.now.sheet.block_min_overlap c.args.cap c.line_box-a.result c.args.self.now.words.now c.args.self.now.n c.loop-j.j c.loop-j.nearest c.requires.1 (omega arith) far)
     ∙ (sym c.loop-j.invariant ∙ ap (λ (r : Rect). least_with c.args.self.now.h (gaps_from c.args.self.now.sheet.block_min_overlap c.args.cap r c.args.self.now.words.now c.args.self.now.n (c.args.i + 1))) c.line_box-a.ensures)
-
-pub nearer-nearest-requires : goal.nearer-nearest-requires
-nearer-nearest-requires c = let i = c.requires.0.1.boxes in pair_fits c.requires.0.0 c.args.self.now.h _ _ c.requires.0.2 (subst (Inside c.requires.0.0 c.args.self.now.h) (sym c.line_box-a.ensures) (i c.args.i c.requires.2)) (subst (Inside c.requires.0.0 c.args.self.now.h) (sym c.line_box-b.ensures) (i c.loop-j.j (omega arith)))
 
 pub loop-j-preserved : goal.loop-j-preserved
 loop-j-preserved c =

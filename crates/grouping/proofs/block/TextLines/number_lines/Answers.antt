@@ -2,14 +2,7 @@ use Rattle.grouping.specs.rules.Blocks.{block_number}
 use Rattle.grouping.specs.stages.LineBoxes.{line_boxes}
 use Rattle.grouping.proofs.CoverWords.{filled_at}
 use Rattle.grouping.proofs.TogetherLaws.{joins-firsts, numbers-right}
-use native.Mathlib.Omega.{arith}
 use Rattle.grouping.proofs.block.TextLines.number_lines.Goals as goal
-
-pub join_lines-requires : goal.join_lines-requires
-join_lines-requires c = let g = c.requires in ((g.w, c.args.self.now.h, g.lines, g.narrow, omega arith), g.by_top, g.few, omega (arith, c.gap_limits-limits.auto.table))
-
-pub number_blocks-requires : goal.number_blocks-requires
-number_blocks-requires c = let g = c.requires in (omega (arith, c.gap_limits-limits.auto.table, c.join_lines.auto.parents), g.few, c.join_lines.ensures.down)
 
 pub returns : goal.returns
 returns c = let ls = line_boxes c.args.self.now.words.now c.args.self.now.n in

@@ -5,18 +5,11 @@ use mathlib.Core.Bool.{Bool, cond}
 use Rattle.grouping.specs.stages.Dots.{page_frame, asked}
 use Rattle.grouping.proofs.DotLaws.{count-dot, count-few, dot-below, bit-at-most, row-start, row-end}
 use Rattle.memory.proofs.PlaceLaws.{count-gap}
-use Rattle.grouping.proofs.SpanLaws.{sheared}
 use native.Mathlib.Omega.{arith}
 use Rattle.grouping.proofs.dots.DotQuery.count_row.Goals as goal
 
-pub column_span-columns-requires : goal.column_span-columns-requires
-column_span-columns-requires c = (sheared c.requires.0 c.requires.1, c.requires.2)
-
 pub loop-c-init : goal.loop-c-init
 loop-c-init c = (c.column_span-columns.ensures.first_inside, count-gap (row-start c.args.self.now.kinds.now c.args.self.now.kind c.column_span-columns.ensures) c.requires.3)
-
-pub is_listed-requires : goal.is_listed-requires
-is_listed-requires c = (c.requires.0, c.requires.1, omega (arith, c.column_span-columns.ensures.end_inside), c.requires.2)
 
 pub overflow_add-m : goal.overflow_add-m
 overflow_add-m c = let f = count-few (asked c.args.self.now) (c.args.y * c.args.self.now.page.sides.page_w + c.loop-c.c) in let b = dot-below c.args.y c.loop-c.c c.args.self.now.page.sides.page_w c.args.self.now.page.sides.page_h (omega (arith, c.column_span-columns.ensures.end_inside)) c.requires.2 c.requires.0.page_wide c.requires.0.page_high in let q = bit-at-most c.is_listed.result c.from-m.result (c.from-m.ensures ∙ byte-bit c.is_listed.result) in omega arith
