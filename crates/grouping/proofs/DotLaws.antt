@@ -1,6 +1,6 @@
--- The frame place of a page dot, and the dots listed of a row.
+-- The dots listed of a row.
 use mathlib.Core.Path.{◌≡◌, refl, sym, ap, ◌∙◌}
-use mathlib.Core.Bool.{Bool, true, false, cond, ◌&&◌}
+use mathlib.Core.Bool.{Bool, true, false, cond}
 use mathlib.Core.List.{List, [], ◌∷◌, ◌++◌}
 use Prim.Native.Nat.{ℕ, suc, ◌+◌, ◌-◌, ◌*◌, ◌/◌, ◌%◌, ◌≤◌, ◌<◌}
 use native.Mathlib.Nat.{suc-mul, mul_comm, mul-le-mul_right, mul-le-mul, mod-lt, div-add-mod', div-lt_iff_lt-mul, le-div_iff_mul-le}
@@ -17,49 +17,10 @@ use Rattle.memory.proofs.RecordLaws.{length-encoded, record-more}
 use Rattle.memory.specs.declared.rect.Rect.{Rect}
 use Rattle.levelling.specs.rules.Frames.{Frame, row_of, column_of}
 use Rattle.grouping.specs.rules.Readings.{in_box, listed, columns_and_rows, dot_list}
-use Rattle.grouping.specs.stages.Dots.{listed_at, FrameWords, RowSpan, ColumnSpan}
+use Rattle.grouping.specs.stages.Dots.{listed_at, RowSpan, ColumnSpan}
 use Rattle.memory.proofs.ListLaws.{keep-snoc-yes, keep-snoc-no, upto-suc, keep-few}
 use Rattle.memory.proofs.PlaceLaws.{count-length, count-below, Gap, keep-gap}
 use Rattle.memory.proofs.PlaneLaws.{dot-column, dot-row, dot-inside}
-
--- where the two shears send a dot, with what was proved of the place
-pub record Place (f : Frame) (kinds : List ℕ) (c y row column : ℕ) : Type 0 where
-  pub row_is : row ≡ row_of f c y
-  pub column-is : column ≡ column_of f c y
-  pub row_low : row < f.h
-  pub column-low : column < f.w
-  pub high : f.h ≤ 16383
-  pub wide : f.w ≤ 24574
-  pub rows : f.h ≤ length f.shear_x
-  pub dot : row * f.w + column < length kinds
-
-pub place-row : (f : Frame) (kinds : List ℕ) (c y s : ℕ) → FrameWords f kinds → c < f.page_w → y < f.page_h → s ≡ get_or f.shear c 0 → (y + s < f.h) × (f.h ≤ 16383) × (f.h ≤ length f.shear_x)
-unfolding row_of
-place-row f kinds c y s w lc ly e = let a = w.row_inside c y lc ly in let b = w.high in (omega arith, omega arith, w.rows)
-
-pub place : (f : Frame) (kinds : List ℕ) (c y s t : ℕ) → FrameWords f kinds → c < f.page_w → y < f.page_h → s ≡ get_or f.shear c 0 → t ≡ get_or f.shear_x (y + s) 0
-    → Place f kinds c y (y + s) (c + t)
-unfolding row_of column_of
-place f kinds c y s t w lc ly es et =
-    let er : y + s ≡ row_of f c y = ap (λ k. y + k) es in
-    let ec : c + t ≡ column_of f c y = ap (λ k. c + k) (et ∙ ap (λ k. get_or f.shear_x (y + k) 0) es) in
-    let lr : y + s < f.h = (let a = w.row_inside c y lc ly in omega arith) in
-    let lw : c + t < f.w = (let a = w.column_inside c y lc ly in omega arith) in
-    record {
-      row_is = er;
-      column-is = ec;
-      row_low = lr;
-      column-low = lw;
-      high = (let a = w.high in omega arith);
-      wide = (let a = w.wide in omega arith);
-      rows = w.rows;
-      dot = (let a = dot-inside f.w f.h (c + t) (y + s) lw lr in let b = w.dots in omega arith);
-    }
-
-pub place-listed : (f : Frame) (kinds : List ℕ) (k : ℕ) (r : Rect) (c y row column : ℕ) → Place f kinds c y row column
-    → (eqb (get_or kinds (row * f.w + column) 0) k && in_box r column row) ≡ listed_at f kinds k r c y
-place-listed f kinds k r c y row column p =
-    λ i. eqb (get_or kinds (p.row_is i * f.w + p.column-is i) 0) k && in_box r (p.column-is i) (p.row_is i)
 
 -- dot y * w + c of the page
 pub listed-dot : (f : Frame) (kinds : List ℕ) (k : ℕ) (r : Rect) (c y : ℕ) → c < f.page_w → listed f kinds k r (y * f.page_w + c) ≡ listed_at f kinds k r c y

@@ -1,16 +1,15 @@
 -- Tables of counts of heights and of gaps, and the medians that they give.
 use mathlib.Core.Path.{◌≡◌, refl, sym, ap, ◌∙◌, subst}
 use mathlib.Core.Bool.{Bool, true, false, cond}
-use mathlib.Core.List.{List, [], ◌∷◌, ◌++◌, map}
-use Prim.Native.Nat.{ℕ, zero, suc, ◌+◌, ◌≤◌, ◌<◌}
+use mathlib.Core.List.{List, [], ◌∷◌, map}
+use Prim.Native.Nat.{ℕ, zero, suc, ◌+◌, ◌<◌}
 use native.Mathlib.Decide.{dec_lt}
 use native.Mathlib.Omega.{arith}
-use native.Mathlib.Numerals.{add-one}
 use lib.Ieee.{Float, binary64, add}
 use lib.Dec.{ltb}
-use lib.ListN.{get_or, length, set, take, drop, length-map, get_or-eq_default}
+use lib.ListN.{get_or, length, take, drop, length-map, get_or-eq_default}
 use lib.Seq.{take_at}
-use Rattle.memory.specs.rules.Lists.{table, occurs}
+use Rattle.memory.specs.rules.Lists.{occurs}
 use Rattle.memory.specs.rules.Words.{over}
 use Rattle.memory.proofs.TableLaws.{length-table, get_or-table}
 use Rattle.memory.specs.rules.Rects.{height}
@@ -24,9 +23,8 @@ use Rattle.grouping.specs.stages.Joining.{least_with}
 use Rattle.grouping.specs.stages.LineBoxes.{Lines, line_boxes}
 use Rattle.grouping.specs.rules.HeldLines.{line_box}
 use Rattle.grouping.specs.stages.Counts.{counts, below}
-use Rattle.memory.proofs.ListLaws.{Each, each_append, each-table, map-append, map-table}
+use Rattle.memory.proofs.ListLaws.{Each, each_append, each-table, map-table}
 use Rattle.memory.proofs.PlaceLaws.{absent}
-use Rattle.grouping.proofs.TableWords.{counts-more, counted-few}
 use Rattle.grouping.proofs.GapLaws.{gaps_from, gaps_before, before-all}
 
 -- a table of counts is that of its list
@@ -44,14 +42,6 @@ counts_of l s t m h e =
 abbrev pub heights : List ℕ → ℕ → List ℕ
 heights lines i = map height (line_boxes lines i)
 
-pub heights-none : (lines : List ℕ) → [] ≡ heights lines 0
-unfolding table
-heights-none lines = refl
-
-pub heights-more : (lines : List ℕ) (i : ℕ) → heights lines i ++ (height (line_box lines i) ∷ []) ≡ heights lines (i + 1)
-unfolding table
-heights-more lines i = sym (ap (heights lines) (add-one i) ∙ map-append height (line_boxes lines i) (line_box lines i ∷ []))
-
 pub heights-length : (lines : List ℕ) (n : ℕ) → length (heights lines n) ≡ n
 heights-length lines n = length-map (line_boxes lines n) height ∙ length-table (line_box lines) n
 
@@ -59,17 +49,6 @@ pub heights-below : (w h n : ℕ) (lines : List ℕ) → Lines w h n lines → E
 heights-below w h n lines v =
     subst (Each (λ a. a < h + 1)) (sym (map-table height (line_box lines) n))
     (each-table (λ a. a < h + 1) (λ i. height (line_box lines i)) n (λ i l. let b = (v.boxes i l).bottom in omega arith))
-
--- one height more is counted
-pub height-counted : (lines t₀ t : List ℕ) (m i v : ℕ) → v < m → v ≡ height (line_box lines i) → t ≡ over (counts (heights lines i) m) t₀
-    → set t v (get_or t v 0 + 1) ≡ over (counts (heights lines (i + 1)) m) t₀
-height-counted lines t₀ t m i v h e k =
-    ap (λ (z : List ℕ). set z v (get_or z v 0 + 1)) k
-    ∙ (counts-more (heights lines i) t₀ m v h
-    ∙ ap (λ (z : List ℕ). over (counts z m) t₀) (ap (λ a. heights lines i ++ (a ∷ [])) e ∙ heights-more lines i))
-
-pub height-few : (lines t₀ t : List ℕ) (m i v : ℕ) → v < m → t ≡ over (counts (heights lines i) m) t₀ → get_or t v 0 ≤ i
-height-few lines t₀ t m i v h k = let a = counted-few (heights lines i) t₀ t m v h k in let b = heights-length lines i in omega arith
 
 -- Gaps
 

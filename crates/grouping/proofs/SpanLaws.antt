@@ -243,8 +243,9 @@ module _ {f : Frame} (v : Sheared f) where
 pub short-same : (r : Rect) (x y : ℕ) {falls start f s : Bool} → falls ≡ f → start ≡ s → is_short r f s x y ≡ is_short r falls start x y
 short-same r x y ef es = λ i. is_short r (sym ef i) (sym es i) x y
 
-pub short-point : {f : Frame} {c y row column : ℕ} {t : Bool} (r : Rect) (falls start : Bool) → Point f c y row column → t ≡ is_short r falls start column row → t ≡ is_short r falls start (column_of f c y) (row_of f c y)
-short-point r falls start p e = e ∙ (λ i. is_short r falls start (p.column-is i) (p.row_is i))
+pub short-there : (f : Frame) (c y : ℕ) {row column : ℕ} {t : Bool} (r : Rect) (falls start : Bool) → column ≡ column_of f c y → row ≡ row_of f c y → t ≡ is_short r falls start column row
+    → t ≡ is_short r falls start (column_of f c y) (row_of f c y)
+short-there f c y r falls start ec er e = e ∙ (λ i. is_short r falls start (ec i) (er i))
 
 -- ---- what is short at a place is short before it
 or-more : (a b c d : Bool) → (a ≡ true → c ≡ true) → (b ≡ true → d ≡ true) → (a || b) ≡ true → (c || d) ≡ true

@@ -2,7 +2,7 @@
 use mathlib.Core.Path.{◌≡◌, refl, sym, ap, ◌∙◌}
 use mathlib.Core.List.{List, [], ◌∷◌, ◌++◌, append-nil}
 use borrow.Author.Tests.{lt-ltb, le-ltb}
-use Prim.Native.Nat.{ℕ, ◌+◌, ◌-◌, ◌*◌, ◌≤◌, ◌<◌}
+use Prim.Native.Nat.{ℕ, ◌+◌, ◌-◌, ◌≤◌, ◌<◌}
 use native.Mathlib.Decide.{ℕ_discrete}
 use native.Mathlib.Omega.{arith}
 use native.Mathlib.Numerals.{add-one}
@@ -14,7 +14,6 @@ use Rattle.memory.specs.rules.Words.{over}
 use Rattle.memory.proofs.TableLaws.{length-table, get_or-table, table_step}
 use Rattle.extents.proofs.OverLaws.{over-at}
 use Rattle.grouping.specs.stages.Counts.{counts, below}
-use Rattle.memory.specs.rules.Records.{fields}
 use Rattle.memory.proofs.PlaceLaws.{occurs-same, occurs-other, occurs-length}
 
 pub over-table : (f : ℕ → ℕ) (n : ℕ) (s : List ℕ) → table f n ++ drop n s ≡ over (table f n) s
@@ -96,24 +95,21 @@ counted-few l s t m v h e =
     let b = occurs-length v l in
     omega arith
 
--- The values of one word of each line, counted one after the other
+-- Values counted one after the other
 
-pub fields-more : (k j : ℕ) (s : List ℕ) (i : ℕ) → fields k j s (i + 1) ≡ fields k j s i ++ (get_or s (i * k + j) 0 ∷ [])
+values_more : (f : ℕ → ℕ) (i : ℕ) → table f (i + 1) ≡ table f i ++ (f i ∷ [])
 unfolding table
-fields-more k j s i = ap (λ n. fields k j s n) (add-one i)
+values_more f i = ap (table f) (add-one i)
 
-pub field-none : (k j : ℕ) (s t₀ t : List ℕ) (m : ℕ) → t ≡ over (table (λ v. 0) m) t₀ → t ≡ over (counts (fields k j s 0) m) t
+pub values_none : (f : ℕ → ℕ) (t₀ t : List ℕ) (m : ℕ) → t ≡ over (table (λ v. 0) m) t₀ → t ≡ over (counts (table f 0) m) t
 unfolding table
-field-none k j s t₀ t m e = counts_start t₀ t m e
+values_none f t₀ t m e = counts_start t₀ t m e
 
-module _ (k j : ℕ) (s t₀ t : List ℕ) (m i v : ℕ) (known : t ≡ over (counts (fields k j s i) m) t₀) (value : v ≡ get_or s (i * k + j) 0) (low : v < m) where
-  pub field_fits : get_or t v 0 ≤ i
-  field_fits =
-      let a = counted-few (fields k j s i) t₀ t m v low known in
-      let c = length-table (λ n. get_or s (n * k + j) 0) i in
-      omega arith
+module _ (f : ℕ → ℕ) (t₀ t : List ℕ) (m i v : ℕ) (known : t ≡ over (counts (table f i) m) t₀) (value : v ≡ f i) (low : v < m) where
+  pub value_fits : get_or t v 0 ≤ i
+  value_fits = let a = counted-few (table f i) t₀ t m v low known in let c = length-table f i in omega arith
 
-  pub field-more : set t v (get_or t v 0 + 1) ≡ over (counts (fields k j s (i + 1)) m) t₀
-  field-more =
+  pub value-more : set t v (get_or t v 0 + 1) ≡ over (counts (table f (i + 1)) m) t₀
+  value-more =
       ap (λ (z : List ℕ). set z v (get_or z v 0 + 1)) known
-      ∙ (counts-more (fields k j s i) t₀ m v low ∙ ap (λ (z : List ℕ). over (counts z m) t₀) (ap (λ a. fields k j s i ++ (a ∷ [])) value ∙ sym (fields-more k j s i)))
+      ∙ (counts-more (table f i) t₀ m v low ∙ ap (λ (z : List ℕ). over (counts z m) t₀) (ap (λ a. table f i ++ (a ∷ [])) value ∙ sym (values_more f i)))

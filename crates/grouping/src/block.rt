@@ -17,10 +17,10 @@ ghost use Rattle.grouping.specs.rules.HeldLines.{line_box};
 ghost use Rattle.memory.specs.rules.Records.{encoded};
 ghost use Rattle.grouping.specs.stages.Counts.{counts};
 
-use crate::counts::count_below;
+use crate::counts::{count_below, count_values};
 use crate::number::{number_blocks, write_numbers};
 use crate::record::write_blocks;
-use memory::{Rect, fill_words, max_u32, min_u32, wide};
+use memory::{Rect, box_at, fill_words};
 use params::LayoutParams;
 use smoothing::LINE_WORDS;
 use sorting::median_of_counts;
@@ -41,22 +41,16 @@ pub fn blocks(
         × (words.new ≡ with_blocks (block_number (block_firsts sheet (line_boxes words.old n))) n
         (put_at at (encoded block_record (blocks_of (line_boxes words.old n) (block_firsts sheet (line_boxes words.old n)))) words.old)) }
 {
-    number_lines(&words[..], n, sheet, h, scratch);
+    let lines = TextLines {
+        words: &words[..],
+        n,
+        sheet,
+        h,
+    };
+    lines.number_lines(scratch);
     let count = write_blocks(words, n, &scratch[..], at);
     write_numbers(words, n, &scratch[..]);
     count
-}
-
-// The number of the block of each line, in the first n words of scratch.
-fn number_lines(lines: &[u32], n: usize, sheet: LayoutParams, h: u32, scratch: &mut [u32])
-    requires { Groupable n h lines.now (length scratch.old) }
-    ensures { (k : ℕ) → k < n → get_or scratch.new k 0 ≡ block_number (block_firsts sheet (line_boxes lines.now n)) k }
-{
-    let limits = gap_limits(lines, n, sheet, h, scratch);
-    let limit = min_u32(limits.cap, limits.most);
-    let overlap = sheet.block_min_overlap;
-    join_lines(lines, n, overlap, limit, scratch);
-    number_blocks(scratch, n);
 }
 
 // The box of line i.
@@ -64,13 +58,7 @@ pub fn line_box(lines: &[u32], i: usize) -> Rect
     requires { i * line_words + line_words ≤ length lines.now }
     ensures { result ≡ line_box lines.now i }
 {
-    let at = i * LINE_WORDS;
-    Rect {
-        x0: lines[at],
-        y0: lines[at + 1],
-        x1: lines[at + 2],
-        y1: lines[at + 3],
-    }
+    box_at(lines, i * LINE_WORDS)
 }
 
 // The rows between two lines, 0 where they overlap.
@@ -78,8 +66,7 @@ fn line_gap(a: Rect, b: Rect) -> u32
     requires { a.y1 + 1 ≤ 4294967295 }
     ensures { result ≡ line_gap a b }
 {
-    let below = a.y1 + 1;
-    if b.y0 < below { 0 } else { b.y0 - below }
+    b.y0.saturating_sub(a.y1 + 1)
 }
 
 // The columns that two lines share.
@@ -87,9 +74,9 @@ fn shared_columns(a: Rect, b: Rect) -> u32
     requires { a.x1 + 1 ≤ 4294967295 }
     ensures { result ≡ shared_columns a b }
 {
-    let end = min_u32(a.x1, b.x1) + 1;
-    let start = max_u32(a.x0, b.x0);
-    if end < start { 0 } else { end - start }
+    let end = a.x1.min(b.x1) + 1;
+    let start = a.x0.max(b.x0);
+    end.saturating_sub(start)
 }
 
 // Whether two lines share at least one column and at least `overlap` times the narrower width.
@@ -98,7 +85,7 @@ fn overlaps(overlap: f64, a: Rect, b: Rect) -> bool
     ensures { result ≡ overlapping overlap a b }
 {
     let shared = shared_columns(a, b);
-    let narrow = min_u32(a.width(), b.width());
+    let narrow = a.width().min(b.width());
     (0 < shared) & (overlap * (narrow as f64) <= shared as f64)
 }
 
@@ -116,96 +103,11 @@ fn nearer(nearest: u32, gap: u32, overlap: f64, a: Rect, b: Rect) -> u32
     nearest
 }
 
-// The least gap from line i to a candidate after it; h, the frame's height, where there is none. The lines go by y0, so that past a
-// gap above the cap all are.
-fn nearest_gap(lines: &[u32], n: usize, i: usize, overlap: f64, cap: u32, h: u32) -> u32
-    requires { ((w : ℕ) × Lines w h n lines.now × (w ≤ 4294967295)) × ByTop n lines.now × (i < n) }
-    ensures { result ≡ least_with h (candidate_gaps overlap cap (line_box lines.now i) (drop (i + 1) (line_boxes lines.now n))) }
-{
-    let a = line_box(lines, i);
-    let mut nearest = h;
-    let mut j = i + 1;
-    while j < n {
-        let b = line_box(lines, j);
-        let gap = line_gap(a, b);
-        if cap < gap {
-            return nearest;
-        }
-        nearest = nearer(nearest, gap, overlap, a, b);
-        j += 1;
-    }
-    nearest
-}
-
 // The limits of the gaps between lines: of candidates, and within a block.
-#[derive(Clone, Copy)]
+#[derive(Clone, Copy, Debug, PartialEq, Eq)]
 pub struct GapLimits {
     pub cap: u32,
     pub most: u32,
-}
-
-// Both limits for n lines of a frame h high.
-fn gap_limits(lines: &[u32], n: usize, sheet: LayoutParams, h: u32, table: &mut [u32]) -> GapLimits
-    requires { ((w : ℕ) × Lines w h n lines.now × (w ≤ 4294967295)) × ByTop n lines.now × (n ≤ 4294967295) × (h < 4294967295) × (h + 1 ≤ length table.old) }
-    ensures { (result.cap ≡ hard_cap sheet (line_boxes lines.now n)) × (result.most ≡ max_gap sheet (line_boxes lines.now n)) }
-{
-    let height = line_height(lines, n, h, table) as f64;
-    let cap = rounding::round_to_u32(sheet.block_max_gap_lines * height);
-    let overlap = sheet.block_min_overlap;
-    let typical = typical_gap(lines, n, overlap, cap, h, table) as f64;
-    let most = rounding::round_to_u32(typical + sheet.block_gap_margin_lines * height);
-    GapLimits { cap, most }
-}
-
-// The median height of the lines' boxes.
-fn line_height(lines: &[u32], n: usize, h: u32, table: &mut [u32]) -> u32
-    requires { ((w : ℕ) × Lines w h n lines.now) × (n ≤ 4294967295) × (h < 4294967295) × (h + 1 ≤ length table.old) }
-    ensures { result ≡ median (map height (line_boxes lines.now n)) }
-{
-    count_heights(lines, n, h, table);
-    let values = (h as usize) + 1;
-    median_of_counts(&table[..values], n as u32)
-}
-
-// Counts the heights of the lines, 1 to h.
-fn count_heights(lines: &[u32], n: usize, h: u32, table: &mut [u32])
-    requires { ((w : ℕ) × Lines w h n lines.now) × (n ≤ 4294967295) × (h < 4294967295) × (h + 1 ≤ length table.old) }
-    ensures { table.new ≡ over (counts (map height (line_boxes lines.now n)) (h + 1)) table.old }
-{
-    fill_words(&mut table[0..(h as usize) + 1], 0);
-    let mut i = 0;
-    while i < n {
-        let v = wide(line_box(lines, i).height());
-        table[v] = table[v] + 1;
-        i += 1;
-    }
-}
-
-// The median of the gaps of the lines to their nearest candidates.
-fn typical_gap(lines: &[u32], n: usize, overlap: f64, cap: u32, h: u32, table: &mut [u32]) -> u32
-    requires { ((w : ℕ) × Lines w h n lines.now × (w ≤ 4294967295)) × ByTop n lines.now × (n ≤ 4294967295) × (h ≤ length table.old) }
-    ensures { result ≡ median (nearest_gaps overlap cap (line_boxes lines.now n)) }
-{
-    let found = count_gaps(lines, n, overlap, cap, h, table);
-    let values = h as usize;
-    median_of_counts(&table[..values], found)
-}
-
-// Counts the gap of each line to its nearest candidate, all below h; answers how many lines have one.
-fn count_gaps(lines: &[u32], n: usize, overlap: f64, cap: u32, h: u32, table: &mut [u32]) -> u32
-    requires { ((w : ℕ) × Lines w h n lines.now × (w ≤ 4294967295)) × ByTop n lines.now × (n ≤ 4294967295) × (h ≤ length table.old) }
-    ensures { (result ≡ length (nearest_gaps overlap cap (line_boxes lines.now n)))
-        × (table.new ≡ over (counts (nearest_gaps overlap cap (line_boxes lines.now n)) h) table.old) }
-{
-    fill_words(&mut table[0..h as usize], 0);
-    let mut found = 0;
-    let mut i = 0;
-    while i < n {
-        let gap = nearest_gap(lines, n, i, overlap, cap, h);
-        found = found + count_below(table, h, gap);
-        i += 1;
-    }
-    found
 }
 
 // Each line is its own parent.
@@ -213,43 +115,134 @@ fn own_parents(parents: &mut [u32], n: usize)
     requires { (n ≤ length parents.old) × (n ≤ 4294967295) }
     ensures { parents.new ≡ over (table (λ (k : ℕ). k) n) parents.old }
 {
-    let mut i = 0;
-    while i < n {
+    for i in 0..n {
         parents[i] = i as u32;
-        i += 1;
     }
 }
 
-// Gives the n lines parents that lead each to the first line of its block: lines with a gap of at most `limit` that overlap belong
-// together.
-fn join_lines(lines: &[u32], n: usize, overlap: f64, limit: u32, parents: &mut [u32])
-    requires { ((w h : ℕ) × Lines w h n lines.now × (w ≤ 4294967295) × (h ≤ 4294967295)) × ByTop n lines.now × (n ≤ 4294967295) × (n ≤ length parents.old) }
-    ensures { Forest (first_of (firsts (joins overlap limit lines.now) n)) parents.new n }
-{
-    own_parents(parents, n);
-    let mut i = 0;
-    while i < n {
-        join_after(lines, n, overlap, limit, i, parents);
-        i += 1;
-    }
+// The text lines of a frame h high: n records at the front of the words, which go by y0.
+#[derive(Clone, Copy)]
+struct TextLines<'a> {
+    words: &'a [u32],
+    n: usize,
+    sheet: LayoutParams,
+    h: u32,
 }
 
-// Joins line i with the lines after it that belong together with it. Past a gap above the limit there are none.
-fn join_after(lines: &[u32], n: usize, overlap: f64, limit: u32, i: usize, parents: &mut [u32])
-    requires { ((w h : ℕ) × Lines w h n lines.now × (w ≤ 4294967295) × (h ≤ 4294967295)) × ByTop n lines.now × (n ≤ 4294967295) × (i < n) × Joined (joins overlap limit lines.now) n parents.old i (i + 1) }
-    ensures { Joined (joins overlap limit lines.now) n parents.new (i + 1) (i + 1 + 1) }
-{
-    let a = line_box(lines, i);
-    let mut root = find(parents, i);
-    let mut j = i + 1;
-    while j < n {
-        let b = line_box(lines, j);
-        if limit < line_gap(a, b) {
-            return;
+impl<'a> TextLines<'a> {
+    // The number of the block of each line, in the first n words of scratch.
+    fn number_lines(&self, scratch: &mut [u32])
+        requires { Groupable self.now.n self.now.h self.now.words.now (length scratch.old) }
+        ensures { (k : ℕ) → k < self.now.n → get_or scratch.new k 0 ≡ block_number (block_firsts self.now.sheet (line_boxes self.now.words.now self.now.n)) k }
+    {
+        let limits = self.gap_limits(scratch);
+        let limit = limits.cap.min(limits.most);
+        self.join_lines(limit, scratch);
+        number_blocks(scratch, self.n);
+    }
+
+    // The least gap from line i to a candidate after it; h, the frame's height, where there is none. The lines go by y0, so that past a
+    // gap above the cap all are.
+    fn nearest_gap(&self, i: usize, cap: u32) -> u32
+        requires { ((w : ℕ) × Lines w self.now.h self.now.n self.now.words.now × (w ≤ 4294967295)) × ByTop self.now.n self.now.words.now × (i < self.now.n) }
+        ensures { result ≡ least_with self.now.h (candidate_gaps self.now.sheet.block_min_overlap cap (line_box self.now.words.now i) (drop (i + 1) (line_boxes self.now.words.now self.now.n))) }
+    {
+        let a = line_box(self.words, i);
+        let mut nearest = self.h;
+        for j in i + 1..self.n {
+            let b = line_box(self.words, j);
+            let gap = line_gap(a, b);
+            if cap < gap {
+                return nearest;
+            }
+            nearest = nearer(nearest, gap, self.sheet.block_min_overlap, a, b);
         }
-        if overlaps(overlap, a, b) {
-            root = unite(parents, root, j);
+        nearest
+    }
+
+    // Both limits for n lines of a frame h high.
+    fn gap_limits(&self, table: &mut [u32]) -> GapLimits
+        requires { ((w : ℕ) × Lines w self.now.h self.now.n self.now.words.now × (w ≤ 4294967295)) × ByTop self.now.n self.now.words.now × (self.now.n ≤ 4294967295) × (self.now.h < 4294967295) × (self.now.h + 1 ≤ length table.old) }
+        ensures { (result.cap ≡ hard_cap self.now.sheet (line_boxes self.now.words.now self.now.n)) × (result.most ≡ max_gap self.now.sheet (line_boxes self.now.words.now self.now.n)) }
+    {
+        let height = self.line_height(table) as f64;
+        let cap = rounding::round_to_u32(self.sheet.block_max_gap_lines * height);
+        let typical = self.typical_gap(cap, table) as f64;
+        let most = rounding::round_to_u32(typical + self.sheet.block_gap_margin_lines * height);
+        GapLimits { cap, most }
+    }
+
+    // The median height of the lines' boxes.
+    fn line_height(&self, table: &mut [u32]) -> u32
+        requires { ((w : ℕ) × Lines w self.now.h self.now.n self.now.words.now) × (self.now.n ≤ 4294967295) × (self.now.h < 4294967295) × (self.now.h + 1 ≤ length table.old) }
+        ensures { result ≡ median (map height (line_boxes self.now.words.now self.now.n)) }
+    {
+        self.count_heights(table);
+        let values = (self.h as usize) + 1;
+        median_of_counts(&table[..values], self.n as u32)
+    }
+
+    // Counts the heights of the lines, 1 to h.
+    fn count_heights(&self, table: &mut [u32])
+        requires { ((w : ℕ) × Lines w self.now.h self.now.n self.now.words.now) × (self.now.n ≤ 4294967295) × (self.now.h < 4294967295) × (self.now.h + 1 ≤ length table.old) }
+        ensures { table.new ≡ over (counts (map height (line_boxes self.now.words.now self.now.n)) (self.now.h + 1)) table.old }
+    {
+        let values = (self.h as usize) + 1;
+        count_values(|i| line_box(self.words, i).height(), self.n, table, values);
+    }
+
+    // The median of the gaps of the lines to their nearest candidates.
+    fn typical_gap(&self, cap: u32, table: &mut [u32]) -> u32
+        requires { ((w : ℕ) × Lines w self.now.h self.now.n self.now.words.now × (w ≤ 4294967295)) × ByTop self.now.n self.now.words.now × (self.now.n ≤ 4294967295) × (self.now.h ≤ length table.old) }
+        ensures { result ≡ median (nearest_gaps self.now.sheet.block_min_overlap cap (line_boxes self.now.words.now self.now.n)) }
+    {
+        let found = self.count_gaps(cap, table);
+        let values = self.h as usize;
+        median_of_counts(&table[..values], found)
+    }
+
+    // Counts the gap of each line to its nearest candidate, all below h; answers how many lines have one.
+    fn count_gaps(&self, cap: u32, table: &mut [u32]) -> u32
+        requires { ((w : ℕ) × Lines w self.now.h self.now.n self.now.words.now × (w ≤ 4294967295)) × ByTop self.now.n self.now.words.now × (self.now.n ≤ 4294967295) × (self.now.h ≤ length table.old) }
+        ensures { (result ≡ length (nearest_gaps self.now.sheet.block_min_overlap cap (line_boxes self.now.words.now self.now.n)))
+            × (table.new ≡ over (counts (nearest_gaps self.now.sheet.block_min_overlap cap (line_boxes self.now.words.now self.now.n)) self.now.h) table.old) }
+    {
+        fill_words(&mut table[0..self.h as usize], 0);
+        let mut found = 0;
+        for i in 0..self.n {
+            let gap = self.nearest_gap(i, cap);
+            found += count_below(table, self.h, gap);
         }
-        j += 1;
+        found
+    }
+
+    // Gives the n lines parents that lead each to the first line of its block: lines with a gap of at most `limit` that overlap belong
+    // together.
+    fn join_lines(&self, limit: u32, parents: &mut [u32])
+        requires { ((w h : ℕ) × Lines w h self.now.n self.now.words.now × (w ≤ 4294967295) × (h ≤ 4294967295)) × ByTop self.now.n self.now.words.now × (self.now.n ≤ 4294967295) × (self.now.n ≤ length parents.old) }
+        ensures { Forest (first_of (firsts (joins self.now.sheet.block_min_overlap limit self.now.words.now) self.now.n)) parents.new self.now.n }
+    {
+        own_parents(parents, self.n);
+        for i in 0..self.n {
+            self.join_after(limit, i, parents);
+        }
+    }
+
+    // Joins line i with the lines after it that belong together with it. Past a gap above the limit there are none.
+    fn join_after(&self, limit: u32, i: usize, parents: &mut [u32])
+        requires { ((w h : ℕ) × Lines w h self.now.n self.now.words.now × (w ≤ 4294967295) × (h ≤ 4294967295)) × ByTop self.now.n self.now.words.now × (self.now.n ≤ 4294967295) × (i < self.now.n) × Joined (joins self.now.sheet.block_min_overlap limit self.now.words.now) self.now.n parents.old i (i + 1) }
+        ensures { Joined (joins self.now.sheet.block_min_overlap limit self.now.words.now) self.now.n parents.new (i + 1) (i + 1 + 1) }
+    {
+        let a = line_box(self.words, i);
+        let mut root = find(parents, i);
+        for j in i + 1..self.n {
+            let b = line_box(self.words, j);
+            if limit < line_gap(a, b) {
+                return;
+            }
+            if overlaps(self.sheet.block_min_overlap, a, b) {
+                root = unite(parents, root, j);
+            }
+        }
     }
 }

@@ -11,11 +11,10 @@ ghost use Rattle.grouping.specs.stages.LineBoxes.{Lines, line_boxes};
 ghost use Rattle.grouping.specs.rules.BlockRecords.{column_record};
 
 use crate::counts::count_field;
-use memory::max_u32;
 use params::LayoutParams;
 
 // A column of the page: its first and its last frame column.
-#[derive(Clone, Copy)]
+#[derive(Clone, Copy, Debug, PartialEq, Eq)]
 pub struct Column {
     pub x0: u32,
     pub x1: u32,
@@ -60,13 +59,11 @@ fn sum_cover(counts: &mut [u32], w: usize) -> u32
 {
     let mut depth: u32 = 0;
     let mut busiest: u32 = 0;
-    let mut x = 0;
-    while x < w {
-        depth = depth + counts[x];
+    for x in 0..w {
+        depth += counts[x];
         counts[x] = depth;
-        busiest = max_u32(busiest, depth);
-        depth = depth - counts[w + x];
-        x += 1;
+        busiest = busiest.max(depth);
+        depth -= counts[w + x];
     }
     busiest
 }
@@ -85,12 +82,10 @@ fn write_columns(
         × (out.new ≡ over (encoded column_record (column_runs gap (keep (λ (x : ℕ). enough_cover frac busiest (get_or cover.now x 0)) (upto w)))) out.old) }
 {
     let mut n = 0;
-    let mut x = 0;
-    while x < w {
-        if enough_cover(frac, busiest, cover[x]) {
+    for (x, count) in cover[..w].iter().enumerate() {
+        if enough_cover(frac, busiest, *count) {
             n = put_column(out, n, x as u32, gap);
         }
-        x += 1;
     }
     n
 }

@@ -8,7 +8,6 @@ ghost use Rattle.grouping.specs.rules.Blocks.{opens_block, block_number};
 ghost use Rattle.grouping.specs.stages.Numbering.{NumberedOne, with_blocks};
 ghost use Rattle.smoothing.specs.rules.LineRecords.{line_words};
 
-use memory::wide;
 use smoothing::LINE_WORDS;
 
 // In place of the parent of each of the n lines, the number of its block; answers how many blocks there are.
@@ -18,10 +17,8 @@ pub fn number_blocks(parents: &mut [u32], n: usize) -> u32
         → (result ≡ count_if (opens_block fs) n) × (parents.new ≡ over (table (block_number fs) n) parents.old) }
 {
     let mut count: u32 = 0;
-    let mut i = 0;
-    while i < n {
+    for i in 0..n {
         count = number_one(parents, i, count);
-        i += 1;
     }
     count
 }
@@ -31,7 +28,7 @@ fn number_one(parents: &mut [u32], i: usize, count: u32) -> u32
     requires { (i < length parents.old) × (get_or parents.old i 0 ≤ i) × (count < 4294967295) }
     ensures { NumberedOne parents.old parents.new i count result }
 {
-    let parent = wide(parents[i]);
+    let parent = parents[i] as usize;
     if parent == i {
         parents[i] = count;
         return count + 1;
@@ -45,9 +42,7 @@ pub fn write_numbers(lines: &mut [u32], n: usize, numbers: &[u32])
     requires { (n * line_words ≤ length lines.old) × (n ≤ length numbers.now) }
     ensures { lines.new ≡ with_blocks (λ (k : ℕ). get_or numbers.now k 0) n lines.old }
 {
-    let mut i = 0;
-    while i < n {
-        lines[i * LINE_WORDS + 7] = numbers[i];
-        i += 1;
+    for (i, number) in numbers[..n].iter().enumerate() {
+        lines[i * LINE_WORDS + 7] = *number;
     }
 }

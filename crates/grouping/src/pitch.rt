@@ -7,7 +7,7 @@ ghost use Rattle.grouping.specs.rules.Readings.{twenty_of};
 ghost use Rattle.grouping.specs.rules.HeldLines.{centre_at, block_at, pitches_below};
 ghost use Rattle.grouping.specs.stages.Pitches.{walked_pitches, last_centre, PitchAdded, BlockedLines};
 
-use memory::{fill_words, wide};
+use memory::fill_words;
 use smoothing::LINE_WORDS;
 use sorting::median_of_counts;
 
@@ -43,13 +43,11 @@ fn count_pitches(lines: &[u32], n: usize, blocks: usize, values: usize, table: &
         × ((v : ℕ) → v < values → get_or table.new v 0 ≡ occurs v (walked_pitches (centre_at lines.now) (block_at lines.now) n)) }
 {
     let mut found: u32 = 0;
-    let mut i = 0;
-    while i < n {
+    for i in 0..n {
         let at = i * LINE_WORDS;
-        let b = wide(lines[at + 7]);
+        let b = lines[at + 7] as usize;
         let centre = lines[at + 1] + lines[at + 3];
-        found = found + add_pitch(table, values, b, centre);
-        i += 1;
+        found += add_pitch(table, values, b, centre);
     }
     found
 }
@@ -66,14 +64,7 @@ fn add_pitch(table: &mut [u32], values: usize, b: usize, centre: u32) -> u32
     if last == 0 {
         return 0;
     }
-    let d = wide(saturating_sub(here, last));
-    table[d] = table[d] + 1;
+    let d = here.saturating_sub(last) as usize;
+    table[d] += 1;
     1
-}
-
-// a - b, and 0 where that lies below 0.
-fn saturating_sub(a: u32, b: u32) -> u32
-    ensures { result ≡ a - b }
-{
-    if a < b { 0 } else { a - b }
 }

@@ -11,7 +11,7 @@ ghost use Rattle.grouping.specs.rules.BlockRecords.{block_words, block_record};
 ghost use Rattle.memory.specs.rules.Words.{put_at};
 
 use crate::block::line_box;
-use memory::{Rect, wide};
+use memory::{Rect, box_at, put_box};
 
 // The words of a block.
 pub const BLOCK_WORDS: usize = 5;
@@ -25,12 +25,9 @@ pub fn write_blocks(words: &mut [u32], n: usize, numbers: &[u32], at: usize) -> 
         → (result ≡ length (blocks_of (line_boxes words.old n) fs)) × (words.new ≡ put_at at (encoded block_record (blocks_of (line_boxes words.old n) fs)) words.old) }
 {
     let mut count = 0;
-    let mut i = 0;
-    while i < n {
-        let b = wide(numbers[i]);
+    for (i, b) in numbers[..n].iter().enumerate() {
         let line = line_box(&words[..], i);
-        count = add_line(line, b, count, &mut words[at..]);
-        i += 1;
+        count = add_line(line, *b as usize, count, &mut words[at..]);
     }
     count
 }
@@ -55,13 +52,7 @@ fn block_box(out: &[u32], b: usize) -> Rect
     requires { b * block_words + block_words ≤ length out.now }
     ensures { result ≡ block_box out.now b }
 {
-    let at = b * BLOCK_WORDS;
-    Rect {
-        x0: out[at],
-        y0: out[at + 1],
-        x1: out[at + 2],
-        y1: out[at + 3],
-    }
+    box_at(out, b * BLOCK_WORDS)
 }
 
 // The record of block b.
@@ -70,9 +61,6 @@ fn put_block(out: &mut [u32], b: usize, r: Rect, n: u32)
     ensures { out.new ≡ sets out.old (b * block_words) (block_fields r n) }
 {
     let at = b * BLOCK_WORDS;
-    out[at] = r.x0;
-    out[at + 1] = r.y0;
-    out[at + 2] = r.x1;
-    out[at + 3] = r.y1;
+    put_box(out, at, r);
     out[at + 4] = n;
 }

@@ -9,7 +9,7 @@ use crate::counts::count_field;
 use sorting::median_of_counts;
 
 // The twelve numbers, in the order in which the Rust puts them.
-#[derive(Clone, Copy)]
+#[derive(Clone, Copy, Debug, PartialEq)]
 pub struct Summary {
     pub xheight_px: f64,
     pub skew_deg_applied: f64,
@@ -26,7 +26,7 @@ pub struct Summary {
 }
 
 // What a segmentation has counted: the entries of its lists, the glyph dots, and the ink before the cut.
-#[derive(Clone, Copy)]
+#[derive(Clone, Copy, Debug, PartialEq, Eq)]
 pub struct Totals {
     pub glyphs: u32,
     pub lines: u32,

@@ -1,4 +1,5 @@
 -- The walk as the code has it: the parts that a row is lent as, and the walk with its next run.
+use Rattle.std.specs.Prelude.{◌≢◌}
 use mathlib.Core.Path.{◌≡◌, refl, sym, ap, ◌∙◌, subst}
 use mathlib.Core.List.{List}
 use mathlib.Core.Bool.{Bool, true, false, cond, ◌&&◌}
@@ -108,28 +109,29 @@ module _ {g : SmoothingInput} {s : List ℕ} {places : Places} {gap y : ℕ} {wa
       pub run_room : walk.passed - first < length (part_of s (places.numbers + first) (places.numbers + end))
       run_room = let n = numbers-length in omega arith
 
+      at : first + (walk.passed - first) ≡ walk.passed
+      at = omega arith
+
+      inside : first + (walk.passed - first) < end
+      inside = omega arith
+
+      -- a run of no glyph
+      pub other-pass : kind_of (part_of s (places.numbers + first) (places.numbers + end)) (part_of s places.kinds places.firsts) (walk.passed - first) ≢ glyph_kind
+          → PageWalk g s places gap y (record { passed = walk.passed + 1; smoothed = walk.smoothed; newest = walk.newest; last = walk.last })
+      other-pass e =
+          let h = R.high in
+          record {
+            gap_is = W.gap_is;
+            numbers_is = W.numbers_is;
+            smoothed_is = W.smoothed_is;
+            kinds_is = W.kinds_is;
+            firsts_is = W.firsts_is;
+            walked =
+                subst (λ k. RowWalk g s y k walk.smoothed walk.newest walk.last) (sym (add-one walk.passed))
+                (step_other g W.walked (omega arith) (subst (λ j. glyph_of g (start_at g j) ≡ false) at (other-read (walk.passed - first) inside e)));
+          }
+
       module _ {run : GlyphRun} (G : RunOfGlyph (part_of s (2 * first) (2 * end)) (part_of s (places.numbers + first) (places.numbers + end)) (part_of s places.kinds places.firsts) (walk.passed - first) run) where
-        at : first + (walk.passed - first) ≡ walk.passed
-        at = omega arith
-
-        inside : first + (walk.passed - first) < end
-        inside = omega arith
-
-        -- a run of no glyph
-        pub other-pass : run.number ≡ 0 → PageWalk g s places gap y (record { passed = walk.passed + 1; smoothed = walk.smoothed; newest = walk.newest; last = walk.last })
-        other-pass e =
-            let h = R.high in
-            record {
-              gap_is = W.gap_is;
-              numbers_is = W.numbers_is;
-              smoothed_is = W.smoothed_is;
-              kinds_is = W.kinds_is;
-              firsts_is = W.firsts_is;
-              walked =
-                  subst (λ k. RowWalk g s y k walk.smoothed walk.newest walk.last) (sym (add-one walk.passed))
-                  (step_other g W.walked (omega arith) (subst (λ j. glyph_of g (start_at g j) ≡ false) at (other-read (walk.passed - first) inside (G.other e))));
-            }
-
         pub glyph-at : 0 < run.number → GlyphAt g y walk.passed run
         glyph-at some =
             subst (λ j. GlyphAt g y j run) at

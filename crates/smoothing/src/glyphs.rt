@@ -7,7 +7,7 @@ ghost use Rattle.memory.specs.stages.Stored.{Stored};
 ghost use Rattle.sorting.specs.rules.Kinds.{glyph_kind};
 ghost use Rattle.smoothing.specs.stages.LineWords.{kind_word, first_number, LabelRoom, label_at, labels_at, CountRoom, glyph_fields, glyph_record_at, GlyphRoom, WrittenGlyph, WrittenGlyphs};
 
-use memory::{Rect, fill_words, wide};
+use memory::{Rect, fill_words, put_box};
 use sorting::{GLYPH, SIZE_WORDS, size_box};
 
 // The words of a glyph's record.
@@ -18,10 +18,8 @@ pub fn label_glyphs(words: &mut [u32], kinds: usize, count: usize, firsts: usize
     requires { LabelRoom kinds count firsts numbers words.old }
     ensures { Stored (λ (k : ℕ). kind_word (get_or words.old (kinds + k) 0) (first_number words.old firsts numbers k)) kinds count words.old words.new }
 {
-    let mut k = 0;
-    while k < count {
+    for k in 0..count {
         words[kinds + k] = labelled_kind(&words[..], kinds + k, firsts + k, numbers);
-        k += 1;
     }
 }
 
@@ -34,7 +32,7 @@ fn labelled_kind(words: &[u32], kind: usize, first: usize, numbers: usize) -> u3
     if words[kind] != GLYPH {
         return words[kind];
     }
-    let run = wide(words[first]);
+    let run = words[first] as usize;
     GLYPH + 8 * words[numbers + run]
 }
 
@@ -44,11 +42,9 @@ pub fn count_glyphs(words: &mut [u32], kinds: usize, count: usize, glyphs: usize
     ensures { Stored (λ (t : ℕ). occurs (suc t) (labels_at words.old kinds count)) glyphs smears words.old words.new }
 {
     fill_words(&mut words[glyphs..glyphs + smears], 0);
-    let mut k = 0;
-    while k < count {
-        let label = wide(words[kinds + k] / 8);
+    for k in 0..count {
+        let label = (words[kinds + k] / 8) as usize;
         count_label(words, glyphs, label);
-        k += 1;
     }
 }
 
@@ -59,7 +55,7 @@ fn count_label(words: &mut [u32], glyphs: usize, label: usize)
 {
     if 0 < label {
         let at = glyphs + (label - 1);
-        words[at] = words[at] + 1;
+        words[at] += 1;
     }
 }
 
@@ -77,10 +73,8 @@ pub fn write_glyphs(
     ensures { WrittenGlyphs sizes kinds count numbers words.now out.old out.new result }
 {
     let mut n = 0;
-    let mut k = 0;
-    while k < count {
+    for k in 0..count {
         n = write_glyph(words, sizes, kinds, k, numbers, out, n);
-        k += 1;
     }
     n
 }
@@ -98,7 +92,7 @@ fn write_glyph(
     requires { (sizes + k * 5 + 5 ≤ length words.now) × (kinds + k < length words.now) × (0 < label_at words.now kinds k → numbers + label_at words.now kinds k ≤ length words.now) × (n * 6 + 6 ≤ length out.old) }
     ensures { WrittenGlyph (label_at words.now kinds k) (glyph_record_at words.now sizes kinds numbers k) n out.old out.new result }
 {
-    let label = wide(words[kinds + k] / 8);
+    let label = (words[kinds + k] / 8) as usize;
     if label == 0 {
         return n;
     }
@@ -115,10 +109,7 @@ fn put_glyph(out: &mut [u32], n: usize, r: Rect, area: u32, line: u32)
     ensures { out.new ≡ sets out.old (n * 6) (glyph_fields r area line) }
 {
     let at = n * GLYPH_WORDS;
-    out[at] = r.x0;
-    out[at + 1] = r.y0;
-    out[at + 2] = r.x1;
-    out[at + 3] = r.y1;
+    put_box(out, at, r);
     out[at + 4] = area;
     out[at + 5] = line;
 }

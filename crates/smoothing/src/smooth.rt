@@ -1,16 +1,14 @@
 // Smoothing on the runs of rows: gaps between the glyph runs of a row are closed where they are small enough. The runs after the cut
 // and the numbers of their components lie in scratch; the smoothed runs go behind them.
-ghost use Rattle.std.specs.Prelude.{◌≡◌, true, cond, ◌&&◌, List, ℕ, ◌+◌, ◌-◌, ◌*◌, ◌≤◌, ◌<◌, length, set, ltb, leb};
-ghost use Rattle.smoothing.specs.stages.RowRuns.{SmoothRoom, SmoothLeft, SmoothingInput, PageWalk, row_start, RowEnd, RowOf, RowParts, RunOfGlyph, GlyphAt, RunAdded};
+ghost use Rattle.std.specs.Prelude.{◌≡◌, ◌≢◌, MatchOption, true, cond, ◌&&◌, List, ℕ, ◌+◌, ◌-◌, ◌*◌, ◌≤◌, ◌<◌, length, set, ltb, leb};
+ghost use Rattle.sorting.specs.rules.Kinds.{glyph_kind};
+ghost use Rattle.smoothing.specs.stages.RowRuns.{kind_of, SmoothRoom, SmoothLeft, SmoothingInput, PageWalk, row_start, RowEnd, RowOf, RowParts, RunOfGlyph, GlyphAt, RunAdded};
 
-use memory::{max_usize, wide};
-
-// The kind of a glyph.
-const GLYPH: u32 = 4;
+use sorting::GLYPH;
 
 // Where things stand in the words behind the runs: the numbers of their components, the smoothed runs of the page, the kinds of all
 // components and their words.
-#[derive(Clone, Copy)]
+#[derive(Clone, Copy, Debug, PartialEq, Eq)]
 pub struct Places {
     pub numbers: usize,
     pub smoothed: usize,
@@ -20,7 +18,7 @@ pub struct Places {
 
 // How far the walk has come: runs and smoothed runs of the page so far, the greatest number of a glyph among them, and the end of the
 // row's last glyph run, or 0 where there is none yet.
-#[derive(Clone, Copy)]
+#[derive(Clone, Copy, Debug, PartialEq, Eq)]
 pub struct Walk {
     pub passed: usize,
     pub smoothed: usize,
@@ -28,8 +26,8 @@ pub struct Walk {
     pub last: usize,
 }
 
-// A glyph run: the number of its component, its first dot and its end. A run of another component has number 0.
-#[derive(Clone, Copy)]
+// A glyph run: the number of its component, its first dot and its end.
+#[derive(Clone, Copy, Debug, PartialEq, Eq)]
 pub struct GlyphRun {
     pub number: usize,
     pub start: u32,
@@ -64,12 +62,10 @@ pub fn smooth_runs(
         last: 0,
     };
     let mut limit = 0;
-    let mut y = 0;
-    while y < h {
+    for _y in 0..h {
         limit += w;
         let end = row_end(&words[..], walk.passed, c, limit);
         walk = smooth_row(words, places, end, gap, walk);
-        y += 1;
     }
     walk.smoothed
 }
@@ -79,14 +75,12 @@ fn row_end(words: &[u32], first: usize, c: usize, limit: usize) -> usize
     requires { (first ≤ c) × (2 * c ≤ length words.now) }
     ensures { RowEnd words.now first c limit result }
 {
-    let mut end = first;
-    while end < c {
-        if limit <= wide(words[2 * end]) {
+    for end in first..c {
+        if limit <= words[2 * end] as usize {
             return end;
         }
-        end += 1;
     }
-    end
+    c
 }
 
 // The walk with the runs of one row, those up to run `end`.
@@ -96,13 +90,8 @@ fn smooth_row(words: &mut [u32], places: Places, end: usize, gap: usize, before:
         → PageWalk g words.new places gap y result) }
 {
     let first = before.passed;
-    let mut walk = Walk {
-        passed: first,
-        smoothed: before.smoothed,
-        newest: before.newest,
-        last: 0,
-    };
-    while walk.passed < end {
+    let mut walk = Walk { last: 0, ..before };
+    for _i in first..end {
         walk = smooth_run(words, places, first, end, gap, walk);
     }
     walk
@@ -135,35 +124,29 @@ fn smooth_run(
         &whole[kinds..firsts],
         walk.passed - first,
     );
-    if run.number == 0 {
-        return Walk {
+    match run {
+        Some(run) => smooth_glyph(words, places, gap, walk, run),
+        None => Walk {
             passed: walk.passed + 1,
-            smoothed: walk.smoothed,
-            newest: walk.newest,
-            last: walk.last,
-        };
+            ..walk
+        },
     }
-    smooth_glyph(words, places, gap, walk, run)
 }
 
-// Run j of a row, where the numbers of the row's runs and the kinds of all components tell that it is one of a glyph.
-fn glyph_run(row: &[u32], numbers: &[u32], kinds: &[u32], j: usize) -> GlyphRun
+// Run j of a row, if the numbers of the row's runs and the kinds of all components tell that it is one of a glyph.
+fn glyph_run(row: &[u32], numbers: &[u32], kinds: &[u32], j: usize) -> Option<GlyphRun>
     requires { RowParts row.now numbers.now kinds.now × (j < length numbers.now) }
-    ensures { RunOfGlyph row.now numbers.now kinds.now j result }
+    ensures { MatchOption result (kind_of numbers.now kinds.now j ≢ glyph_kind) (λ run. (0 < run.number) × RunOfGlyph row.now numbers.now kinds.now j run) }
 {
-    let number = wide(numbers[j]);
-    if kinds[number - 1] == GLYPH {
-        return GlyphRun {
-            number,
-            start: row[2 * j],
-            end: row[2 * j + 1],
-        };
+    let number = numbers[j] as usize;
+    if kinds[number - 1] != GLYPH {
+        return None;
     }
-    GlyphRun {
-        number: 0,
-        start: 0,
-        end: 0,
-    }
+    Some(GlyphRun {
+        number,
+        start: row[2 * j],
+        end: row[2 * j + 1],
+    })
 }
 
 // The walk with the next run of the row, one of a glyph.
@@ -175,14 +158,14 @@ fn smooth_glyph(words: &mut [u32], places: Places, gap: usize, walk: Walk, run: 
     let start = run.start;
     let end = run.end;
     let number = run.number;
-    let joins = joins_last(walk.last, wide(start), gap);
+    let joins = joins_last(walk.last, start as usize, gap);
     let smoothed = add_run(words, places.smoothed, walk.smoothed, start, end, joins);
     mark_first(words, places.firsts, walk.newest, number, smoothed);
     Walk {
         passed: walk.passed + 1,
         smoothed,
-        newest: max_usize(walk.newest, number),
-        last: wide(end),
+        newest: walk.newest.max(number),
+        last: end as usize,
     }
 }
 

@@ -4,11 +4,21 @@ use Rattle.memory.specs.rules.Limits.{max_page_side, max_frame_width, max_frame_
 use Rattle.memory.specs.declared.rect.Rect.{Rect}
 use Rattle.levelling.specs.rules.Frames.{Frame, frame_of, row_of, column_of}
 use Rattle.levelling.specs.declared.frame.Sides.{Sides}
-use Rattle.grouping.specs.rules.Readings.{in_box}
+use Rattle.grouping.specs.rules.Readings.{in_box, listed}
+use Rattle.grouping.specs.declared.spans.Page.{Page}
+use Rattle.grouping.specs.declared.dots.DotQuery.{DotQuery}
 
 -- the frame that these sides and shears are
 abbrev pub frame_by : Sides → List ℕ → List ℕ → Frame
 frame_by sides shear shear_x = frame_of sides.page_w sides.page_h shear shear_x sides.w sides.h
+
+-- the frame of a page
+abbrev pub page_frame : Page → Frame
+page_frame p = frame_by p.sides p.shear.now p.shear_x.now
+
+-- whether page dot i is one of those asked for
+abbrev pub asked : DotQuery → ℕ → Bool
+asked q = listed (page_frame q.page) q.kinds.now q.kind q.r
 
 -- whether the page dot in column c and row y has the kind k and its frame place lies in the box r
 abbrev pub listed_at : Frame → List ℕ → ℕ → Rect → ℕ → ℕ → Bool

@@ -1,5 +1,5 @@
 -- Lists of the glyphs with each label in the words of scratch, walks along them, and what writing the lines asks (01, part 7).
-use Rattle.std.specs.Prelude.{◌≡◌, List, [], ℕ, zero, suc, ◌+◌, ◌*◌, ◌-◌, ◌≤◌, ◌<◌, get_or, length, set}
+use Rattle.std.specs.Prelude.{◌≡◌, ◌≢◌, List, [], ℕ, zero, suc, ◌+◌, ◌*◌, ◌-◌, ◌≤◌, ◌<◌, get_or, length, set}
 use Rattle.memory.specs.rules.Lists.{table, occurs, total}
 use Rattle.memory.specs.rules.Limits.{max_capacity}
 use Rattle.memory.specs.rules.Rects.{height}
@@ -67,6 +67,15 @@ pub record HeightsRoom (p : LinePlaces) (first n : ℕ) (s : List ℕ) : Type 0 
 -- the counts of heights are those of this list
 pub record HeightCounts (p : LinePlaces) (l : List ℕ) (s : List ℕ) : Type 0 where
   pub each : (v : ℕ) → v < p.values → get_or s (p.heights + v) 0 ≡ occurs v l
+
+-- the height of the component met after i steps
+abbrev pub met_height : LinePlaces → ℕ → List ℕ → ℕ → ℕ
+met_height p first s i = height (size_box s p.sizes (met s p.nexts first i))
+
+-- f i v is the count of height v before step i of a walk, which changes that of one height alone
+pub record HeightSteps (p : LinePlaces) (first n : ℕ) (s : List ℕ) (f : ℕ → ℕ → ℕ) : Type 0 where
+  pub start : (v : ℕ) → v < p.values → get_or s (p.heights + v) 0 ≡ f 0 v
+  pub others : (i v : ℕ) → i < n → v ≢ met_height p first s i → f i v ≡ f (i + 1) v
 
 -- counts of heights, heads, nexts, and behind them sizes and labelled kinds of the components, with not too much ink for a word, and sizes
 -- and counts of glyphs of the smoothed components

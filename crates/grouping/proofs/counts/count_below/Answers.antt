@@ -1,14 +1,5 @@
-use Prim.Native.Nat.{◌<◌}
-use lib.ListN.{get_or}
-use Rattle.grouping.proofs.TableWords.{below-counted, below_left}
-use native.Mathlib.Omega.{arith}
+use Rattle.grouping.proofs.TableWords.{below-counted}
 use Rattle.grouping.proofs.counts.count_below.Goals as goal
 
-pub overflow_add-table : goal.overflow_add-table
-overflow_add-table c = let w : get_or c.args.table.now c.wide-at.result 0 < 4294967295 = rw c.wide-at.ensures (c.requires.1 c.if-v-m.true) in omega arith
-
 pub returns-then-v-m : goal.returns-then-v-m
-returns-then-v-m c = λ l s e. rw c.wide-at.ensures (below-counted l s c.args.table.now c.args.m c.args.v c.if-v-m.true e)
-
-pub returns : goal.returns
-returns c = λ l s e. below_left l s c.args.table.now c.args.m c.args.v c.if-v-m.false e
+returns-then-v-m c = λ l s e. below-counted l s c.args.table.now c.args.m c.args.v c.if-v-m.true e

@@ -1,25 +1,16 @@
+use Prim.Native.Nat.{◌+◌}
 use Rattle.grouping.specs.rules.Readings.{listed}
 use Rattle.grouping.specs.stages.Dots.{frame_by}
 use Rattle.grouping.proofs.DotLaws.{count_none, rows_start, rows_end}
 use Rattle.memory.proofs.PlaceLaws.{count-gap}
-use Rattle.grouping.proofs.SpanLaws.{sheared}
 use native.Mathlib.Omega.{arith}
 use Rattle.grouping.proofs.dots.count_dots.Goals as goal
-
-pub row_span-rows-requires : goal.row_span-rows-requires
-row_span-rows-requires c = sheared c.requires.0 c.requires.1
-
-pub overflow_add-end : goal.overflow_add-end
-overflow_add-end c = omega (arith, c.row_span-rows.ensures.last_inside, c.requires.0.page_high)
 
 pub loop-y-init : goal.loop-y-init
 loop-y-init c = ((let a = c.row_span-rows.ensures.first_inside in omega arith), count-gap (rows_start c.args.kinds.now c.args.kind c.row_span-rows.ensures c.requires.1.some_column) (count_none (listed (frame_by c.args.sides c.args.shear.now c.args.shear_x.now) c.args.kinds.now c.args.kind c.args.r)))
 
-pub count_row-n-requires : goal.count_row-n-requires
-count_row-n-requires c = (c.requires.0, c.requires.1, omega (arith, c.row_span-rows.ensures.last_inside), c.loop-y.invariant.1)
-
-pub loop-y-preserved : goal.loop-y-preserved
-loop-y-preserved c = (omega (arith, c.row_span-rows.ensures.last_inside), c.count_row-n.ensures)
-
 pub returns : goal.returns
 returns c = count-gap (rows_end c.args.kinds.now c.args.kind c.row_span-rows.ensures c.requires.1.some_column c.loop-y.y (omega arith) c.loop-y.invariant.0) c.loop-y.invariant.1
+
+pub returns-2 : goal.returns-2
+returns-2 c = count-gap (rows_end c.args.kinds.now c.args.kind c.row_span-rows.ensures c.requires.1.some_column (c.loop-y.y + 1) (omega arith) (omega arith)) c.count_row-n.ensures

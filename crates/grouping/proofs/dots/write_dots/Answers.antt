@@ -1,26 +1,17 @@
-use mathlib.Core.Path.{refl, ◌∙◌}
+use Prim.Native.Nat.{◌+◌}
+use mathlib.Core.Path.{refl}
 use Rattle.grouping.specs.rules.Readings.{listed}
 use Rattle.grouping.specs.stages.Dots.{frame_by}
 use Rattle.grouping.proofs.DotLaws.{count_none, dots-start, dots-gap, dots-all, rows_start, rows_end}
 use Rattle.memory.proofs.PlaceLaws.{count-gap}
-use Rattle.grouping.proofs.SpanLaws.{sheared}
 use native.Mathlib.Omega.{arith}
 use Rattle.grouping.proofs.dots.write_dots.Goals as goal
-
-pub row_span-rows-requires : goal.row_span-rows-requires
-row_span-rows-requires c = sheared c.requires.0 c.requires.1
-
-pub overflow_add-end : goal.overflow_add-end
-overflow_add-end c = omega (arith, c.row_span-rows.ensures.last_inside, c.requires.0.page_high)
 
 pub loop-y-init : goal.loop-y-init
 loop-y-init c = ((let a = c.row_span-rows.ensures.first_inside in omega arith), refl, count-gap (rows_start c.args.kinds.now c.args.kind c.row_span-rows.ensures c.requires.1.some_column) (count_none (listed (frame_by c.args.sides c.args.shear.now c.args.shear_x.now) c.args.kinds.now c.args.kind c.args.r)), dots-gap c.args.sides.page_w c.args.out.now c.args.out.now (rows_start c.args.kinds.now c.args.kind c.row_span-rows.ensures c.requires.1.some_column) (dots-start (frame_by c.args.sides c.args.shear.now c.args.shear_x.now) c.args.kinds.now c.args.kind c.args.r c.args.out.now))
 
-pub write_row-n-requires : goal.write_row-n-requires
-write_row-n-requires c = (c.requires.0, c.requires.1, omega (arith, c.row_span-rows.ensures.last_inside), c.loop-y.invariant.2, omega arith)
-
-pub loop-y-preserved : goal.loop-y-preserved
-loop-y-preserved c = (omega (arith, c.row_span-rows.ensures.last_inside), c.write_row-n.auto.out ∙ c.loop-y.invariant.1, c.write_row-n.ensures.0, c.write_row-n.ensures.1 c.args.out.now c.loop-y.invariant.3)
-
 pub returns : goal.returns
 returns c = (count-gap (rows_end c.args.kinds.now c.args.kind c.row_span-rows.ensures c.requires.1.some_column c.loop-y.y (omega arith) c.loop-y.invariant.0) c.loop-y.invariant.2, dots-all (frame_by c.args.sides c.args.shear.now c.args.shear_x.now) c.args.kinds.now c.args.kind c.args.r c.args.out.now c.loop-y.out (dots-gap c.args.sides.page_w c.args.out.now c.loop-y.out (rows_end c.args.kinds.now c.args.kind c.row_span-rows.ensures c.requires.1.some_column c.loop-y.y (omega arith) c.loop-y.invariant.0) c.loop-y.invariant.3))
+
+pub returns-2 : goal.returns-2
+returns-2 c = (count-gap (rows_end c.args.kinds.now c.args.kind c.row_span-rows.ensures c.requires.1.some_column (c.loop-y.y + 1) (omega arith) (omega arith)) c.write_row-n.ensures.0, dots-all (frame_by c.args.sides c.args.shear.now c.args.shear_x.now) c.args.kinds.now c.args.kind c.args.r c.args.out.now c.write_row-n.new.out (dots-gap c.args.sides.page_w c.args.out.now c.write_row-n.new.out (rows_end c.args.kinds.now c.args.kind c.row_span-rows.ensures c.requires.1.some_column (c.loop-y.y + 1) (omega arith) (omega arith)) (c.write_row-n.ensures.1 c.args.out.now c.loop-y.invariant.3)))

@@ -1,4 +1,4 @@
-use Prim.Native.Nat.{ℕ, ◌-◌, ◌≤◌}
+use Prim.Native.Nat.{ℕ, ◌≤◌}
 use mathlib.Core.Path.{◌≡◌}
 use mathlib.Core.List.{List}
 use lib.ListN.{length, drop}
@@ -8,7 +8,4 @@ use Rattle.grouping.proofs.NumberLaws.{Numbered}
 use Rattle.grouping.proofs.number.number_blocks.Given as goal
 
 abbrev pub invariant-loop-i : goal.invariant-loop-i
-invariant-loop-i l = (l.i ≤ l.n) × (length l.parents ≡ length l.initial.parents) × (l.count ≤ l.i) × (drop l.i l.parents ≡ drop l.i l.initial.parents) × ((fs : List ℕ) → Forest (first_of fs) l.initial.parents l.n → ((k : ℕ) → first_of fs k ≤ k) → Numbered fs l.initial.parents l.parents l.count l.i)
-
-abbrev pub decreases-loop-i : goal.decreases-loop-i
-decreases-loop-i l = l.n - l.i
+invariant-loop-i l = (length l.parents ≡ length l.initial.parents) × (l.count ≤ l.i) × (drop l.i l.parents ≡ drop l.i l.initial.parents) × ((fs : List ℕ) → Forest (first_of fs) l.initial.parents l.n → ((k : ℕ) → first_of fs k ≤ k) → Numbered fs l.initial.parents l.parents l.count l.i)

@@ -1,28 +1,20 @@
-use Rattle.memory.specs.rules.Lists.{occurs}
 use Rattle.grouping.specs.stages.Pitches.{walked_pitches, PitchAdded}
 use Rattle.memory.proofs.PlaceLaws.{occurs-length}
-use Prim.Native.Nat.{ℕ, ◌+◌, ◌<◌, zero-le}
-use mathlib.Core.Path.{◌≡◌, refl, ◌∙◌, subst}
-use lib.ListN.{length, get_or}
+use Prim.Native.Nat.{◌+◌}
+use mathlib.Core.Path.{refl, ◌∙◌, subst}
 use Rattle.grouping.specs.rules.HeldLines.{centre_at, block_at}
 use Rattle.grouping.proofs.PitchLaws.{walked_none, walked_more, walked-few}
 use native.Mathlib.Omega.{arith}
 use Rattle.grouping.proofs.pitch.count_pitches.Goals as goal
 
 pub loop-i-init : goal.loop-i-init
-loop-i-init c = (zero-le, refl, walked_none (centre_at c.args.lines.now) (block_at c.args.lines.now) c.args.values c.args.blocks c.args.table.now c.requires.3)
-
-pub overflow_add-centre-in-loop-i-2 : goal.overflow_add-centre-in-loop-i-2
-overflow_add-centre-in-loop-i-2 c = let e = (c.requires.0.1.centres c.loop-i.i (omega arith)) in omega (arith, c.requires.0.2)
+loop-i-init c = (refl, walked_none (centre_at c.args.lines.now) (block_at c.args.lines.now) c.args.values c.args.blocks c.args.table.now c.requires.3)
 
 pub add_pitch-found-requires : goal.add_pitch-found-requires
-add_pitch-found-requires c = let b = c.requires.0.1.blocks c.loop-i.i (omega arith) in let e = c.requires.0.1.centres c.loop-i.i (omega arith) in let w = c.loop-i.invariant.2 in let f = walked-few (centre_at c.args.lines.now) (block_at c.args.lines.now) c.loop-i.i in let g = w.found-is in (omega (arith, c.wide-b.ensures), omega (arith, c.requires.0.2), c.requires.2, λ k l. let o = w.each k l in let m = occurs-length k (walked_pitches (centre_at c.args.lines.now) (block_at c.args.lines.now) c.loop-i.i) in omega (arith, c.requires.0.1.few))
+add_pitch-found-requires c = let b = c.requires.0.1.blocks c.loop-i.i (omega arith) in let e = c.requires.0.1.centres c.loop-i.i (omega arith) in let w = c.loop-i.invariant.1 in let f = walked-few (centre_at c.args.lines.now) (block_at c.args.lines.now) c.loop-i.i in let g = w.found-is in (omega arith, omega (arith, c.requires.0.2), c.requires.2, λ k l. let o = w.each k l in let m = occurs-length k (walked_pitches (centre_at c.args.lines.now) (block_at c.args.lines.now) c.loop-i.i) in omega (arith, c.requires.0.1.few))
 
 pub overflow_add-found : goal.overflow_add-found
-overflow_add-found c = let m = walked_more (centre_at c.args.lines.now) (block_at c.args.lines.now) c.args.values c.args.blocks c.loop-i.table c.add_pitch-found.new.table c.loop-i.found c.loop-i.i c.add_pitch-found.result (c.requires.0.1.blocks c.loop-i.i (omega arith)) c.loop-i.invariant.2 (subst (λ b. PitchAdded c.args.values b (centre_at c.args.lines.now c.loop-i.i) c.loop-i.table c.add_pitch-found.new.table c.add_pitch-found.result) c.wide-b.ensures c.add_pitch-found.ensures) in let f = walked-few (centre_at c.args.lines.now) (block_at c.args.lines.now) (c.loop-i.i + 1) in let g = m.found-is in omega (arith, c.requires.0.1.few)
+overflow_add-found c = let m = walked_more (centre_at c.args.lines.now) (block_at c.args.lines.now) c.args.values c.args.blocks c.loop-i.table c.add_pitch-found.new.table c.loop-i.found c.loop-i.i c.add_pitch-found.result (c.requires.0.1.blocks c.loop-i.i (omega arith)) c.loop-i.invariant.1 (subst (λ b. PitchAdded c.args.values b (centre_at c.args.lines.now c.loop-i.i) c.loop-i.table c.add_pitch-found.new.table c.add_pitch-found.result) refl c.add_pitch-found.ensures) in let f = walked-few (centre_at c.args.lines.now) (block_at c.args.lines.now) (c.loop-i.i + 1) in let g = m.found-is in omega (arith, c.requires.0.1.few)
 
 pub loop-i-preserved : goal.loop-i-preserved
-loop-i-preserved c = (omega arith, c.add_pitch-found.auto.table ∙ c.loop-i.invariant.1, walked_more (centre_at c.args.lines.now) (block_at c.args.lines.now) c.args.values c.args.blocks c.loop-i.table c.add_pitch-found.new.table c.loop-i.found c.loop-i.i c.add_pitch-found.result (c.requires.0.1.blocks c.loop-i.i (omega arith)) c.loop-i.invariant.2 (subst (λ b. PitchAdded c.args.values b (centre_at c.args.lines.now c.loop-i.i) c.loop-i.table c.add_pitch-found.new.table c.add_pitch-found.result) c.wide-b.ensures c.add_pitch-found.ensures))
-
-pub returns : goal.returns
-returns c = let e : c.loop-i.i ≡ c.args.n = omega arith in subst (λ k. (c.loop-i.found ≡ length (walked_pitches (centre_at c.args.lines.now) (block_at c.args.lines.now) k)) × ((v : ℕ) → v < c.args.values → get_or c.loop-i.table v 0 ≡ occurs v (walked_pitches (centre_at c.args.lines.now) (block_at c.args.lines.now) k))) e (c.loop-i.invariant.2.found-is, c.loop-i.invariant.2.each)
+loop-i-preserved c = (c.add_pitch-found.auto.table ∙ c.loop-i.invariant.0, walked_more (centre_at c.args.lines.now) (block_at c.args.lines.now) c.args.values c.args.blocks c.loop-i.table c.add_pitch-found.new.table c.loop-i.found c.loop-i.i c.add_pitch-found.result (c.requires.0.1.blocks c.loop-i.i (omega arith)) c.loop-i.invariant.1 (subst (λ b. PitchAdded c.args.values b (centre_at c.args.lines.now c.loop-i.i) c.loop-i.table c.add_pitch-found.new.table c.add_pitch-found.result) refl c.add_pitch-found.ensures))

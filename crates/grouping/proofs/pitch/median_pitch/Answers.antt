@@ -1,9 +1,7 @@
 use borrow.Rule.Slice.PartMut.{put_mid}
 use Rattle.grouping.proofs.TableWords.{front-filled}
 use Prim.Native.Nat.{◌+◌, ◌-◌, ◌*◌}
-use mathlib.Core.Path.{refl, sym}
-use lib.ListN.{length-take}
-use lib.Seq.{length-take-le}
+use mathlib.Core.Path.{refl}
 use Rattle.grouping.specs.rules.HeldLines.{centre_at, block_at, pitches_below}
 use Rattle.grouping.proofs.CoverWords.{filled_at}
 use Rattle.grouping.proofs.PitchLaws.{pitch-counts, below-bound, median-at-most}
@@ -12,12 +10,6 @@ use Rattle.grouping.proofs.pitch.median_pitch.Goals as goal
 
 pub count_pitches-found-requires : goal.count_pitches-found-requires
 count_pitches-found-requires c = ((c.args.h, c.requires.0, refl), omega (arith, c.scratch-1.given.1), omega arith, filled_at (λ k. 0) ((2 * c.args.h) + c.args.blocks) (put_mid 0 (2 * c.args.h + c.args.blocks - 0) c.args.scratch.now c.fill_words.new.dst) c.args.scratch.now (front-filled 0 (2 * c.args.h + c.args.blocks) c.args.scratch.now _ (omega arith) c.fill_words.ensures))
-
-pub slice_bounds-median_of_counts-end-2 : goal.slice_bounds-median_of_counts-end-2
-slice_bounds-median_of_counts-end-2 c = sym (length-take-le (2 * c.args.h) c.count_pitches-found.new.table (omega (arith, c.scratch-1.given.1, c.count_pitches-found.auto.table)))
-
-pub median_of_counts-requires : goal.median_of_counts-requires
-median_of_counts-requires c = omega (arith, length-take (2 * c.args.h) c.count_pitches-found.new.table)
 
 pub returns : goal.returns
 returns c = let l = pitches_below (centre_at c.args.lines.now) (block_at c.args.lines.now) c.args.n c.args.blocks in

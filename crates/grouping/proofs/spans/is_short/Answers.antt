@@ -1,24 +1,19 @@
-use native.Mathlib.Omega.{arith}
-use Rattle.grouping.proofs.SpanLaws.{row_read, point, short-point}
+use Rattle.grouping.specs.stages.Dots.{is_short}
+use Rattle.grouping.proofs.SpanLaws.{short-same}
 use Rattle.grouping.proofs.spans.is_short.Goals as goal
 
-pub overflow_add-row : goal.overflow_add-row
-overflow_add-row c = let a = row_read c.requires.0 c.args.c c.args.y c.requires.1 c.requires.2 c.wide.ensures in omega arith
+pub returns-then-end-2 : goal.returns-then-end-2
+unfolding is_short
+returns-then-end-2 c = short-same c.args.end.r c.args.p.x c.args.p.y c.if-end-2.true c.if-end.true
 
-pub offset_bounds-shear_x-row : goal.offset_bounds-shear_x-row
-offset_bounds-shear_x-row c = let a = row_read c.requires.0 c.args.c c.args.y c.requires.1 c.requires.2 c.wide.ensures in omega arith
+pub returns-then-end : goal.returns-then-end
+unfolding is_short
+returns-then-end c = short-same c.args.end.r c.args.p.x c.args.p.y c.if-end-2.false c.if-end.true
 
-pub bounds-shear_x-row : goal.bounds-shear_x-row
-bounds-shear_x-row c = (row_read c.requires.0 c.args.c c.args.y c.requires.1 c.requires.2 c.wide.ensures).1
-
-pub overflow_add-column : goal.overflow_add-column
-overflow_add-column c = let a = (point c.requires.0 c.args.c c.args.y c.requires.1 c.requires.2 c.wide.ensures c.wide-2.ensures).column-low in omega arith
-
-pub overflow_cast-column : goal.overflow_cast-column
-overflow_cast-column c = let a = (point c.requires.0 c.args.c c.args.y c.requires.1 c.requires.2 c.wide.ensures c.wide-2.ensures).column-low in omega arith
-
-pub overflow_cast-row : goal.overflow_cast-row
-overflow_cast-row c = let a = (point c.requires.0 c.args.c c.args.y c.requires.1 c.requires.2 c.wide.ensures c.wide-2.ensures).row_low in omega arith
+pub returns-then-end-3 : goal.returns-then-end-3
+unfolding is_short
+returns-then-end-3 c = short-same c.args.end.r c.args.p.x c.args.p.y c.if-end-3.true c.if-end.false
 
 pub returns : goal.returns
-returns c = short-point c.args.end.r c.args.end.falls c.args.end.start (point c.requires.0 c.args.c c.args.y c.requires.1 c.requires.2 c.wide.ensures c.wide-2.ensures) c.point_short.ensures
+unfolding is_short
+returns c = short-same c.args.end.r c.args.p.x c.args.p.y c.if-end-3.false c.if-end.false

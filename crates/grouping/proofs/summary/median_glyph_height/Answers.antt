@@ -1,7 +1,6 @@
 use Prim.Native.Nat.{◌+◌, ◌*◌, ◌<◌}
-use mathlib.Core.Path.{sym, subst}
-use lib.ListN.{get_or, take, length-take}
-use lib.Seq.{length-take-le}
+use mathlib.Core.Path.{subst}
+use lib.ListN.{get_or, take}
 use Rattle.memory.proofs.TableLaws.{length-table}
 use Rattle.sorting.specs.stages.Counts.{CountsOf}
 use Rattle.smoothing.specs.rules.LineRecords.{line_words}
@@ -10,15 +9,6 @@ use Rattle.memory.proofs.ListLaws.{each-table}
 use Rattle.grouping.proofs.MedianWords.{counts_of}
 use native.Mathlib.Omega.{arith}
 use Rattle.grouping.proofs.summary.median_glyph_height.Goals as goal
-
-pub count_field-requires : goal.count_field-requires
-count_field-requires c = (c.requires.0, omega arith, c.requires.1, omega arith, λ i l. let e = c.requires.4 i l in omega arith)
-
-pub slice_bounds-median_of_counts-end-2 : goal.slice_bounds-median_of_counts-end-2
-slice_bounds-median_of_counts-end-2 c = sym (length-take-le (c.args.h + 1) c.count_field.new.table (omega (arith, c.count_field.auto.table)))
-
-pub median_of_counts-requires : goal.median_of_counts-requires
-median_of_counts-requires c = omega (arith, length-take (c.args.h + 1) c.count_field.new.table)
 
 pub returns : goal.returns
 returns c = let l = fields line_words 6 c.args.lines.now c.args.n in c.median_of_counts.ensures l (subst (λ k. CountsOf (take (c.args.h + 1) c.count_field.new.table) k l) (length-table (λ i. get_or c.args.lines.now (i * 8 + 6) 0) c.args.n) (counts_of l c.args.table.now c.count_field.new.table (c.args.h + 1) (each-table (λ a. a < c.args.h + 1) (λ i. get_or c.args.lines.now (i * 8 + 6) 0) c.args.n (λ i k. let e = c.requires.4 i k in omega arith)) c.count_field.ensures))

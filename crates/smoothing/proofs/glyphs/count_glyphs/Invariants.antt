@@ -1,10 +1,6 @@
-use Prim.Native.Nat.{◌-◌, ◌≤◌}
 use Rattle.memory.specs.stages.Stored.{Stored}
 use Rattle.smoothing.proofs.LabelCounts.{label_count}
 use Rattle.smoothing.proofs.glyphs.count_glyphs.Given as goal
 
 abbrev pub invariant-loop-k : goal.invariant-loop-k
-invariant-loop-k l = (l.k ≤ l.count) × Stored (label_count l.initial.words l.kinds l.k) l.glyphs l.smears l.initial.words l.words
-
-abbrev pub decreases-loop-k : goal.decreases-loop-k
-decreases-loop-k l = l.count - l.k
+invariant-loop-k l = Stored (label_count l.initial.words l.kinds l.k) l.glyphs l.smears l.initial.words l.words

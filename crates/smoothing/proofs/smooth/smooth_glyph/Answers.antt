@@ -1,19 +1,16 @@
-use mathlib.Core.Path.{refl, ap, ◌∙◌}
+use mathlib.Core.Path.{refl}
 use native.Mathlib.Omega.{arith}
-use mathlib.Core.Bool.{◌&&◌}
-use Prim.Native.Nat.{◌-◌}
-use lib.Dec.{ltb, leb}
 use Rattle.smoothing.proofs.PageWalkLaws.{last-low, add-fits, joined-some, mark-fits, glyph-pass}
 use Rattle.smoothing.proofs.smooth.smooth_glyph.Goals as goal
 
 pub joins_last-joins-requires : goal.joins_last-joins-requires
-joins_last-joins-requires c = let p = c.requires in let h = last-low p.2 p.3 in let e = c.wide.ensures in omega arith
+joins_last-joins-requires c = let p = c.requires in let h = last-low p.2 p.3 in omega arith
 
 pub add_run-smoothed-requires : goal.add_run-smoothed-requires
-add_run-smoothed-requires c = let p = c.requires in (add-fits p.2 p.3, joined-some p.2 p.3 c.joins_last-joins.result (c.joins_last-joins.ensures ∙ ap (λ z. ltb 0 c.args.walk.last && leb (z - c.args.walk.last) c.args.gap) c.wide.ensures))
+add_run-smoothed-requires c = let p = c.requires in (add-fits p.2 p.3, joined-some p.2 p.3 c.joins_last-joins.result c.joins_last-joins.ensures)
 
 pub mark_first-requires : goal.mark_first-requires
-mark_first-requires c = let p = c.requires in mark-fits p.2 p.3 (c.joins_last-joins.ensures ∙ ap (λ z. ltb 0 c.args.walk.last && leb (z - c.args.walk.last) c.args.gap) c.wide.ensures) c.add_run-smoothed.ensures
+mark_first-requires c = let p = c.requires in mark-fits p.2 p.3 c.joins_last-joins.ensures c.add_run-smoothed.ensures
 
 pub returns : goal.returns
-returns c = (refl, λ g y W A. glyph-pass W A (c.joins_last-joins.ensures ∙ ap (λ z. ltb 0 c.args.walk.last && leb (z - c.args.walk.last) c.args.gap) c.wide.ensures) c.add_run-smoothed.ensures c.max_usize.result c.wide-2.result c.wide-2.ensures c.max_usize.ensures c.mark_first.ensures)
+returns c = (refl, λ g y W A. glyph-pass W A c.joins_last-joins.ensures c.add_run-smoothed.ensures c.max.result c.args.run.end refl c.max.ensures c.mark_first.ensures)

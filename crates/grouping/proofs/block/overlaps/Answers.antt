@@ -1,4 +1,0 @@
-use Rattle.grouping.proofs.block.overlaps.Goals as goal
-
-pub returns : goal.returns
-returns c = rw (c.min_u32-narrow.ensures, c.width.ensures, c.width-2.ensures, c.shared_columns-shared.ensures)
