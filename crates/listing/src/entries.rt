@@ -54,7 +54,7 @@ pub fn entries_at(words: &[u32], at: usize, kind: usize, n: u32) -> &[u32]
 }
 
 // How many entries a kind has, and the two kinds after it.
-#[derive(Clone, Copy)]
+#[derive(Clone, Copy, Debug, PartialEq, Eq)]
 pub struct ThreeCounts {
     pub first: u32,
     pub second: u32,

@@ -58,7 +58,7 @@ pub fn sheet_length(figures: &[u32]) -> usize
 }
 
 // The sides of a frame and of its page.
-#[derive(Clone, Copy)]
+#[derive(Clone, Copy, Debug, PartialEq, Eq)]
 pub struct SheetSides {
     pub w: u32,
     pub h: u32,
