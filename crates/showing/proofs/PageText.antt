@@ -19,6 +19,7 @@ use Rattle.showing.specs.rules.Inputs.{is_digit, digit_value, number_at, width_o
 use Rattle.showing.specs.declared.input.Parsed.TheVariants.{Page}
 use Rattle.listing.proofs.DigitLaws.{length-hex}
 use Rattle.listing.proofs.TextLaws.{length-joined}
+use Rattle.showing.proofs.ReadLaws.{every-all}
 use Rattle.showing.proofs.InputLaws.{row_of, column-of}
 use Rattle.showing.proofs.InputText.{hex-snoc, sixteen}
 
@@ -73,12 +74,6 @@ module _ (s : List ℕ) (at : ℕ) where
           ap (λ k. is_digit (get_or s (at + k) 0)) q
           ∙ (ap is_digit (last-is s (hex n (v / 16)) at n (digit_of (v % 16)) (length-hex n (v / 16)) f) ∙ digit-is (v % 16) (omega arith))
       go ih (no ne) = ih (front-is s (hex n (v / 16)) at n (digit_of (v % 16)) (length-hex n (v / 16)) f) i (omega arith)
-
--- ---- tests
-every-all : (p : ℕ → Bool) (n : ℕ) → ((i : ℕ) → i < n → p i ≡ true) → every p n ≡ true
-unfolding every
-every-all p zero h = refl
-every-all p (suc n) h = rw (every-all p n (λ i l. h i (omega arith)), h n (le_refl (suc n)))
 
 -- ---- texts of one length, one after the other
 joined_at : (f : ℕ → List ℕ) (k h y : ℕ) → ((i : ℕ) → length (f i) ≡ k) → y < h → take k (drop (y * k) (joined f h)) ≡ f y
