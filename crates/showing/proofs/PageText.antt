@@ -15,8 +15,8 @@ use Rattle.memory.specs.rules.Lists.{table}
 use Rattle.memory.proofs.TableLaws.{get_or-table, length-table}
 use Rattle.listing.specs.rules.Digits.{digit_of, hex, joined, line_feed}
 use Rattle.judging.specs.rules.Spoiled.{every}
-use Rattle.showing.specs.rules.Inputs.{is_digit, digit_value, number_at, width_of, height_of, skew_of, slope_of, rows_at, row_digits, row_at, row_number, row_dot, row_good, head_good, sides_good, well_made, dot_at, dots_in, parsed, mask_of, dots_number, row_text, page_text}
-use Rattle.showing.specs.declared.input.Parsed.TheVariants.{Page}
+use Rattle.showing.specs.rules.Inputs.{is_digit, digit_value, number_at, width_of, height_of, skew_of, slope_of, rows_at, row_digits, row_at, row_number, row_dot, row_good, head_good, sides_good, well_made, dot_at, dots_in, page_of, parsed, mask_of, dots_number, row_text, page_text}
+use Rattle.std.specs.Prelude.{Some}
 use Rattle.listing.proofs.DigitLaws.{length-hex}
 use Rattle.listing.proofs.TextLaws.{length-joined}
 use Rattle.showing.proofs.ReadLaws.{every-all}
@@ -262,9 +262,9 @@ module _ (w h skew slope : ℕ) (m : List ℕ) (narrow : w ≤ 16) (low : h ≤ 
   text-well-made =
       (λ i. (head-is i && sides-is i) && every (row_good text (width_is i)) (height-is i)) ∙ every-all (row_good text w) h row-good
 
-  pub text-parsed : parsed text ≡ Page w h skew slope
+  pub text-parsed : parsed text ≡ Some (page_of w h skew slope)
   unfolding parsed
-  text-parsed = rw text-well-made (λ i. Page (width_is i) (height-is i) (skew-is i) (slope-is i))
+  text-parsed = rw text-well-made (λ i. Some (page_of (width_is i) (height-is i) (skew-is i) (slope-is i)))
 
   pub text-mask : length m ≡ w * h → mask_of text ≡ m
   unfolding mask_of
