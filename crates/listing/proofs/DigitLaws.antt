@@ -1,48 +1,29 @@
 -- Digits of a number: the two of a pair, and a number written from its last digits on.
 use mathlib.Core.Path.{◌≡◌, refl, sym, ap, ◌∙◌}
-use mathlib.Core.Bool.{Bool, true, false, cond}
 use mathlib.Core.List.{List, [], ◌∷◌, ◌++◌, append_assoc, append-nil}
-use Prim.Native.Nat.{ℕ, zero, suc, ◌+◌, ◌-◌, ◌/◌, ◌%◌, ◌^◌, ◌≤◌, ◌<◌}
+use Prim.Native.Nat.{ℕ, zero, suc, ◌+◌, ◌-◌, ◌*◌, ◌/◌, ◌%◌, ◌^◌, ◌≤◌, ◌<◌}
 use native.Mathlib.Nat.{div-div-eq-div-mul, pow-suc}
 use native.Mathlib.Omega.{arith}
-use borrow.Author.Tests.{ltb-true}
-use lib.Dec.{ltb}
 use lib.ListN.{length, get_or, take, drop, set, take-append-drop}
 use lib.Seq.{take-suc, set_at, length-take-le, drop-drop}
 use Rattle.memory.specs.rules.Words.{put_at}
 use Rattle.listing.specs.rules.Digits.{digit_of, hex}
-use Rattle.listing.specs.stages.Pairs.{pair_of}
-
-pub digit-small : (d : ℕ) → d < 16 → digit_of d ≤ 70
-unfolding digit_of
-digit-small d h = go (ltb d 10) refl
-  where
-    go : (b : Bool) → ltb d 10 ≡ b → cond b (48 + d) (55 + d) ≤ 70
-    go true e = let l = ltb-true d 10 e in omega arith
-    go false e = omega arith
 
 pub length-hex : (n v : ℕ) → length (hex n v) ≡ n
 unfolding hex
 length-hex zero v = refl
 length-hex (suc n) v = ap suc (length-hex n v)
 
--- the digits of a pair
-pub pair-low : (n p : ℕ) → p ≡ pair_of n → p % 256 ≡ digit_of (n % 16)
-pair-low n p e = let s = digit-small (n % 16) (omega arith) in omega arith
-
-pub pair-high : (n p : ℕ) → p ≡ pair_of n → p / 256 ≡ digit_of (n / 16)
-pair-high n p e = let s = digit-small (n % 16) (omega arith) in omega arith
-
 -- what is left of a number after k digits, and one more
 pub next-quotient : (v k : ℕ) → v / 16 ^ suc k ≡ v / 16 ^ k / 16
 next-quotient v k = ap (λ z. v / z) (pow-suc 16 k) ∙ sym (div-div-eq-div-mul v (16 ^ k) 16)
 
-pub two-quotients : (v q k : ℕ) → q ≡ v / 16 ^ k → q / 256 ≡ v / 16 ^ (k + 2)
+pub two-quotients : (v q k : ℕ) → q ≡ v / 16 ^ (2 * k) → q / 256 ≡ v / 16 ^ (2 * (k + 1))
 two-quotients v q k e =
-    let a = next-quotient v k in
-    let b = next-quotient v (suc k) in
-    let s : k + 2 ≡ suc (suc k) = omega arith in
-    rw s (let r : q / 256 ≡ v / 16 ^ suc (suc k) = omega arith in r)
+    let a = next-quotient v (2 * k) in
+    let b = next-quotient v (suc (2 * k)) in
+    let s : 2 * (k + 1) ≡ suc (suc (2 * k)) = omega arith in
+    rw s (let r : q / 256 ≡ v / 16 ^ suc (suc (2 * k)) = omega arith in r)
 
 -- one more byte in front of those that are written
 back : (s out t r : List ℕ) (p d : ℕ) → p < length s → out ≡ take (suc p) s ++ t ++ r → set out p d ≡ take p s ++ (d ∷ t) ++ r
@@ -68,18 +49,19 @@ one-digit s out at digits done value p d room more place is w =
     ∙ (λ i. take (k i) s ++ (is i ∷ hex done value) ++ drop (at + digits) s)
 
 -- a pair is stored
-pub pair_step : (s out : List ℕ) (at digits done v value p : ℕ) → at + digits ≤ length s → 1 < digits - done → v ≡ value / 16 ^ done → p ≡ pair_of (v % 256)
-    → Written s at digits done value out
-    → Written s at digits (done + 2) value (set (set out (at + (digits - done) - 1) (p % 256)) (at + (digits - done) - 2) (p / 256))
-pair_step s out at digits done v value p room more q e w =
-    let last = at + (digits - done) in
+pub pair_step : (s out : List ℕ) (at digits k v value high low : ℕ) → at + digits ≤ length s → k < digits / 2 → v ≡ value / 16 ^ (2 * k)
+    → high ≡ digit_of (v % 256 / 16) → low ≡ digit_of (v % 256 % 16) → Written s at digits (2 * k) value out
+    → Written s at digits (2 * (k + 1)) value (set (set out (at + digits - 2 * k - 1) low) (at + digits - 2 * k - 2) high)
+pair_step s out at digits k v value high low room more q h l w =
+    let done = 2 * k in
+    let end = at + digits - done in
     let a = next-quotient value done in
-    let n : done + 2 ≡ suc (suc done) = omega arith in
-    let low : p % 256 ≡ digit_of (value / 16 ^ done % 16) = pair-low (v % 256) p e ∙ ap digit_of (omega arith) in
-    let high : p / 256 ≡ digit_of (value / 16 ^ suc done % 16) = pair-high (v % 256) p e ∙ ap digit_of (omega arith) in
+    let n : 2 * (k + 1) ≡ suc (suc done) = omega arith in
+    let low' : low ≡ digit_of (value / 16 ^ done % 16) = l ∙ ap digit_of (omega arith) in
+    let high' : high ≡ digit_of (value / 16 ^ suc done % 16) = h ∙ ap digit_of (omega arith) in
     rw n
-    (one-digit s (set out (last - 1) (p % 256)) at digits (suc done) value (last - 2) (p / 256) room (omega arith) (omega arith) high
-    (one-digit s out at digits done value (last - 1) (p % 256) room (omega arith) (omega arith) low w))
+    (one-digit s (set out (end - 1) low) at digits (suc done) value (end - 2) high room (omega arith) (omega arith) high'
+    (one-digit s out at digits done value (end - 1) low room (omega arith) (omega arith) low' w))
 
 -- all digits stand there
 pub hex-written : (s out : List ℕ) (at digits done value : ℕ) → done ≡ digits → Written s at digits done value out → out ≡ put_at at (hex digits value) s
@@ -92,11 +74,11 @@ hex-written s out at digits done value e w =
     ∙ ap (λ r. take at s ++ (hex digits value ++ r)) (sym (ap (λ n. drop n (drop at s)) (length-hex digits value) ∙ drop-drop digits at s)))))
 
 -- the first digit of an odd number of them
-pub odd-digit : (s out : List ℕ) (at digits done v value p : ℕ) → at + digits ≤ length s → done < digits → digits - done ≤ 1 → v ≡ value / 16 ^ done → p ≡ pair_of (v % 16)
-    → Written s at digits done value out → set out at (p % 256) ≡ put_at at (hex digits value) s
-odd-digit s out at digits done v value p room more few q e w =
-    hex-written s (set out at (p % 256)) at digits (suc done) value (omega arith)
-    (one-digit s out at digits done value at (p % 256) room more (omega arith) (pair-low (v % 16) p e ∙ ap digit_of (omega arith)) w)
+pub odd-digit : (s out : List ℕ) (at digits k v value d : ℕ) → at + digits ≤ length s → k ≡ digits / 2 → digits % 2 ≡ 1 → v ≡ value / 16 ^ (2 * k) → d ≡ digit_of (v % 16 % 16)
+    → Written s at digits (2 * k) value out → set out at d ≡ put_at at (hex digits value) s
+odd-digit s out at digits k v value d room half odd q e w =
+    hex-written s (set out at d) at digits (suc (2 * k)) value (omega arith)
+    (one-digit s out at digits (2 * k) value at d room (omega arith) (omega arith) (e ∙ ap digit_of (omega arith)) w)
 
 pub none_written : (s : List ℕ) (at digits value : ℕ) → at + digits ≤ length s → Written s at digits 0 value s
 unfolding hex

@@ -120,13 +120,10 @@ text-room s one h t at p room x =
 pub words-there : (n i k l count : ℕ) → count ≡ k → n * k ≤ l → i < n → i * count + k ≤ l
 words-there n i k l count e h j = rw e (let a : suc i * k ≤ n * k = mul-le-mul_right k j in let b : suc i * k ≡ i * k + k = suc-mul i k in omega arith)
 
--- the words of n entries from word `at` on: where they end, the slice that has them, how many they are
-pub found-end : (at kind n m k l : ℕ) → m ≡ n → k ≡ field_count kind → at + n * field_count kind ≤ l → at + m * k ≤ l
-found-end at kind n m k l e f h = subst (λ z. at + z ≤ l) (sym (λ i. e i * f i)) h
-
-pub found_part : (s : List ℕ) (at kind n m k : ℕ) → m ≡ n → k ≡ field_count kind → take (at + m * k - at) (drop at s) ≡ entries_at s at kind n
+-- the words of n entries from word `at` on: the slice that has them, and how many they are
+pub found_part : (s : List ℕ) (at kind n k : ℕ) → k ≡ field_count kind → take (at + n * k - at) (drop at s) ≡ entries_at s at kind n
 unfolding part
-found_part s at kind n m k e f = let q : at + m * k - at ≡ m * k = omega arith in ap (λ z. take z (drop at s)) (q ∙ (λ i. e i * f i))
+found_part s at kind n k f = let q : at + n * k - at ≡ n * k = omega arith in ap (λ z. take z (drop at s)) (q ∙ ap (λ z. n * z) f)
 
 pub found-long : (s : List ℕ) (at kind n : ℕ) (a : List ℕ) → a ≡ entries_at s at kind n → at + n * field_count kind ≤ length s → n * field_count kind ≤ length a
 found-long s at kind n a e h = let l = ap length e ∙ length_part at (n * field_count kind) s h in omega arith

@@ -1,29 +1,26 @@
 // Hexadecimal digits, upper case.
-ghost use Rattle.std.specs.Prelude.{◌≡◌, ◌+◌, ◌<◌, ◌≤◌, length};
+ghost use Rattle.std.specs.Prelude.{◌≡◌, ◌+◌, ◌/◌, ◌%◌, ◌<◌, ◌≤◌, length};
 ghost use Rattle.memory.specs.rules.Words.{over};
 ghost use Rattle.listing.specs.rules.Digits.{digit_of, hex, refusal_text};
-ghost use Rattle.listing.specs.stages.Pairs.{pair_of, refusal_length};
+ghost use Rattle.listing.specs.stages.Parts.{refusal_length};
 ghost use Rattle.listing.specs.stages.Puts.{Put};
 
 // What ends a line.
 pub const LINE_FEED: u8 = 10;
 
 // The digit of a number below 16.
-fn digit(d: u16) -> u16
+fn digit(d: u8) -> u8
     requires { d < 16 }
-    ensures { (result ≡ digit_of d) × (result ≤ 70) }
+    ensures { result ≡ digit_of d }
 {
-    if d < 10 { 48 + d } else { 55 + d }
+    if d < 10 { b'0' + d } else { b'A' + (d - 10) }
 }
 
-// The two digits of a number below 256, the first in the high byte: every digit of a sheet comes from here.
-fn pair(n: u32) -> u16
-    requires { n < 256 }
-    ensures { result ≡ pair_of n }
+// The two digits of a byte, the first before the last: every digit of a sheet comes from here.
+fn pair(n: u8) -> (u8, u8)
+    ensures { (result.0 ≡ digit_of (n / 16)) × (result.1 ≡ digit_of (n % 16)) }
 {
-    let high = digit((n / 16) as u16);
-    let low = digit((n % 16) as u16);
-    high * 256 + low
+    (digit(n / 16), digit(n % 16))
 }
 
 // The value in so many digits at a place; the place behind them.
@@ -31,21 +28,19 @@ pub fn put_hex(out: &mut [u8], at: usize, value: u32, digits: usize) -> usize
     requires { at + digits ≤ length out.old }
     ensures { Put out.old at (hex digits value) result out.new }
 {
-    let mut done = 0;
+    let end = at + digits;
     let mut v = value;
-    while digits - done > 1 {
-        let p = pair(v % 256);
-        let last = at + (digits - done);
-        out[last - 1] = (p % 256) as u8;
-        out[last - 2] = (p / 256) as u8;
-        v = v / 256;
-        done += 2;
+    for k in 0..digits / 2 {
+        let (high, low) = pair((v % 256) as u8);
+        let done = end - 2 * k;
+        out[done - 1] = low;
+        out[done - 2] = high;
+        v /= 256;
     }
-    if done < digits {
-        out[at] = (pair(v % 16) % 256) as u8;
-        return at + digits;
+    if digits % 2 == 1 {
+        out[at] = pair((v % 16) as u8).1;
     }
-    at + digits
+    end
 }
 
 // A refusal's line over the front; its length.

@@ -6,20 +6,16 @@ ghost use Rattle.listing.specs.stages.Puts.{Put};
 
 use crate::digits::{LINE_FEED, put_hex};
 use crate::formats::{field_count, field_digits};
-use memory::wide;
 
 // The words of an entry, from word `from` on, in digits.
 fn put_fields(out: &mut [u8], at: usize, kind: usize, words: &[u32], from: usize) -> usize
     requires { (kind < 8) × (from + field_count kind ≤ length words.now) × (at + length (fields_from kind words.now from) ≤ length out.old) }
     ensures { Put out.old at (fields_from kind words.now from) result out.new }
 {
-    let n = field_count(kind);
     let mut p = at;
-    let mut j = 0;
-    while j < n {
+    for j in 0..field_count(kind) {
         let digits = field_digits(kind, j);
         p = put_hex(out, p, words[from + j], digits);
-        j += 1;
     }
     p
 }
@@ -41,12 +37,9 @@ fn put_entries(out: &mut [u8], at: usize, kind: u32, words: &[u32], n: u32) -> u
     ensures { Put out.old at (entries_text kind words.now n) result out.new }
 {
     let count = field_count(kind as usize);
-    let n = n as usize;
     let mut p = at;
-    let mut i = 0;
-    while i < n {
+    for i in 0..n as usize {
         p = put_entry(out, p, kind, words, i * count);
-        i += 1;
     }
     p
 }
@@ -56,12 +49,12 @@ pub fn entries_at(words: &[u32], at: usize, kind: usize, n: u32) -> &[u32]
     requires { (kind < 8) × (at + n * field_count kind ≤ length words.now) }
     ensures { result.now ≡ entries_at words.now at kind n }
 {
-    let end = at + wide(n) * field_count(kind);
+    let end = at + n as usize * field_count(kind);
     &words[at..end]
 }
 
 // How many entries a kind has, and the two kinds after it.
-#[derive(Clone, Copy)]
+#[derive(Clone, Copy, Debug, PartialEq, Eq)]
 pub struct ThreeCounts {
     pub first: u32,
     pub second: u32,

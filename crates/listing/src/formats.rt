@@ -3,8 +3,6 @@ ghost use Rattle.std.specs.Prelude.{◌≡◌, ◌<◌};
 ghost use Rattle.listing.specs.rules.Sheets.{field_count, field_digits};
 ghost use Rattle.listing.specs.stages.Parts.{entry_length};
 
-use memory::wide;
-
 // How many words an entry of a kind has.
 const COUNTS: [u32; 8] = [7, 8, 5, 4, 4, 6, 2, 6];
 
@@ -25,7 +23,7 @@ pub fn field_count(kind: usize) -> usize
     requires { kind < 8 }
     ensures { result ≡ field_count kind }
 {
-    wide(COUNTS[kind])
+    COUNTS[kind] as usize
 }
 
 // The digits of its word j.
@@ -34,7 +32,7 @@ pub fn field_digits(kind: usize, j: usize) -> usize
     ensures { result ≡ field_digits kind j }
 {
     let shift = 28 - 4 * j;
-    let format = wide(FORMATS[kind]);
+    let format = FORMATS[kind] as usize;
     (format >> shift) % 16
 }
 
@@ -43,12 +41,9 @@ pub fn entry_length(kind: usize) -> usize
     requires { kind < 8 }
     ensures { (result ≡ entry_length kind) × (result < 256) }
 {
-    let n = field_count(kind);
     let mut bytes = 3;
-    let mut j = 0;
-    while j < n {
+    for j in 0..field_count(kind) {
         bytes += field_digits(kind, j);
-        j += 1;
     }
     bytes
 }

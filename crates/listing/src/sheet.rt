@@ -10,7 +10,6 @@ ghost use Rattle.listing.specs.stages.Lists.{ListsIn, lines_in, blocks_in, rules
 
 use crate::entries::{ThreeCounts, entries_at, put_entry, put_three_kinds};
 use crate::formats::entry_length;
-use memory::wide;
 use segmenting::ResultPlaces;
 
 // The edition that is printed.
@@ -40,7 +39,7 @@ fn entries_length(figures: &[u32], k: usize, kind: usize) -> usize
     requires { (k < length figures.now) × (kind < 8) }
     ensures { (result ≡ word_at figures.now k * entry_length kind) × (result < 1099511627776) }
 {
-    wide(figures[k]) * entry_length(kind)
+    figures[k] as usize * entry_length(kind)
 }
 
 // How long the sheet is, before it is written.
@@ -59,7 +58,7 @@ pub fn sheet_length(figures: &[u32]) -> usize
 }
 
 // The sides of a frame and of its page.
-#[derive(Clone, Copy)]
+#[derive(Clone, Copy, Debug, PartialEq, Eq)]
 pub struct SheetSides {
     pub w: u32,
     pub h: u32,

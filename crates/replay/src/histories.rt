@@ -2,9 +2,8 @@
 ghost use Rattle.std.specs.Prelude.{◌<◌, ◌≤◌};
 
 use crate::kinds::read_floats;
-use crate::masks::{dot, hash, hash_bytes, hash_step};
+use crate::masks::{dot, hash, hash_step};
 use crate::text::{behind, half, signed, word};
-use memory::min_usize;
 
 // The numbers before the script: how many are the script's, its floats and its dots, and the lengths of store, planes, scratch and outputs.
 const HEAD: usize = 11;
@@ -43,22 +42,20 @@ const OLD_BYTE: u8 = 0x5a;
 fn size(body: &[u8], k: usize, most: usize) -> usize
     ensures { result ≤ most }
 {
-    min_usize(half(body, k) as usize, most)
+    (half(body, k) as usize).min(most)
 }
 
 // How many words of the log the calls of a script fill.
 fn log_size(script: &[u32]) -> usize
     ensures { result ≤ 80 }
 {
-    min_usize(script.len() / CALL_WORDS * 2, LOG)
+    (script.len() / CALL_WORDS * 2).min(LOG)
 }
 
 // The first of the numbers, as many as there is room for.
 fn read_numbers(text: &[u8], out: &mut [u32]) {
-    let mut i = 0;
-    while i < out.len() {
-        out[i] = half(text, i);
-        i += 1;
+    for (i, number) in out.iter_mut().enumerate() {
+        *number = half(text, i);
     }
 }
 
@@ -79,38 +76,30 @@ fn byte_at(text: &[u8], dots: usize, i: usize) -> u8 {
 
 // All bytes of a script: its dots, and a pattern behind them.
 fn read_bytes(text: &[u8], dots: usize, out: &mut [u8]) {
-    let mut i = 0;
-    while i < out.len() {
-        out[i] = byte_at(text, dots, i);
-        i += 1;
+    for (i, byte) in out.iter_mut().enumerate() {
+        *byte = byte_at(text, dots, i);
     }
 }
 
 // Whether the first of the numbers are these.
 fn are_next(text: &[u8], words: &[u32]) -> bool {
-    let mut same = true;
-    let mut i = 0;
-    while i < words.len() {
-        same = same & (words[i] == half(text, i));
-        i += 1;
-    }
-    same
+    words
+        .iter()
+        .enumerate()
+        .all(|(i, word)| *word == half(text, i))
 }
 
 // Whether an integer is the one whose two's complement at 64 bits the word is.
 fn is_integer(x: i32, word: u64) -> bool {
-    (x as i64) == signed(word)
+    i64::from(x) == signed(word)
 }
 
 // Whether the first of the words are these integers.
 fn are_integers(text: &[u8], integers: &[i32]) -> bool {
-    let mut same = true;
-    let mut i = 0;
-    while i < integers.len() {
-        same = same & is_integer(integers[i], word(text, i));
-        i += 1;
-    }
-    same
+    integers
+        .iter()
+        .enumerate()
+        .all(|(i, x)| is_integer(*x, word(text, i)))
 }
 
 // One float more in a hash: both halves of its bits, the high one first.
@@ -126,11 +115,9 @@ fn hash_float(h: u64, x: f64) -> u64
 
 // Many floats as one word.
 fn hash_floats(floats: &[f64]) -> u64 {
-    let mut h: u64 = 1;
-    let mut i = 0;
-    while i < floats.len() {
-        h = hash_float(h, floats[i]);
-        i += 1;
+    let mut h = 1;
+    for x in floats {
+        h = hash_float(h, *x);
     }
     h
 }
@@ -147,10 +134,10 @@ fn is_left(
     numbers: &[f64],
 ) -> bool {
     (hash(store) == half(text, 0) as u64)
-        & (hash_bytes(ink) == half(text, 1) as u64)
-        & (hash_bytes(kinds) == half(text, 2) as u64)
+        & (hash(ink) == half(text, 1) as u64)
+        & (hash(kinds) == half(text, 2) as u64)
         & (hash(words) == half(text, 3) as u64)
-        & (hash_bytes(gray) == half(text, 4) as u64)
+        & (hash(gray) == half(text, 4) as u64)
         & (hash_floats(numbers) == half(text, 5) as u64)
         & are_integers(behind(text, 6), integers)
 }

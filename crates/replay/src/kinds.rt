@@ -35,48 +35,53 @@ fn float(body: &[u8], i: usize) -> f64 {
     memory::from_bits(text::word(body, i))
 }
 
+// Whether there are two words, and the second is this one.
+fn is_told(body: &[u8], ours: u64) -> bool {
+    (text::count(body) == 2) & (ours == text::word(body, 1))
+}
+
+// The same of a word that has a sign.
+fn is_told_signed(body: &[u8], ours: i64) -> bool {
+    (text::count(body) == 2) & (ours == text::signed(text::word(body, 1)))
+}
+
 // 01: x, round(x).
 fn round(body: &[u8]) -> bool {
-    let ours = memory::bits_of(rounding::round(float(body, 0)));
-    (text::count(body) == 2) & (ours == text::word(body, 1))
+    is_told(body, memory::bits_of(rounding::round(float(body, 0))))
 }
 
 // 02: x, round(x) as u32.
 fn round_to_u32(body: &[u8]) -> bool {
-    let ours = rounding::round_to_u32(float(body, 0)) as u64;
-    (text::count(body) == 2) & (ours == text::word(body, 1))
+    is_told(body, rounding::round_to_u32(float(body, 0)).into())
 }
 
 // 03: x, round(x) as usize.
 fn round_to_usize(body: &[u8]) -> bool {
-    let ours = rounding::round_to_usize(float(body, 0)) as u64;
-    (text::count(body) == 2) & (ours == text::word(body, 1))
+    is_told(body, rounding::round_to_usize(float(body, 0)) as u64)
 }
 
 // 04: x, round(x) as i32, at 64 bits.
 fn round_to_i32(body: &[u8]) -> bool {
-    let ours = rounding::round_to_i32(float(body, 0)) as i64;
-    (text::count(body) == 2) & (ours == text::signed(text::word(body, 1)))
+    is_told_signed(body, rounding::round_to_i32(float(body, 0)).into())
 }
 
 // 05: x, round(x) as i64.
 fn round_to_i64(body: &[u8]) -> bool {
-    let ours = rounding::round_to_i64(float(body, 0));
-    (text::count(body) == 2) & (ours == text::signed(text::word(body, 1)))
+    is_told_signed(body, rounding::round_to_i64(float(body, 0)))
 }
 
 // 06: x, round_output(x).
 fn round_output(body: &[u8]) -> bool {
-    let ours = memory::bits_of(rounding::round_output(float(body, 0)));
-    (text::count(body) == 2) & (ours == text::word(body, 1))
+    is_told(
+        body,
+        memory::bits_of(rounding::round_output(float(body, 0))),
+    )
 }
 
 // The first of the words as floats, as many as there are values.
 pub fn read_floats(body: &[u8], values: &mut [f64]) {
-    let mut i = 0;
-    while i < values.len() {
-        values[i] = float(body, i);
-        i += 1;
+    for (i, value) in values.iter_mut().enumerate() {
+        *value = float(body, i);
     }
 }
 

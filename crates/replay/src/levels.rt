@@ -21,7 +21,7 @@ fn is_answered(body: &[u8], size: u64, width: u32, shears: &[u32], plane: &[u8])
         body,
         size,
         masks::hash_of(shears, width as usize + h as usize),
-        masks::hash_bytes(&plane[0..n]),
+        masks::hash(&plane[0..n]),
     )
 }
 

@@ -7,8 +7,6 @@
 // kinds.rt has them for each kind. A line that is not so made counts as a difference.
 #![tactic(auto)]
 
-ghost use Rattle.std.specs.Prelude.{◌≤◌, length, IfOk};
-
 mod histories;
 mod kinds;
 mod levels;
@@ -17,6 +15,7 @@ mod segments;
 mod shows;
 mod text;
 
+use showing::read_full;
 use std::io;
 use std::io::Read;
 
@@ -31,41 +30,28 @@ const HEAD: usize = 6;
 
 const LINE_FEED: u8 = 10;
 
-#[derive(Clone, Copy)]
+#[derive(Clone, Copy, Debug, PartialEq, Eq)]
 enum Outcome {
     End,
     Same,
     Differs,
 }
 
-#[derive(Clone, Copy)]
+#[derive(Clone, Copy, Debug, PartialEq, Eq)]
 struct Tally {
     cases: u64,
     differences: u64,
-    // The number of the first case that differs, counted from 1; 0 without any.
-    first: u64,
+    // The number of the first case that differs, counted from 1.
+    first: Option<u64>,
 }
 
 // Whether the case of these digits has the Rust's answer.
 fn agrees(kind: u64, digits: &[u8]) -> bool {
     let mut room = [0u8; CASE];
-    let n = text::spread(digits, &mut room);
-    kinds::agrees(kind, &room[0..n])
-}
-
-// Fills the room from its front as far as the input goes; how many bytes that is.
-fn read_full<R: Read>(input: &mut R, room: &mut [u8]) -> io::Result<usize>
-    ensures { IfOk result (λ n. n ≤ length room.new) }
-{
-    let mut n = 0;
-    while n < room.len() {
-        let got = input.read(&mut room[n..])?;
-        if got == 0 {
-            break;
-        }
-        n += got;
+    match text::spread(digits, &mut room) {
+        Some(n) => kinds::agrees(kind, &room[..n]),
+        None => false,
     }
-    Ok(n)
 }
 
 // Reads the digits of a case and its line feed into room, and judges them.
@@ -119,27 +105,23 @@ fn next_case<R: Read>(input: &mut R) -> io::Result<Outcome> {
 
 // Every case of the input, counted.
 fn replay<R: Read>(input: &mut R) -> io::Result<Tally> {
-    let mut cases: u64 = 0;
-    let mut differences: u64 = 0;
-    let mut first: u64 = 0;
-    while cases < MOST_CASES {
-        let outcome = next_case(input)?;
-        if let Outcome::End = outcome {
-            break;
-        }
-        cases += 1;
-        if let Outcome::Differs = outcome {
-            if differences == 0 {
-                first = cases;
+    let mut tally = Tally {
+        cases: 0,
+        differences: 0,
+        first: None,
+    };
+    for cases in 0..MOST_CASES {
+        match next_case(input)? {
+            Outcome::End => break,
+            Outcome::Same => {}
+            Outcome::Differs => {
+                tally.differences += 1;
+                tally.first = tally.first.or(Some(cases + 1));
             }
-            differences += 1;
         }
+        tally.cases = cases + 1;
     }
-    Ok(Tally {
-        cases,
-        differences,
-        first,
-    })
+    Ok(tally)
 }
 
 fn main(rt: HostRuntime) -> io::Result<()> {
@@ -148,8 +130,7 @@ fn main(rt: HostRuntime) -> io::Result<()> {
     let cases = tally.cases;
     let differences = tally.differences;
     println!(rt; "replayed {cases} cases, {differences} differences")?;
-    if differences > 0 {
-        let first = tally.first;
+    if let Some(first) = tally.first {
         println!(rt; "the first is case {first}")?;
     }
     Ok(())

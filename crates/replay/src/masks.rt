@@ -23,7 +23,7 @@ const RECORD_WORDS: usize = 576;
 const SCRATCH_WORDS: usize = 21568;
 
 // The sides of a mask.
-#[derive(Clone, Copy)]
+#[derive(Clone, Copy, Debug, PartialEq, Eq)]
 struct Size {
     width: u32,
     height: u32,
@@ -48,7 +48,7 @@ fn dot_of(digit: u8, k: usize) -> u8 {
 pub fn dot(digits: &[u8], i: usize) -> u8 {
     let at = i / 4;
     if at < digits.len() {
-        dot_of(text::digit(digits[at]), i % 4)
+        text::digit(digits[at]).map_or(0, |d| dot_of(d, i % 4))
     } else {
         0
     }
@@ -56,10 +56,8 @@ pub fn dot(digits: &[u8], i: usize) -> u8 {
 
 // The mask that the digits spell, as many dots as there is room.
 pub fn read_mask(digits: &[u8], mask: &mut [u8]) {
-    let mut i = 0;
-    while i < mask.len() {
-        mask[i] = dot(digits, i);
-        i += 1;
+    for (i, place) in mask.iter_mut().enumerate() {
+        *place = dot(digits, i);
     }
 }
 
@@ -71,32 +69,11 @@ pub fn hash_step(h: u64, word: u32) -> u64
     (h * 16777619 + word as u64) % 4294967291
 }
 
-// Many words as one, as compare/src/list.rs has it.
-pub fn hash(words: &[u32]) -> u64 {
-    let mut h: u64 = 1;
-    let mut i = 0;
-    while i < words.len() {
-        h = hash_step(h, words[i]);
-        i += 1;
-    }
-    h
-}
-
-// The same of a byte.
-fn hash_byte(h: u64, byte: u8) -> u64
-    requires { h < 4294967291 }
-    ensures { result < 4294967291 }
-{
-    hash_step(h, byte as u32)
-}
-
-// Many bytes as one word.
-pub fn hash_bytes(bytes: &[u8]) -> u64 {
-    let mut h: u64 = 1;
-    let mut i = 0;
-    while i < bytes.len() {
-        h = hash_byte(h, bytes[i]);
-        i += 1;
+// Many words or bytes as one word, as compare/src/list.rs has it.
+pub fn hash<T: Copy + Into<u32>>(values: &[T]) -> u64 {
+    let mut h = 1;
+    for value in values {
+        h = hash_step(h, (*value).into());
     }
     h
 }
@@ -229,14 +206,7 @@ pub fn extents(body: &[u8]) -> bool {
 
 // Whether every word is this one.
 fn are_all(words: &[u32], word: u32) -> bool {
-    let mut i = 0;
-    while i < words.len() {
-        if words[i] != word {
-            return false;
-        }
-        i += 1;
-    }
-    true
+    words.iter().all(|w| *w == word)
 }
 
 // The extents of a mask of nothing but ink; whether all are as the last word has it.

@@ -58,7 +58,7 @@ fn segment_page(body: &[u8], width: u32, height: u32, ink: &mut [u8], kinds: &mu
         number,
         masks::hash_of(&figures, FIGURES),
         masks::hash_of(&results, words),
-        masks::hash_bytes(kinds),
+        masks::hash(kinds),
     )
 }
 

@@ -26,10 +26,8 @@ fn byte(digits: &[u8], i: usize) -> u8 {
 
 // The first of the bytes, as many as there is room for.
 fn read_bytes(digits: &[u8], room: &mut [u8]) {
-    let mut i = 0;
-    while i < room.len() {
-        room[i] = byte(digits, i);
-        i += 1;
+    for (i, place) in room.iter_mut().enumerate() {
+        *place = byte(digits, i);
     }
 }
 
@@ -44,14 +42,9 @@ fn byte_left(digits: &[u8], printed: usize, i: usize) -> u8 {
 
 // Whether the output has the printed bytes, and past them what stood there.
 fn is_left(digits: &[u8], printed: usize, out: &[u8]) -> bool {
-    let mut i = 0;
-    while i < out.len() {
-        if out[i] != byte_left(digits, printed, i) {
-            return false;
-        }
-        i += 1;
-    }
-    true
+    out.iter()
+        .enumerate()
+        .all(|(i, b)| *b == byte_left(digits, printed, i))
 }
 
 // Whether so many bytes are told as printed.

@@ -1,108 +1,70 @@
 // Upper-case hexadecimal digits, and the numbers and words of a case.
-ghost use Rattle.std.specs.Prelude.{◌≤◌, length};
+ghost use Rattle.std.specs.Prelude.{◌≤◌, ◌<◌, length, IfSome};
 
 // The digits of a number when it is spread.
 const SPREAD: usize = 8;
 
-// The value of a digit, or 16 for a byte that is none.
-pub fn digit(b: u8) -> u8 {
-    if b < b'0' {
-        16
-    } else if b <= b'9' {
-        b - b'0'
-    } else if b < b'A' {
-        16
-    } else if b <= b'F' {
-        b - b'A' + 10
-    } else {
-        16
+// The value of a digit.
+pub fn digit(b: u8) -> Option<u8>
+    ensures { IfSome result (λ d. d < 16) }
+{
+    match b {
+        b'0'..=b'9' => Some(b - b'0'),
+        b'A'..=b'F' => Some(b - b'A' + 10),
+        _ => None,
     }
 }
 
 // Whether every byte is a digit.
 pub fn are_digits(text: &[u8]) -> bool {
-    let mut i = 0;
-    while i < text.len() {
-        if digit(text[i]) > 15 {
-            return false;
-        }
-        i += 1;
-    }
-    true
+    text.iter().all(|b| digit(*b).is_some())
 }
 
-// n with one digit more at its end, the digits above 16 dropped.
+// n with one digit more at its end, the digits above 16 dropped; 0 where a byte is no digit.
 fn with_digit(n: u64, b: u8) -> u64 {
-    n % 0x1000_0000_0000_0000 * 16 + (digit(b) % 16) as u64
+    let last = match digit(b) {
+        Some(d) => d,
+        None => 0,
+    };
+    n % 0x1000_0000_0000_0000 * 16 + last as u64
 }
 
 // The number that the digits spell, by its last 16 digits.
 pub fn number(text: &[u8]) -> u64 {
-    let mut n: u64 = 0;
-    let mut i = 0;
-    while i < text.len() {
-        n = with_digit(n, text[i]);
-        i += 1;
-    }
-    n
+    text.iter().fold(0, |n, b| with_digit(n, *b))
 }
 
-// A number's digits, at the end of as much room, after zeros.
+// A number's digits, at the end of as much room, after zeros; the first of them where there is less room.
 fn put(digits: &[u8], room: &mut [u8]) {
-    let zeros = if digits.len() < room.len() {
-        room.len() - digits.len()
-    } else {
-        0
-    };
-    let mut i = 0;
-    while i < room.len() {
-        room[i] = digit_at(digits, zeros, i);
-        i += 1;
-    }
+    let n = digits.len().min(room.len());
+    let zeros = room.len() - n;
+    room[..zeros].fill(b'0');
+    room[zeros..].copy_from_slice(&digits[..n]);
 }
 
-// The digit at i where so many zeros stand before the digits.
-fn digit_at(digits: &[u8], zeros: usize, i: usize) -> u8 {
-    if i < zeros {
-        return b'0';
-    }
-    if i - zeros < digits.len() {
-        digits[i - zeros]
-    } else {
-        b'0'
-    }
-}
-
-// Where the number ends whose count of digits stands at `at`; 0 where it has more digits than a number, or its text is too short.
-fn number_end(text: &[u8], at: usize) -> usize
-    ensures { result ≤ length text.now }
+// Where the number ends whose count of digits stands at `at`, unless it has more digits than a number, or its text is too short.
+fn number_end(text: &[u8], at: usize) -> Option<usize>
+    ensures { IfSome result (λ end. (at < end) × (end ≤ length text.now)) }
 {
-    if at < text.len() {
-        let n = digit(text[at]) as usize;
-        if n > SPREAD {
-            return 0;
-        }
-        if n < text.len() - at {
-            return at + 1 + n;
-        }
+    let n = digit(*text.get(at)?)? as usize;
+    if (n <= SPREAD) & (n < text.len() - at) {
+        Some(at + 1 + n)
+    } else {
+        None
     }
-    0
 }
 
-// Spreads numbers, each a digit that counts its digits and then those, to eight digits each, and answers how many digits that makes; 0
-// where the text is not so made or has more numbers than there is room for.
-pub fn spread(text: &[u8], room: &mut [u8]) -> usize
-    ensures { result ≤ length room.new }
+// Spreads numbers, each a digit that counts its digits and then those, to eight digits each, and answers how many digits that makes,
+// unless the text is not so made or has more numbers than there is room for.
+pub fn spread(text: &[u8], room: &mut [u8]) -> Option<usize>
+    ensures { IfSome result (λ n. n ≤ length room.new) }
 {
     let mut at = 0;
     let mut to = 0;
     while at < text.len() {
-        let end = number_end(text, at);
-        if end <= at {
-            return 0;
-        }
+        let end = number_end(text, at)?;
         if room.len() - to < SPREAD {
-            return 0;
+            return None;
         }
         let from = at + 1;
         let next = to + SPREAD;
@@ -110,7 +72,7 @@ pub fn spread(text: &[u8], room: &mut [u8]) -> usize
         at = end;
         to = next;
     }
-    to
+    Some(to)
 }
 
 // The number at i of those that are spread, or 0 past the last.

@@ -14,7 +14,7 @@ use crate::words::{
     CALL_WORDS, CAPACITY, HEIGHT, INK, KIND, KINDS, LEFT, OP, OUT, SCRATCH, STORE, TOP, TURNS,
     WIDTH,
 };
-use memory::{min_usize, word_at};
+use memory::word_at;
 use store::{
     Answer, Handed, Outcome, clear, count_dots, level, level_gray, read_blocks, read_columns,
     read_dots, read_figures, read_frame, read_glyphs, read_graphics, read_lines, read_rules,
@@ -59,7 +59,7 @@ const BLOCKS: u32 = 17;
 const SHEET: u32 = 18;
 
 // What the log gets of a call.
-#[derive(Clone, Copy)]
+#[derive(Clone, Copy, Debug, PartialEq, Eq)]
 struct Logged {
     number: u32,
     value: u32,
@@ -75,7 +75,7 @@ fn log_outcome(o: Outcome) -> Logged
             value: 0,
         },
         Outcome::Refused(number) => Logged {
-            number: number,
+            number,
             value: 0,
         },
     }
@@ -88,10 +88,10 @@ fn log_answer(a: Answer) -> Logged
     match a {
         Answer::Told(value) => Logged {
             number: 0,
-            value: value,
+            value,
         },
         Answer::Refused(number) => Logged {
-            number: number,
+            number,
             value: 0,
         },
     }
@@ -344,15 +344,13 @@ pub fn play(
 ) -> usize
     ensures { Played (script_of script.now floats.now bytes.now (length scratch.old)) (memory (world store.old ink.old kinds.old) (outputs words.old gray.old integers.old numbers.old)) log.old result (memory (world store.new ink.new kinds.new) (outputs words.new gray.new integers.new numbers.new)) log.new (length scratch.new) }
 {
-    let n = min_usize(script.len() / CALL_WORDS, log.len() / 2);
-    let mut i = 0;
-    while i < n {
+    let n = (script.len() / CALL_WORDS).min(log.len() / 2);
+    for i in 0..n {
         let r = nth(
             script, i, floats, bytes, store, ink, kinds, scratch, words, gray, integers, numbers,
         );
         log[i * 2] = r.number;
         log[i * 2 + 1] = r.value;
-        i += 1;
     }
     n
 }

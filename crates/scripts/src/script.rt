@@ -6,7 +6,7 @@ ghost use Rattle.scripts.specs.rules.Scripts.{number_at, bytes_of, sheet_from, b
 use crate::words::{
     BOTTOM, BYTES, BYTES_LENGTH, GLYPH_AREA, LEFT, LINE_GLYPHS, RIGHT, SHEET, TOP, XHEIGHT_AREA,
 };
-use memory::{Rect, min_usize, word_at};
+use memory::{Rect, word_at};
 use params::LayoutParams;
 
 // The float at k, or NaN past the end.
@@ -24,7 +24,7 @@ pub fn float_at(floats: &[f64], k: usize) -> f64
 pub fn cut(call: &[u32], k: usize, n: usize) -> usize
     ensures { result ≡ min (word_at call.now k) n }
 {
-    min_usize(word_at(call, k) as usize, n)
+    (word_at(call, k) as usize).min(n)
 }
 
 // Its bytes, cut to what is there.

@@ -24,13 +24,11 @@ pub fn write_boxes(
     ensures { (result ≡ length (held_boxes words.now sizes kinds kind count)) × (out.new ≡ over (encoded box_words (held_boxes words.now sizes kinds kind count)) out.old) }
 {
     let mut n = 0;
-    let mut k = 0;
-    while k < count {
+    for k in 0..count {
         if words[kinds + k] % 8 == kind {
             put_box(out, n * BOX_WORDS, size_box(words, sizes, k));
             n += 1;
         }
-        k += 1;
     }
     n
 }
@@ -40,13 +38,11 @@ pub fn area_of_kind(words: &[u32], sizes: usize, kinds: usize, count: usize, kin
     requires { (sizes + 5 * count ≤ length words.now) × (kinds + count ≤ length words.now) × (held_area words.now sizes kinds kind count ≤ 4294967295) }
     ensures { result ≡ held_area words.now sizes kinds kind count }
 {
-    let mut sum: u32 = 0;
-    let mut k = 0;
-    while k < count {
+    let mut sum = 0;
+    for k in 0..count {
         if words[kinds + k] % 8 == kind {
             sum += words[sizes + SIZE_WORDS * k];
         }
-        k += 1;
     }
     sum
 }
@@ -56,10 +52,8 @@ pub fn unpack_boxes(words: &[u32], from: usize, count: usize, out: &mut [u32])
     requires { (from + 2 * count ≤ length words.now) × (count * 4 ≤ length out.old) }
     ensures { out.new ≡ over (encoded box_words (unpacked_boxes words.now from count)) out.old }
 {
-    let mut k = 0;
-    while k < count {
+    for k in 0..count {
         put_box(out, k * BOX_WORDS, packed_box(words, from + 2 * k));
-        k += 1;
     }
 }
 

@@ -12,7 +12,7 @@ use params::LayoutParams;
 use sorting::Plan;
 
 // How many blocks and columns there are.
-#[derive(Clone, Copy)]
+#[derive(Clone, Copy, Debug, PartialEq, Eq)]
 pub struct GroupCounts {
     pub blocks: usize,
     pub columns: usize,

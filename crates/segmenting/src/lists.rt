@@ -9,7 +9,7 @@ use crate::places::ResultPlaces;
 use sorting::{GRAPHIC, Plan, SortCounts};
 
 // How many rules and graphics there are.
-#[derive(Clone, Copy)]
+#[derive(Clone, Copy, Debug, PartialEq, Eq)]
 pub struct BoxCounts {
     pub rules: usize,
     pub graphics: usize,

@@ -5,8 +5,6 @@ ghost use Rattle.memory.specs.rules.Words.{over};
 ghost use Rattle.labelling.specs.rules.Labels.{labelling};
 ghost use Rattle.segmenting.specs.stages.Painting.{painted_kind, RunPaintable, RunPainted, Paintable};
 
-use memory::{copy_bytes, fill_bytes, wide};
-
 // The ink from dot `done` up to run k, and the kind of its component on the run; answers where the run ends.
 fn paint_run(
     ink: &[u8],
@@ -20,12 +18,12 @@ fn paint_run(
     requires { RunPaintable words.now runs kinds k done ink.now out.old }
     ensures { RunPainted words.now runs kinds k done ink.now out.old out.new result }
 {
-    let start = wide(words[2 * k]);
-    let end = wide(words[2 * k + 1]);
-    let number = wide(words[2 * runs + k]);
+    let start = words[2 * k] as usize;
+    let end = words[2 * k + 1] as usize;
+    let number = words[2 * runs + k] as usize;
     let kind = words[kinds + (number - 1)] % 8;
-    copy_bytes(&mut out[done..start], &ink[done..start]);
-    fill_bytes(&mut out[start..end], kind as u8);
+    out[done..start].copy_from_slice(&ink[done..start]);
+    out[start..end].fill(kind as u8);
     end
 }
 
@@ -36,11 +34,8 @@ pub fn paint_kinds(ink: &[u8], words: &[u32], runs: usize, kinds: usize, out: &m
         → out.new ≡ over (table (painted_kind m (labelling w h m).labels words.now kinds ink.now) (w * h)) out.old }
 {
     let mut done = 0;
-    let mut k = 0;
-    while k < runs {
+    for k in 0..runs {
         done = paint_run(ink, words, runs, kinds, k, done, out);
-        k += 1;
     }
-    let dots = ink.len();
-    copy_bytes(&mut out[done..dots], &ink[done..dots]);
+    out[done..ink.len()].copy_from_slice(&ink[done..]);
 }

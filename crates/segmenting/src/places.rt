@@ -18,7 +18,7 @@ const BLOCKS_AT: usize = 30;
 const RESULTS_END: usize = 35;
 
 // The first word of each list.
-#[derive(Clone, Copy)]
+#[derive(Clone, Copy, Debug, PartialEq, Eq)]
 pub struct ResultPlaces {
     pub columns: usize,
     pub rules: usize,

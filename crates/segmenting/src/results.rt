@@ -35,7 +35,7 @@ pub struct Segmentation {
 }
 
 // The dots of each kind.
-#[derive(Clone, Copy)]
+#[derive(Clone, Copy, Debug, PartialEq, Eq)]
 pub struct KindDots {
     pub cut: u32,
     pub rule: u32,

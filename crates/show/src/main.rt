@@ -1,12 +1,13 @@
 // The show program (01, "Leaves to try"): reads standard input to its end and writes what `showing::show` prints for it.
 #![tactic(auto)]
 
-ghost use Rattle.std.specs.Prelude.{◌≡◌, ◌≤◌, length, take, IfOk};
+ghost use Rattle.std.specs.Prelude.{◌≡◌, ◌≤◌, length, take};
 ghost use Rattle.store.specs.rules.Answers.{answer_value};
 ghost use Rattle.showing.specs.rules.Shows.{shown};
 ghost use Rattle.showing.specs.stages.Rooms.{longest_shown};
 
 use std::io;
+use showing::read_full;
 use std::io::{Read, Write};
 use store::Answer;
 
@@ -18,21 +19,6 @@ const OUTPUT: usize = 16384;
 
 // A proved loop has to end, and nothing says that the input does: so many times what is read at once is read at most.
 const MOST_READS: u64 = 1_000_000_000_000;
-
-// Fills the room from its front as far as the input goes; how many bytes that is.
-fn read_full<R: Read>(input: &mut R, room: &mut [u8]) -> io::Result<usize>
-    ensures { IfOk result (λ n. n ≤ length room.new) }
-{
-    let mut n = 0;
-    while n < room.len() {
-        let got = input.read(&mut room[n..])?;
-        if got == 0 {
-            break;
-        }
-        n += got;
-    }
-    Ok(n)
-}
 
 // Reads what is left of the input.
 fn drain<R: Read>(input: &mut R) -> io::Result<()> {

@@ -11,9 +11,9 @@ use lib.ListN.{length, get_or}
 use Rattle.memory.specs.rules.Words.{over}
 use Rattle.memory.proofs.BoolLaws.{and_left, and_right}
 use Rattle.judging.specs.rules.Spoiled.{every}
-use Rattle.showing.specs.rules.Inputs.{digits_at, width_of, height_of, rows_at, row_digits, row_at, row_good, head_good, sides_good, well_made, max_shown_side, skew_of, slope_of, dots_in, parsed, mask_of}
+use Rattle.showing.specs.rules.Inputs.{digits_at, width_of, height_of, rows_at, row_digits, row_at, row_good, head_good, sides_good, well_made, max_shown_side, skew_of, slope_of, dots_in, page_of, parsed, mask_of}
 use Rattle.showing.specs.stages.Rooms.{longest_input}
-use Rattle.showing.specs.declared.input.Parsed.TheVariants.{Malformed, Page}
+use Rattle.std.specs.Prelude.{Some, None}
 
 -- a row before the last one ends where the rows do, or before
 pub row_inside : (w h y : ℕ) → y < h → row_at w y + row_digits w < row_at w h
@@ -100,11 +100,11 @@ unfolding well_made
 rows_tell s e f = rw (e, f)
 
 -- what the input says
-pub parsed-page : (s : List ℕ) → well_made s ≡ true → Page (width_of s) (height_of s) (skew_of s) (slope_of s) ≡ parsed s
+pub parsed-page : (s : List ℕ) → well_made s ≡ true → Some (page_of (width_of s) (height_of s) (skew_of s) (slope_of s)) ≡ parsed s
 unfolding parsed
 parsed-page s e = rw e
 
-pub parsed-none : (s : List ℕ) → well_made s ≡ false → Malformed ≡ parsed s
+pub parsed-none : (s : List ℕ) → well_made s ≡ false → None ≡ parsed s
 unfolding parsed
 parsed-none s e = rw e
 

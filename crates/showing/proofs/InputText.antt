@@ -3,8 +3,7 @@ use mathlib.Core.Path.{◌≡◌, refl, sym, ap, ◌∙◌, subst}
 use mathlib.Core.Bool.{Bool, true, false, cond, ◌&&◌, ◌||◌}
 use mathlib.Core.List.{List, [], ◌∷◌, ◌++◌}
 use Prim.Native.Nat.{ℕ, zero, suc, ◌+◌, ◌-◌, ◌*◌, ◌/◌, ◌%◌, ◌^◌, ◌≤◌, ◌<◌}
-use native.Mathlib.Nat.{not-suc-le-zero, le_refl, pow-suc, div-div-eq-div-mul, div-eq_of_lt, div-add-mod', suc-mul, mul_comm}
-use native.Mathlib.Decide.{ℕ_discrete}
+use native.Mathlib.Nat.{le_refl, pow-suc, div-div-eq-div-mul, div-eq_of_lt, div-add-mod', suc-mul, mul_comm}
 use native.Mathlib.Omega.{arith}
 use borrow.Author.Tests.{leb-true, eqb-true, le-leb, lt-leb, lt-ltb, le-ltb}
 use lib.Dec.{eqb, leb, ltb}
@@ -16,9 +15,8 @@ use Rattle.memory.proofs.BoolLaws.{and_left, and_right}
 use Rattle.memory.proofs.PlaneLaws.{dot-row, dot-column, dot-inside}
 use Rattle.memory.proofs.TableLaws.{get_or-table}
 use Rattle.listing.specs.rules.Digits.{digit_of, hex, joined, line_feed}
-use Rattle.judging.specs.rules.Spoiled.{every}
 use Rattle.showing.specs.rules.Inputs.{is_digit, digit_value, digits_at, number_at, width_of, height_of, skew_of, slope_of, rows_at, row_digits, row_at, row_number, row_dot, row_good, head_good, well_made, dot_at, dots_in, mask_of, dots_number, row_text, page_text}
-use Rattle.showing.proofs.ReadLaws.{power-more}
+use Rattle.showing.proofs.ReadLaws.{power-more, every-at}
 use Rattle.showing.proofs.InputLaws.{made, made-long, row_inside}
 
 -- ---- digits
@@ -76,16 +74,6 @@ digits-text s at (suc n) h d =
     take-suc (drop at s) n 0 (omega arith)
     ∙ ((λ i. digits-text s at n (omega arith) (λ j k. d j (omega arith)) i ++ ((get_or-drop at s n 0 ∙ sym (digit-back b (d n (le_refl (suc n))))) i ∷ []))
     ∙ ((λ i. hex n (sym q i) ++ (digit_of (sym r i) ∷ [])) ∙ sym (hex-snoc n (number_at s at n * 16 + digit_value b))))
-
--- ---- tests
-every-at : (p : ℕ → Bool) (n i : ℕ) → every p n ≡ true → i < n → p i ≡ true
-unfolding every
-every-at p zero i e l = absurd (not-suc-le-zero l)
-every-at p (suc n) i e l = go (every-at p n i (and_left (every p n) (p n) e)) (ℕ_discrete i n)
-  where
-    go : (i < n → p i ≡ true) → Dec (i ≡ n) → p i ≡ true
-    go ih (yes q) = ap p q ∙ and_right (every p n) (p n) e
-    go ih (no ne) = ih (omega arith)
 
 -- digits and a byte behind them
 line-text : (s : List ℕ) (at n : ℕ) → at + n < length s → ((i : ℕ) → i < n → is_digit (get_or s (at + i) 0) ≡ true) → get_or s (at + n) 0 ≡ line_feed

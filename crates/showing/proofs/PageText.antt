@@ -15,10 +15,11 @@ use Rattle.memory.specs.rules.Lists.{table}
 use Rattle.memory.proofs.TableLaws.{get_or-table, length-table}
 use Rattle.listing.specs.rules.Digits.{digit_of, hex, joined, line_feed}
 use Rattle.judging.specs.rules.Spoiled.{every}
-use Rattle.showing.specs.rules.Inputs.{is_digit, digit_value, number_at, width_of, height_of, skew_of, slope_of, rows_at, row_digits, row_at, row_number, row_dot, row_good, head_good, sides_good, well_made, dot_at, dots_in, parsed, mask_of, dots_number, row_text, page_text}
-use Rattle.showing.specs.declared.input.Parsed.TheVariants.{Page}
+use Rattle.showing.specs.rules.Inputs.{is_digit, digit_value, number_at, width_of, height_of, skew_of, slope_of, rows_at, row_digits, row_at, row_number, row_dot, row_good, head_good, sides_good, well_made, dot_at, dots_in, page_of, parsed, mask_of, dots_number, row_text, page_text}
+use Rattle.std.specs.Prelude.{Some}
 use Rattle.listing.proofs.DigitLaws.{length-hex}
 use Rattle.listing.proofs.TextLaws.{length-joined}
+use Rattle.showing.proofs.ReadLaws.{every-all}
 use Rattle.showing.proofs.InputLaws.{row_of, column-of}
 use Rattle.showing.proofs.InputText.{hex-snoc, sixteen}
 
@@ -73,12 +74,6 @@ module _ (s : List ℕ) (at : ℕ) where
           ap (λ k. is_digit (get_or s (at + k) 0)) q
           ∙ (ap is_digit (last-is s (hex n (v / 16)) at n (digit_of (v % 16)) (length-hex n (v / 16)) f) ∙ digit-is (v % 16) (omega arith))
       go ih (no ne) = ih (front-is s (hex n (v / 16)) at n (digit_of (v % 16)) (length-hex n (v / 16)) f) i (omega arith)
-
--- ---- tests
-every-all : (p : ℕ → Bool) (n : ℕ) → ((i : ℕ) → i < n → p i ≡ true) → every p n ≡ true
-unfolding every
-every-all p zero h = refl
-every-all p (suc n) h = rw (every-all p n (λ i l. h i (omega arith)), h n (le_refl (suc n)))
 
 -- ---- texts of one length, one after the other
 joined_at : (f : ℕ → List ℕ) (k h y : ℕ) → ((i : ℕ) → length (f i) ≡ k) → y < h → take k (drop (y * k) (joined f h)) ≡ f y
@@ -267,9 +262,9 @@ module _ (w h skew slope : ℕ) (m : List ℕ) (narrow : w ≤ 16) (low : h ≤ 
   text-well-made =
       (λ i. (head-is i && sides-is i) && every (row_good text (width_is i)) (height-is i)) ∙ every-all (row_good text w) h row-good
 
-  pub text-parsed : parsed text ≡ Page w h skew slope
+  pub text-parsed : parsed text ≡ Some (page_of w h skew slope)
   unfolding parsed
-  text-parsed = rw text-well-made (λ i. Page (width_is i) (height-is i) (skew-is i) (slope-is i))
+  text-parsed = rw text-well-made (λ i. Some (page_of (width_is i) (height-is i) (skew-is i) (slope-is i)))
 
   pub text-mask : length m ≡ w * h → mask_of text ≡ m
   unfolding mask_of

@@ -10,8 +10,9 @@ use Rattle.memory.specs.rules.Words.{over}
 use Rattle.memory.proofs.TableLaws.{length-table}
 use Rattle.listing.specs.rules.Digits.{refusal_text}
 use Rattle.store.specs.rules.Outcomes.{Told}
-use Rattle.showing.specs.declared.input.Parsed.TheVariants.{Malformed, Page}
-use Rattle.showing.specs.rules.Inputs.{well_made, width_of, height_of, skew_of, slope_of, dot_at, dots_in, parsed, mask_of, page_text, max_shown_side}
+use Rattle.std.specs.Prelude.{Some, None}
+use Rattle.showing.specs.declared.input.Page.{Page}
+use Rattle.showing.specs.rules.Inputs.{well_made, width_of, height_of, skew_of, slope_of, dot_at, dots_in, page_of, parsed, mask_of, page_text, max_shown_side}
 use Rattle.showing.specs.rules.Shows.{leaf_shown, leaf_text, shown, shown_to}
 use Rattle.showing.specs.stages.Pages.{page_shown}
 use Rattle.showing.specs.stages.Texts.{text_told}
@@ -28,19 +29,21 @@ pub record Says (s : List ℕ) (w h skew slope : ℕ) : Type 0 where
   pub sloped : slope ≡ slope_of s
 
 -- a page is said by a well made input alone
-pub says : (s : List ℕ) (w h skew slope : ℕ) → parsed s ≡ Page w h skew slope → Says s w h skew slope
+pub says : (s : List ℕ) (p : Page) → parsed s ≡ Some p → Says s p.width p.height p.skew p.slope
 unfolding parsed
-says s w h skew slope e = go (well_made s) refl e
+says s p e = go (well_made s) refl e
   where
-    go : (b : Bool) → well_made s ≡ b → cond b (Page (width_of s) (height_of s) (skew_of s) (slope_of s)) Malformed ≡ Page w h skew slope → Says s w h skew slope
-    go true m q = record { well = m; wide = cc; high = cc; skewed = cc; sloped = cc }
+    go : (b : Bool) → well_made s ≡ b → cond b (Some (page_of (width_of s) (height_of s) (skew_of s) (slope_of s))) None ≡ Some p → Says s p.width p.height p.skew p.slope
+    go true m q =
+        let e : p ≡ page_of (width_of s) (height_of s) (skew_of s) (slope_of s) = cc in
+        record { well = m; wide = ap (λ z. z.width) e; high = ap (λ z. z.height) e; skewed = ap (λ z. z.skew) e; sloped = ap (λ z. z.slope) e }
     go false m q = let z : ◌≡◌ {A = ℕ} 0 1 = cc in absurd (omega arith)
 
-malformed : (s : List ℕ) → parsed s ≡ Malformed → well_made s ≡ false
+malformed : (s : List ℕ) → parsed s ≡ None → well_made s ≡ false
 unfolding parsed
 malformed s e = go (well_made s) e
   where
-    go : (b : Bool) → cond b (Page (width_of s) (height_of s) (skew_of s) (slope_of s)) Malformed ≡ Malformed → b ≡ false
+    go : (b : Bool) → cond b (Some (page_of (width_of s) (height_of s) (skew_of s) (slope_of s))) None ≡ None → b ≡ false
     go true q = let z : ◌≡◌ {A = ℕ} 0 1 = cc in absurd (omega arith)
     go false q = refl
 
@@ -51,7 +54,7 @@ unfolding text_told shown_to
 shown-is s out text e = ap (λ z. text_told z out) e
 
 -- an input that is not well made
-pub none-shown : (s out : List ℕ) → parsed s ≡ Malformed → (t : Told) → t ≡ text_told (refusal_text 0) out → t ≡ shown_to s out
+pub none-shown : (s out : List ℕ) → parsed s ≡ None → (t : Told) → t ≡ text_told (refusal_text 0) out → t ≡ shown_to s out
 none-shown s out e t q = q ∙ shown-is s out (refusal_text 0) text
   where
     text : refusal_text 0 ≡ shown s
@@ -97,7 +100,7 @@ pub shown-of-page : (w h skew slope : ℕ) (m : List ℕ) → w ≤ max_shown_si
 unfolding shown
 shown-of-page w h skew slope m narrow low skew-fits slope-fits bits size =
     let s = page_text w h skew slope m in
-    let S = says s w h skew slope (text-parsed w h skew slope m narrow low skew-fits slope-fits bits) in
+    let S = says s (page_of w h skew slope) (text-parsed w h skew slope m narrow low skew-fits slope-fits bits) in
     let e = text-mask w h skew slope m narrow low skew-fits slope-fits bits size in
     ap (λ b. cond b (leaf_text (leaf_shown s)) (refusal_text 0)) S.well
     ∙ (λ i. leaf_text (page_shown (e i) (sym S.wide i) (sym S.high i) (sym S.skewed i) (sym S.sloped i)))

@@ -17,15 +17,15 @@ use Rattle.judging.specs.rules.Spoiled.{skew_ok, slope_ok, every}
 use Rattle.listing.specs.rules.Digits.{digit_of, hex, refusal_text}
 use Rattle.listing.specs.rules.Pages.{page_sheet}
 use Rattle.listing.proofs.SampleSheet.{bytes, sample_text, sample-text}
-use Rattle.showing.specs.declared.input.Parsed.TheVariants.{Page}
-use Rattle.showing.specs.rules.Inputs.{is_digit, digit_value, number_at, row_good, head_good, sides_good, well_made, dots_in, parsed, mask_of}
+use Rattle.std.specs.Prelude.{Some}
+use Rattle.showing.specs.rules.Inputs.{is_digit, digit_value, number_at, row_good, head_good, sides_good, well_made, dots_in, page_of, parsed, mask_of}
 use Rattle.showing.specs.rules.Shows.{leaf_shown, leaf_number, leaf_text, shown}
 use Rattle.showing.proofs.ShowLaws.{leaf_sheet, leaf-printed}
 
 abbrev pub sample_input : List ℕ
 sample_input = bytes "0006000400000000000000000000000000000000\n00\n50\n50\n00\n"
 
-pub sample-parsed : parsed sample_input ≡ Page 6 4 0 0
+pub sample-parsed : parsed sample_input ≡ Some (page_of 6 4 0 0)
 unfolding is_digit digit_value every number_at row_good head_good sides_good well_made parsed
 sample-parsed = refl
 

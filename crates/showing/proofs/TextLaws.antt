@@ -7,7 +7,7 @@ use lib.ListN.{length}
 use Rattle.memory.specs.rules.Refusals.{refuse_if}
 use Rattle.memory.specs.rules.Words.{over}
 use Rattle.listing.specs.rules.Digits.{hex, refusal_text}
-use Rattle.listing.specs.stages.Pairs.{refusal_length}
+use Rattle.listing.specs.stages.Parts.{refusal_length}
 use Rattle.store.specs.rules.Readings.Output.{words}
 use Rattle.store.specs.rules.Outcomes.{told, told_by}
 use Rattle.showing.specs.stages.Texts.{text_told}

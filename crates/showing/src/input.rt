@@ -26,16 +26,13 @@ const HEAD_DIGITS: usize = 40;
 // The longest side.
 const MOST_SIDE: usize = 16;
 
-// What an input says: a page's sides, and its skew and slope as f64 bits; or it is malformed.
-#[derive(Clone, Copy)]
-pub enum Parsed {
-    Malformed,
-    Page {
-        width: u32,
-        height: u32,
-        skew: u64,
-        slope: u64,
-    },
+// What a well made input says: a page's sides, and its skew and slope as f64 bits.
+#[derive(Clone, Copy, Debug, PartialEq, Eq)]
+pub struct Page {
+    pub width: u32,
+    pub height: u32,
+    pub skew: u64,
+    pub slope: u64,
 }
 
 // Whether line one is well made.
@@ -62,10 +59,7 @@ fn sides_good(s: &[u8]) -> bool
 fn well_made(s: &[u8]) -> bool
     ensures { result ≡ well_made s.now }
 {
-    if !head_good(s) {
-        return false;
-    }
-    if !sides_good(s) {
+    if !head_good(s) || !sides_good(s) {
         return false;
     }
     let w = number_at(s, WIDTH_AT, SIDE_DIGITS) as usize;
@@ -73,23 +67,23 @@ fn well_made(s: &[u8]) -> bool
     rows_good(s, w, h)
 }
 
-// What the input says; the dots of a page over the front of the mask.
-pub fn parse_page(input: &[u8], mask: &mut [u8]) -> Parsed
+// What the input says, where it is well made; the dots of its page over the front of the mask.
+pub fn parse_page(input: &[u8], mask: &mut [u8]) -> Option<Page>
     requires { most_dots ≤ length mask.old }
     ensures { (result ≡ parsed input.now) × (mask.new ≡ over (mask_of input.now) mask.old) }
 {
-    if well_made(input) {
-        let width = number_at(input, WIDTH_AT, SIDE_DIGITS);
-        let height = number_at(input, HEIGHT_AT, SIDE_DIGITS);
-        let skew = number_at(input, SKEW_AT, FLOAT_DIGITS);
-        let slope = number_at(input, SLOPE_AT, FLOAT_DIGITS);
-        fill_mask(input, width as usize, height as usize, mask);
-        return Parsed::Page {
-            width: width as u32,
-            height: height as u32,
-            skew,
-            slope,
-        };
+    if !well_made(input) {
+        return None;
     }
-    Parsed::Malformed
+    let width = number_at(input, WIDTH_AT, SIDE_DIGITS) as u32;
+    let height = number_at(input, HEIGHT_AT, SIDE_DIGITS) as u32;
+    let skew = number_at(input, SKEW_AT, FLOAT_DIGITS);
+    let slope = number_at(input, SLOPE_AT, FLOAT_DIGITS);
+    fill_mask(input, width as usize, height as usize, mask);
+    Some(Page {
+        width,
+        height,
+        skew,
+        slope,
+    })
 }

@@ -11,7 +11,7 @@ ghost use Rattle.showing.specs.stages.Pages.{page_shown};
 ghost use Rattle.showing.specs.stages.Rooms.{ShownRoom};
 ghost use Rattle.showing.specs.stages.Texts.{text_told};
 
-use crate::input::{Parsed, parse_page};
+use crate::input::{Page, parse_page};
 use listing::put_refusal;
 use memory::from_bits;
 use params::LayoutParams;
@@ -80,25 +80,15 @@ fn number_of(outcome: Outcome) -> u32
 }
 
 // The page levelled into the store and the ink plane: the number of a refusal, or 0.
-fn level_page(
-    mask: &[u8],
-    width: u32,
-    height: u32,
-    skew: u64,
-    slope: u64,
-    store: &mut [u32],
-    ink: &mut [u8],
-) -> u32
-    ensures { left result store.new ink.new ≡ level_left (page_shown mask.now width height skew slope) store.old ink.old }
+fn level_page(mask: &[u8], page: Page, store: &mut [u32], ink: &mut [u8]) -> u32
+    ensures { left result store.new ink.new ≡ level_left (page_shown mask.now page.width page.height page.skew page.slope) store.old ink.old }
 {
     let sheet = show_sheet();
-    let tilt = from_bits(skew);
-    let rise = from_bits(slope);
     let handed = Handed {
-        width,
-        height,
-        skew: tilt,
-        slope: rise,
+        width: page.width,
+        height: page.height,
+        skew: from_bits(page.skew),
+        slope: from_bits(page.slope),
         capacity: CAPACITY,
     };
     let done = level(mask, handed, sheet, store, ink);
@@ -117,21 +107,18 @@ fn segment_page(store: &mut [u32], ink: &[u8], kinds: &mut [u8], scratch: &mut [
 // A page levelled, segmented and printed, in memory that is long enough for it.
 fn show_leaf(
     mask: &[u8],
-    width: u32,
-    height: u32,
-    skew: u64,
-    slope: u64,
+    page: Page,
     store: &mut [u32],
     ink: &mut [u8],
     kinds: &mut [u8],
     scratch: &mut [u32],
     out: &mut [u8],
 ) -> Answer
-    requires small { (width ≤ max_shown_side) × (height ≤ max_shown_side) }
+    requires small { (page.width ≤ max_shown_side) × (page.height ≤ max_shown_side) }
     requires room { ShownRoom store.old ink.old kinds.old scratch.old }
-    ensures { told (answer_number result) (answer_value result) (words out.new) ≡ text_told (leaf_text (page_shown mask.now width height skew slope)) out.old }
+    ensures { told (answer_number result) (answer_value result) (words out.new) ≡ text_told (leaf_text (page_shown mask.now page.width page.height page.skew page.slope)) out.old }
 {
-    let refused = level_page(mask, width, height, skew, slope, store, ink);
+    let refused = level_page(mask, page, store, ink);
     if refused != 0 {
         return tell_refusal(refused, out);
     }
@@ -143,9 +130,9 @@ fn show_leaf(
 }
 
 // The same in memory of its own, empty at first.
-fn show_page(mask: &[u8], width: u32, height: u32, skew: u64, slope: u64, out: &mut [u8]) -> Answer
-    requires { (width ≤ max_shown_side) × (height ≤ max_shown_side) }
-    ensures { told (answer_number result) (answer_value result) (words out.new) ≡ text_told (leaf_text (page_shown mask.now width height skew slope)) out.old }
+fn show_page(mask: &[u8], page: Page, out: &mut [u8]) -> Answer
+    requires { (page.width ≤ max_shown_side) × (page.height ≤ max_shown_side) }
+    ensures { told (answer_number result) (answer_value result) (words out.new) ≡ text_told (leaf_text (page_shown mask.now page.width page.height page.skew page.slope)) out.old }
 {
     let mut store = [0u32; STORE];
     let mut ink = [0u8; FRAME_DOTS];
@@ -153,10 +140,7 @@ fn show_page(mask: &[u8], width: u32, height: u32, skew: u64, slope: u64, out: &
     let mut scratch = [0u32; SCRATCH];
     show_leaf(
         mask,
-        width,
-        height,
-        skew,
-        slope,
+        page,
         &mut store,
         &mut ink,
         &mut kinds,
@@ -171,15 +155,10 @@ pub fn show(input: &[u8], out: &mut [u8]) -> Answer
 {
     let mut mask = [0u8; PAGE_DOTS];
     match parse_page(input, &mut mask) {
-        Parsed::Malformed => tell_refusal(0, out),
-        Parsed::Page {
-            width,
-            height,
-            skew,
-            slope,
-        } => {
-            let dots = (width as usize) * (height as usize);
-            show_page(&mask[..dots], width, height, skew, slope, out)
+        None => tell_refusal(0, out),
+        Some(page) => {
+            let dots = (page.width as usize) * (page.height as usize);
+            show_page(&mask[..dots], page, out)
         }
     }
 }

@@ -3,18 +3,19 @@ ghost use Rattle.std.specs.Prelude.{◌≡◌, ◌+◌, ◌<◌, ◌≤◌, ◌^
 ghost use Rattle.showing.specs.rules.Inputs.{is_digit, digit_value, digits_at, number_at};
 
 // Whether a byte is an upper-case hexadecimal digit.
+#[tactic(auto, using(std::proofs::lemmas::Bool::Decides::nat_tests), unfolding(crate::specs::rules::Inputs::is_digit))]
 fn is_digit(b: u8) -> bool
     ensures { result ≡ is_digit b }
 {
-    (48 <= b) & (b <= 57) | (65 <= b) & (b <= 70)
+    matches!(b, b'0'..=b'9' | b'A'..=b'F')
 }
 
 // Its value.
 fn digit_value(b: u8) -> u64
     ensures { (result ≡ digit_value b) × (result < 16) }
 {
-    let v = b as u64;
-    if v <= 57 { v % 16 } else { (v - 55) % 16 }
+    let v = if b <= b'9' { b } else { b - 55 };
+    (v % 16) as u64
 }
 
 // Whether n digits stand at a place.
@@ -22,13 +23,7 @@ pub fn digits_at(s: &[u8], at: usize, n: usize) -> bool
     requires { at + n ≤ length s.now }
     ensures { result ≡ digits_at s.now at n }
 {
-    let mut good = true;
-    let mut i = 0;
-    while i < n {
-        good = good & is_digit(s[at + i]);
-        i += 1;
-    }
-    good
+    s[at..at + n].iter().all(|b| is_digit(*b))
 }
 
 // The number in the n digits at a place.
@@ -37,10 +32,8 @@ pub fn number_at(s: &[u8], at: usize, n: usize) -> u64
     ensures { (result ≡ number_at s.now at n) × (result < 16 ^ n) }
 {
     let mut v = 0;
-    let mut i = 0;
-    while i < n {
-        v = v * 16 + digit_value(s[at + i]);
-        i += 1;
+    for b in &s[at..at + n] {
+        v = v * 16 + digit_value(*b);
     }
     v
 }

@@ -28,13 +28,12 @@ pub fn rows_good(s: &[u8], w: usize, h: usize) -> bool
     requires { (w ≤ 16) × (row_at w h ≤ length s.now) }
     ensures { result ≡ every (row_good s.now w) h }
 {
-    let mut good = true;
-    let mut y = 0;
-    while y < h {
-        good = good & row_good(s, w, y);
-        y += 1;
+    for y in 0..h {
+        if !row_good(s, w, y) {
+            return false;
+        }
     }
-    good
+    true
 }
 
 // Dot i of the page.
@@ -55,9 +54,7 @@ pub fn fill_mask(s: &[u8], w: usize, h: usize, mask: &mut [u8])
     ensures { mask.new ≡ over (dots_in s.now w h) mask.old }
 {
     let n = w * h;
-    let mut i = 0;
-    while i < n {
+    for i in 0..n {
         mask[i] = dot_at(s, w, h, i);
-        i += 1;
     }
 }

@@ -44,3 +44,7 @@ sheet_length figures =
     + glyph_count figures * entry_length 5
     + column_count figures * entry_length 6
     + entry_length 7
+
+-- the bytes of a refusal's line: FF, two digits of number, a line feed
+abbrev pub refusal_length : ℕ
+refusal_length = 5

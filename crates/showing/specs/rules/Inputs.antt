@@ -1,11 +1,10 @@
 -- The show program's input (01, "Leaves to try"; docs/DECISIONS.md, 1 to 3): width and height in 4 digits each, skew and slope as f64 bits in 16
 -- each, a line feed; then a line a row, four dots a digit, left highest, zero-padded. Everything else is malformed, and so is a side above 16.
-use Rattle.std.specs.Prelude.{ℕ, zero, suc, ◌+◌, ◌-◌, ◌*◌, ◌/◌, ◌%◌, ◌^◌, Bool, cond, ◌&&◌, ◌||◌, List, [], ◌∷◌, ◌++◌, eqb, leb, get_or, length}
+use Rattle.std.specs.Prelude.{ℕ, zero, suc, ◌+◌, ◌-◌, ◌*◌, ◌/◌, ◌%◌, ◌^◌, Bool, cond, ◌&&◌, ◌||◌, List, [], ◌∷◌, ◌++◌, eqb, leb, get_or, length, Option, Some, None}
 use Rattle.memory.specs.rules.Lists.{table}
 use Rattle.judging.specs.rules.Spoiled.{every}
 use Rattle.listing.specs.rules.Digits.{line_feed, hex, joined}
-use Rattle.showing.specs.declared.input.Parsed.{Parsed}
-use Rattle.showing.specs.declared.input.Parsed.TheVariants.{Malformed, Page}
+use Rattle.showing.specs.declared.input.Page.{Page}
 
 -- an upper-case hexadecimal digit
 unfoldable pub is_digit : ℕ → Bool
@@ -87,9 +86,13 @@ dot_at s w i = row_dot w (row_number s w (i / w)) (i % w)
 unfoldable pub dots_in : List ℕ → ℕ → ℕ → List ℕ
 dots_in s w h = table (dot_at s w) (w * h)
 
+-- a page of these sides, this skew and this slope
+abbrev pub page_of : ℕ → ℕ → ℕ → ℕ → Page
+page_of w h skew slope = record { width = w; height = h; skew = skew; slope = slope }
+
 -- what the input says: width, height, skew and slope, or nothing
-unfoldable pub parsed : List ℕ → Parsed
-parsed s = cond (well_made s) (Page (width_of s) (height_of s) (skew_of s) (slope_of s)) Malformed
+unfoldable pub parsed : List ℕ → Option Page
+parsed s = cond (well_made s) (Some (page_of (width_of s) (height_of s) (skew_of s) (slope_of s))) None
 
 -- the mask of a page; none where the input is malformed
 unfoldable pub mask_of : List ℕ → List ℕ

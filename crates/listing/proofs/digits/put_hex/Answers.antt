@@ -1,38 +1,30 @@
-use mathlib.Core.Path.{refl}
-use lib.ListN.{length-set}
-use Rattle.listing.proofs.DigitLaws.{none_written, pair_step, two-quotients, hex-written, odd-digit, length-hex}
+use Prim.Native.Nat.{◌*◌}
 use native.Mathlib.Omega.{arith}
+use Rattle.listing.proofs.DigitLaws.{none_written, pair_step, two-quotients, hex-written, odd-digit, length-hex}
 use Rattle.listing.proofs.digits.put_hex.Goals as goal
 
-pub loop-done-init : goal.loop-done-init
-loop-done-init c =
+pub loop-k-init : goal.loop-k-init
+loop-k-init c = let a = c.args in (omega arith, none_written a.out.now a.at a.digits a.value (omega arith))
+
+pub loop-k-preserved : goal.loop-k-preserved
+loop-k-preserved c =
     let a = c.args in
-    (omega arith, omega arith, none_written a.out.now a.at a.digits a.value (omega arith), refl)
+    let k = c.loop-k in
+    (two-quotients a.value k.v k.k k.invariant.0, pair_step a.out.now k.out a.at a.digits k.k k.v a.value c.pair-high.result.0 c.pair-high.result.1 (omega arith) (omega arith) k.invariant.0 c.pair-high.ensures.0 c.pair-high.ensures.1 k.invariant.1)
 
-pub bounds-out-last-in-loop-done : goal.bounds-out-last-in-loop-done
-bounds-out-last-in-loop-done c = simp length-set (omega arith)
-
-pub loop-done-preserved : goal.loop-done-preserved
-loop-done-preserved c =
-    let a = c.args in (
-      omega arith,
-      two-quotients a.value c.loop-done.v c.loop-done.done c.loop-done.invariant.1,
-      pair_step a.out.now c.loop-done.out a.at a.digits c.loop-done.done c.loop-done.v a.value c.pair-p.result (omega arith) (omega arith) c.loop-done.invariant.1 c.pair-p.ensures c.loop-done.invariant.2,
-      simp length-set c.loop-done.invariant.3,
-    )
-
-pub returns-then-done-digits : goal.returns-then-done-digits
-returns-then-done-digits c =
+pub returns-then-digits-eq1 : goal.returns-then-digits-eq1
+returns-then-digits-eq1 c =
     let a = c.args in
+    let k = c.loop-k in
     record {
       place = (let l = length-hex a.digits a.value in omega arith);
-      bytes = odd-digit a.out.now c.loop-done.out a.at a.digits c.loop-done.done c.loop-done.v a.value c.pair.result (omega arith) (omega arith) (omega arith) c.loop-done.invariant.1 c.pair.ensures c.loop-done.invariant.2;
+      bytes = odd-digit a.out.now k.out a.at a.digits k.k k.v a.value c.pair.result.1 (omega arith) (omega arith) c.if-digits-eq1.true k.invariant.0 c.pair.ensures.1 k.invariant.1;
     }
 
-pub returns : goal.returns
-returns c =
+pub returns-else-digits-eq1 : goal.returns-else-digits-eq1
+returns-else-digits-eq1 c =
     let a = c.args in
     record {
       place = (let l = length-hex a.digits a.value in omega arith);
-      bytes = hex-written a.out.now c.loop-done.out a.at a.digits c.loop-done.done a.value (omega arith) c.loop-done.invariant.2;
+      bytes = hex-written a.out.now c.loop-k.out a.at a.digits (2 * c.loop-k.k) a.value (omega arith) c.loop-k.invariant.1;
     }

@@ -1,4 +1,4 @@
-use mathlib.Core.Path.{◌≡◌, refl, subst}
+use mathlib.Core.Path.{◌≡◌, subst}
 use lib.ListN.{length}
 use Rattle.listing.specs.rules.Digits.{joined}
 use Rattle.listing.specs.stages.Puts.{Put}
@@ -10,7 +10,7 @@ use Rattle.listing.proofs.entries.put_entries.Goals as goal
 
 pub loop-i-init : goal.loop-i-init
 unfolding entries_text joined
-loop-i-init c = let a = c.args in (c.field_count-count.ensures, omega arith, put-none a.out.now a.at, refl)
+loop-i-init c = let a = c.args in put-none a.out.now a.at
 
 pub overflow_mul-i : goal.overflow_mul-i
 overflow_mul-i c =
@@ -21,20 +21,16 @@ put_entry-p-requires c =
     let a = c.args in (
       c.requires.0,
       words-there a.n c.loop-i.i (field_count a.kind) (length a.words.now) c.field_count-count.result c.field_count-count.ensures c.requires.1 (omega arith),
-      entries-room a.out.now c.loop-i.out a.words.now a.at a.kind a.n c.loop-i.i c.loop-i.p (omega arith) c.requires.2 c.field_count-count.result c.field_count-count.ensures c.loop-i.invariant.2,
+      entries-room a.out.now c.loop-i.out a.words.now a.at a.kind a.n c.loop-i.i c.loop-i.p (omega arith) c.requires.2 c.field_count-count.result c.field_count-count.ensures c.loop-i.invariant,
     )
 
 pub loop-i-preserved : goal.loop-i-preserved
 loop-i-preserved c =
-    let a = c.args in (
-      c.loop-i.invariant.0,
-      omega arith,
-      entries-more a.out.now c.loop-i.out c.put_entry-p.new.out a.words.now a.at a.kind a.n c.loop-i.i c.loop-i.p c.put_entry-p.result (omega arith) c.requires.2 c.field_count-count.result c.field_count-count.ensures c.loop-i.invariant.2 c.put_entry-p.ensures,
-      omega (arith, c.put_entry-p.auto.out),
-    )
+    let a = c.args in
+    entries-more a.out.now c.loop-i.out c.put_entry-p.new.out a.words.now a.at a.kind a.n c.loop-i.i c.loop-i.p c.put_entry-p.result (omega arith) c.requires.2 c.field_count-count.result c.field_count-count.ensures c.loop-i.invariant c.put_entry-p.ensures
 
 pub returns : goal.returns
 returns c =
     let a = c.args in
     let e : c.loop-i.i ≡ a.n = omega arith in
-    subst (λ n. Put a.out.now a.at (entries_text a.kind a.words.now n) c.loop-i.p c.loop-i.out) e c.loop-i.invariant.2
+    subst (λ n. Put a.out.now a.at (entries_text a.kind a.words.now n) c.loop-i.p c.loop-i.out) e c.loop-i.invariant

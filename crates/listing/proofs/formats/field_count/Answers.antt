@@ -1,4 +1,3 @@
-use mathlib.Core.Path.{◌∙◌}
 use mathlib.Core.Bool.{Bool}
 use mathlib.Core.List.{List, [], ◌∷◌}
 use Prim.Native.Nat.{ℕ}
@@ -19,5 +18,4 @@ right k x = eqb x (field_count k)
 pub returns : goal.returns
 unfolding entries right
 returns c =
-    c.wide.ensures
-    ∙ eqb→eq (get_or entries c.args.kind 0) (field_count c.args.kind) (at right entries tt c.args.kind (search rules))
+    eqb→eq (get_or entries c.args.kind 0) (field_count c.args.kind) (at right entries tt c.args.kind (search rules))

@@ -1,4 +1,4 @@
-use mathlib.Core.Path.{◌≡◌, sym, ap, ◌∙◌}
+use mathlib.Core.Path.{◌≡◌, sym, ◌∙◌}
 use mathlib.Core.Bool.{Bool}
 use mathlib.Core.List.{List, [], ◌∷◌}
 use Prim.Native.Nat.{ℕ, ◌+◌, ◌-◌, ◌*◌, ◌/◌, ◌%◌, ◌^◌}
@@ -28,6 +28,5 @@ returns c =
     let k = a.kind * 8 + a.j in
     let q : k / 8 ≡ a.kind = omega arith in
     let r : k % 8 ≡ a.j = omega arith in
-    ap (λ f. f / 2 ^ (28 - 4 * a.j) % 16) c.wide-format.ensures
-    ∙ (sym (λ i. digits (q i) (r i))
-    ∙ (eqb→eq (digits (k / 8) (k % 8)) (field_digits (k / 8) (k % 8)) (at right (upto 64) tt k (omega arith)) ∙ (λ i. field_digits (q i) (r i))))
+    sym (λ i. digits (q i) (r i))
+    ∙ (eqb→eq (digits (k / 8) (k % 8)) (field_digits (k / 8) (k % 8)) (at right (upto 64) tt k (omega arith)) ∙ (λ i. field_digits (q i) (r i)))

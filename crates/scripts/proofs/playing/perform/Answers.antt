@@ -3,8 +3,6 @@ use Rattle.scripts.specs.rules.Scripts.{outputs}
 use Rattle.scripts.proofs.ScriptLaws.{part-long, did-level, did-segment, did-read-level, did-read-result, did-clear}
 use Rattle.scripts.proofs.playing.perform.Goals as goal
 
--- `scripts::playing::perform` meets its contract. Assumes nothing.
-
 pub returns-then-op-eq-LEVEL : goal.returns-then-op-eq-LEVEL
 returns-then-op-eq-LEVEL c = did-level c.args.floats.now c.args.bytes.now (length c.args.scratch.now) c.args.call.now c.args.store.now c.args.ink.now c.args.kinds.now (outputs c.args.words.now c.args.gray.now c.args.integers.now c.args.numbers.now) c.word_at-op.ensures c.log_outcome.ensures.0 c.log_outcome.ensures.1 c.if-op-eq-LEVEL.true c.level_call.ensures
 

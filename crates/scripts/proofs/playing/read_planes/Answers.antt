@@ -2,8 +2,6 @@ use Rattle.scripts.specs.rules.Scripts.{outputs, result_reading}
 use Rattle.scripts.proofs.ScriptLaws.{part-long, lent-planes}
 use Rattle.scripts.proofs.playing.read_planes.Goals as goal
 
--- `scripts::playing::read_planes` meets its contract. Assumes nothing.
-
 pub slice_bounds-read_results-end : goal.slice_bounds-read_results-end
 slice_bounds-read_results-end c = part-long _ _ c.args.ink.now c.cut-m.ensures
 

@@ -1,8 +1,6 @@
 use Rattle.scripts.proofs.ScriptLaws.{part-long, read-summary, read-twenty, read_count, read-sheet, read-words}
 use Rattle.scripts.proofs.playing.read_results.Goals as goal
 
--- `scripts::playing::read_results` meets its contract. Assumes nothing.
-
 pub slice_bounds-read_summary-end-then-op-eq-SUMMARY : goal.slice_bounds-read_summary-end-then-op-eq-SUMMARY
 slice_bounds-read_summary-end-then-op-eq-SUMMARY c = part-long _ _ c.args.numbers.now c.cut-n.ensures
 

@@ -2,23 +2,6 @@ use lib.ListN.{length}
 use Rattle.scripts.proofs.ScriptLaws.{part-long, segment-called}
 use Rattle.scripts.proofs.playing.segment_call.Goals as goal
 
--- `scripts::playing::segment_call` meets its contract. Assumes nothing.
-
-pub cut-n-requires : goal.cut-n-requires
-cut-n-requires c = tt
-
-pub cut-m-requires : goal.cut-m-requires
-cut-m-requires c = tt
-
-pub cut-k-requires : goal.cut-k-requires
-cut-k-requires c = tt
-
-pub cut-x-requires : goal.cut-x-requires
-cut-x-requires c = tt
-
-pub sheet_of-sheet-requires : goal.sheet_of-sheet-requires
-sheet_of-sheet-requires c = tt
-
 pub slice_bounds-segment-end-2 : goal.slice_bounds-segment-end-2
 slice_bounds-segment-end-2 c = part-long _ _ c.args.store.now c.cut-n.ensures
 
@@ -30,9 +13,6 @@ slice_bounds-segment-end-5 c = part-long _ _ c.args.kinds.now c.cut-k.ensures
 
 pub slice_bounds-segment-end-7 : goal.slice_bounds-segment-end-7
 slice_bounds-segment-end-7 c = part-long _ _ c.args.scratch.now c.cut-x.ensures
-
-pub segment-requires : goal.segment-requires
-segment-requires c = tt
 
 pub returns : goal.returns
 returns c =

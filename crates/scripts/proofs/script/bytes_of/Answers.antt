@@ -4,14 +4,6 @@ use native.Mathlib.Omega.{arith}
 use Rattle.scripts.specs.rules.Scripts.{bytes_of}
 use Rattle.scripts.proofs.script.bytes_of.Goals as goal
 
--- `scripts::script::bytes_of` meets its contract. Assumes nothing.
-
-pub cut-from-requires : goal.cut-from-requires
-cut-from-requires c = tt
-
-pub cut-n-requires : goal.cut-n-requires
-cut-n-requires c = tt
-
 pub returns : goal.returns
 unfolding bytes_of
 returns c =

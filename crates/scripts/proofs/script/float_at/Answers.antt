@@ -4,8 +4,6 @@ use lib.Ieee.{nan, div, of_bits}
 use lib.ListN.{get_or-eq_default}
 use Rattle.scripts.proofs.script.float_at.Goals as goal
 
--- `scripts::script::float_at` meets its contract. Assumes nothing.
-
 pub returns-then-k-floats : goal.returns-then-k-floats
 returns-then-k-floats c = refl
 

@@ -5,67 +5,8 @@ use Rattle.memory.specs.rules.Words.{word_at}
 use Rattle.scripts.specs.rules.Scripts.{sheet_at, number_at, sheet_from}
 use Rattle.scripts.proofs.script.sheet_of.Goals as goal
 
--- `scripts::script::sheet_of` meets its contract. Assumes nothing.
-
-pub word_at-at-requires : goal.word_at-at-requires
-word_at-at-requires c = tt
-
-pub word_at-requires : goal.word_at-requires
-word_at-requires c = tt
-
-pub float_at-requires : goal.float_at-requires
-float_at-requires c = tt
-
-pub word_at-requires-2 : goal.word_at-requires-2
-word_at-requires-2 c = tt
-
-pub float_at-requires-2 : goal.float_at-requires-2
-float_at-requires-2 c = tt
-
-pub float_at-requires-3 : goal.float_at-requires-3
-float_at-requires-3 c = tt
-
-pub float_at-requires-4 : goal.float_at-requires-4
-float_at-requires-4 c = tt
-
-pub float_at-requires-5 : goal.float_at-requires-5
-float_at-requires-5 c = tt
-
-pub float_at-requires-6 : goal.float_at-requires-6
-float_at-requires-6 c = tt
-
-pub float_at-requires-7 : goal.float_at-requires-7
-float_at-requires-7 c = tt
-
-pub word_at-requires-3 : goal.word_at-requires-3
-word_at-requires-3 c = tt
-
-pub float_at-requires-8 : goal.float_at-requires-8
-float_at-requires-8 c = tt
-
-pub float_at-requires-9 : goal.float_at-requires-9
-float_at-requires-9 c = tt
-
-pub float_at-requires-10 : goal.float_at-requires-10
-float_at-requires-10 c = tt
-
-pub float_at-requires-11 : goal.float_at-requires-11
-float_at-requires-11 c = tt
-
-pub float_at-requires-12 : goal.float_at-requires-12
-float_at-requires-12 c = tt
-
-pub float_at-requires-13 : goal.float_at-requires-13
-float_at-requires-13 c = tt
-
-pub float_at-requires-14 : goal.float_at-requires-14
-float_at-requires-14 c = tt
-
 pub overflow_add-at-14 : goal.overflow_add-at-14
 overflow_add-at-14 c = omega (arith, c.word_at-at.type_inv)
-
-pub float_at-requires-15 : goal.float_at-requires-15
-float_at-requires-15 c = tt
 
 pub returns : goal.returns
 unfolding sheet_from

@@ -1,10 +1,6 @@
-use Prim.Native.Nat.{◌-◌, ◌≤◌}
 use Rattle.segmenting.specs.stages.Held.{unpacked_boxes}
 use Rattle.segmenting.proofs.BoxLaws.{BoxesWritten}
 use Rattle.segmenting.proofs.boxes.unpack_boxes.Given as goal
 
 abbrev pub invariant-loop-k : goal.invariant-loop-k
-invariant-loop-k l = (l.k ≤ l.count) × BoxesWritten (unpacked_boxes l.words l.from l.k) l.initial.out l.out l.k
-
-abbrev pub decreases-loop-k : goal.decreases-loop-k
-decreases-loop-k l = l.count - l.k
+invariant-loop-k l = BoxesWritten (unpacked_boxes l.words l.from l.k) l.initial.out l.out l.k

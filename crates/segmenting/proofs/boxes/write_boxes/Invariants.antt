@@ -1,10 +1,6 @@
-use Prim.Native.Nat.{◌-◌, ◌≤◌}
 use Rattle.segmenting.specs.stages.Held.{held_boxes}
 use Rattle.segmenting.proofs.BoxLaws.{BoxesWritten}
 use Rattle.segmenting.proofs.boxes.write_boxes.Given as goal
 
 abbrev pub invariant-loop-k : goal.invariant-loop-k
-invariant-loop-k l = (l.k ≤ l.count) × BoxesWritten (held_boxes l.words l.sizes l.kinds l.kind l.k) l.initial.out l.out l.n
-
-abbrev pub decreases-loop-k : goal.decreases-loop-k
-decreases-loop-k l = l.count - l.k
+invariant-loop-k l = BoxesWritten (held_boxes l.words l.sizes l.kinds l.kind l.k) l.initial.out l.out l.n

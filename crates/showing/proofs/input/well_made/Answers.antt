@@ -5,15 +5,18 @@ use Rattle.showing.specs.rules.Inputs.{row_good, row_at}
 use Rattle.showing.proofs.InputLaws.{head-long, sides-good, head-bad, sides-bad, rows_tell}
 use native.Mathlib.Omega.{arith}
 use Rattle.showing.proofs.input.well_made.Goals as goal
+use Rattle.showing.proofs.input.well_made.Goals.{then-not-head_good-via-then-not-head_good, then-not-head_good-via-else-not-head_good+then-not-sides_good}
 
 pub returns-then-not-head_good : goal.returns-then-not-head_good
-returns-then-not-head_good c = sym (head-bad c.args.s.now (sym c.head_good.ensures ∙ c.if-not-head_good.true))
+returns-then-not-head_good c =
+    let s = c.args.s.now in
+    elim c.then-not-head_good.branch [
+      | then-not-head_good-via-then-not-head_good w ↦ sym (head-bad s (sym c.head_good.ensures ∙ w.if-not-head_good.true))
+      | then-not-head_good-via-else-not-head_good+then-not-sides_good w ↦ sym (sides-bad s (sym c.head_good.ensures ∙ w.if-not-head_good.false) (sym w.sides_good.ensures ∙ w.if-not-sides_good.true))
+    ]
 
 pub sides_good-requires : goal.sides_good-requires
 sides_good-requires c = head-long c.args.s.now (sym c.head_good.ensures ∙ c.if-not-head_good.false)
-
-pub returns-then-not-sides_good : goal.returns-then-not-sides_good
-returns-then-not-sides_good c = sym (sides-bad c.args.s.now (sym c.head_good.ensures ∙ c.if-not-head_good.false) (sym c.sides_good.ensures ∙ c.if-not-sides_good.true))
 
 pub number_at-w-requires : goal.number_at-w-requires
 number_at-w-requires c =

@@ -1,12 +1,9 @@
-use borrow.Author.Tests.{le-leb, lt-leb}
-use Rattle.showing.specs.rules.Inputs.{digit_value}
 use native.Mathlib.Omega.{arith}
+use Rattle.std.proofs.lemmas.Bool.Decides.{nat_tests}
+use Rattle.showing.specs.rules.Inputs.{digit_value}
 use Rattle.showing.proofs.reading.digit_value.Goals as goal
+use Rattle.showing.proofs.reading.digit_value.Goals.{then-b-le57, else-b-le57}
 
-pub returns-then-v-le57 : goal.returns-then-v-le57
+pub returns : goal.returns
 unfolding digit_value
-returns-then-v-le57 c = (simp (le-leb _ _ c.if-v-le57.true), omega arith)
-
-pub returns-else-v-le57 : goal.returns-else-v-le57
-unfolding digit_value
-returns-else-v-le57 c = (simp (lt-leb _ _ c.if-v-le57.false), omega arith)
+returns c = elim c.if-b-le57.branch [ then-b-le57 w ↦ (grind (arith, nat_tests), omega arith) | else-b-le57 w ↦ (grind (arith, nat_tests), omega arith) ]

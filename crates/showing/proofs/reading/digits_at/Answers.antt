@@ -1,22 +1,11 @@
-use mathlib.Core.Path.{◌≡◌, refl, ap, ◌∙◌}
-use Rattle.judging.specs.rules.Spoiled.{every}
-use Rattle.showing.specs.rules.Inputs.{digits_at}
-use Rattle.showing.proofs.ReadLaws.{every_more}
-use native.Mathlib.Omega.{arith}
+use Rattle.std.proofs.Common.{rules, ◌+◌, ◌-◌, take, drop, get_or}
+use Rattle.std.specs.Prelude.{◌↔◌, IsTrue, EachIndex}
+use Rattle.showing.specs.rules.Inputs.{is_digit}
+use Rattle.showing.proofs.ReadLaws.{part-told}
 use Rattle.showing.proofs.reading.digits_at.Goals as goal
-
-pub loop-i-init : goal.loop-i-init
-unfolding every
-loop-i-init c = (omega arith, refl)
-
-pub is_digit-good-requires : goal.is_digit-good-requires
-is_digit-good-requires c = tt
-
-pub loop-i-preserved : goal.loop-i-preserved
-loop-i-preserved c = (omega arith, every_more _ _ _ _ c.loop-i.invariant.1 c.is_digit-good.ensures)
 
 pub returns : goal.returns
 returns c =
     let a = c.args in
-    let e : c.loop-i.i ≡ a.n = omega arith in
-    c.loop-i.invariant.1 ∙ ap (digits_at a.s.now a.at) e
+    part-told is_digit a.s.now a.at a.n c.requires c.all.result
+    (let d : IsTrue c.all.result ↔ EachIndex (take (a.at + a.n - a.at) (drop a.at a.s.now)) (λ k. IsTrue (is_digit (get_or (take (a.at + a.n - a.at) (drop a.at a.s.now)) k 0))) = search rules in d)

@@ -1,28 +1,11 @@
-use mathlib.Core.Path.{◌≡◌, refl, ap, ◌∙◌}
-use Rattle.judging.specs.rules.Spoiled.{every}
-use Rattle.showing.specs.rules.Inputs.{row_good}
-use Rattle.showing.proofs.ReadLaws.{every_more}
-use Rattle.showing.proofs.InputLaws.{row_inside}
+use mathlib.Core.Path.{sym, ◌∙◌}
 use native.Mathlib.Omega.{arith}
+use Rattle.showing.specs.rules.Inputs.{row_good}
+use Rattle.showing.proofs.ReadLaws.{every-all, every-broken}
 use Rattle.showing.proofs.rows.rows_good.Goals as goal
 
-pub loop-y-init : goal.loop-y-init
-unfolding every
-loop-y-init c = (omega arith, refl)
-
-pub row_good-good-requires : goal.row_good-good-requires
-row_good-good-requires c =
-    let a = c.args in
-    let r = row_inside a.w a.h c.loop-y.y (omega arith) in
-    omega arith
-
-pub loop-y-preserved : goal.loop-y-preserved
-loop-y-preserved c =
-    let a = c.args in
-    (omega arith, every_more (row_good a.s.now a.w) c.loop-y.y c.loop-y.good c.row_good-good.result c.loop-y.invariant.1 c.row_good-good.ensures)
+pub returns-then-not-row_good : goal.returns-then-not-row_good
+returns-then-not-row_good c = every-broken (row_good c.args.s.now c.args.w) c.args.h c.loop-y.y (omega arith) (sym c.row_good.ensures ∙ c.if-not-row_good.true)
 
 pub returns : goal.returns
-returns c =
-    let a = c.args in
-    let e : c.loop-y.y ≡ a.h = omega arith in
-    c.loop-y.invariant.1 ∙ ap (every (row_good a.s.now a.w)) e
+returns c = sym (every-all (row_good c.args.s.now c.args.w) c.args.h (λ k l. c.loop-y.invariant k (omega arith)))
