@@ -2,9 +2,8 @@
 use mathlib.Core.Path.{◌≡◌, sym, ap, ◌∙◌}
 use mathlib.Core.List.{[]}
 use Prim.Native.Nat.{ℕ, zero, suc, ◌+◌, ◌-◌, ◌*◌, ◌/◌, ◌%◌, ◌≤◌, ◌<◌, min, max}
-use native.Mathlib.Nat.{le_trans, suc-mul, mul-suc, mul-add, mul-le-mul_left, mul-le-mul_right}
+use native.Mathlib.Nat.{suc-mul, mul-suc, mul-add}
 use native.Mathlib.Omega.{arith}
-use Rattle.memory.specs.rules.Limits.{max_mask_side}
 use Rattle.labelling.specs.rules.Components.{absorbed}
 use Rattle.labelling.specs.stages.Absorbing.{column_sum, absorbed_run}
 use Rattle.labelling.specs.declared.component.Component.{Component}
@@ -52,10 +51,6 @@ absorb-run w s (suc d) p hw h =
     ap (λ t. absorbed t ((s + suc d) % w) ((s + suc d) / w)) ih
     ∙ (λ i. record { area = e₀ i; x0 = e₁ i; y0 = e₂ i; x1 = e₃ i; y1 = e₄ i; sum_x = e₅ i; sum_y = e₆ i })
 
--- the products that are added fit
-pub between-small : (b z k : ℕ) → b ≤ max_mask_side → z ≤ k → b * z ≤ max_mask_side * k
-between-small b z k h l = le_trans (mul-le-mul_right z h) (mul-le-mul_left max_mask_side l)
-
 -- the sum of the columns of a run: half of its dots times its first and last column
 column-half : (x d : ℕ) → suc d * (x + (x + d)) / 2 ≡ column_sum x (suc d)
 column-half x d =
@@ -71,17 +66,3 @@ column-span x last l =
     let d : last - x + 1 ≡ suc (last - x) = omega arith in
     let e : last ≡ x + (last - x) = omega arith in
     ap (λ z. z * (x + last) / 2) d ∙ (ap (λ z. suc (last - x) * (x + z) / 2) e ∙ column-half x (last - x))
-
--- a span's box takes in its two end dots
-module _ (c first ends : Component) (x last y : ℕ) (h₁ : first ≡ absorbed c x y) (h₂ : ends ≡ absorbed first last y) (order : x ≤ last) where
-  pub ends-x0 : ends.x0 ≡ min c.x0 x
-  ends-x0 = let a = ap (λ z. z.x0) h₁ in let b = ap (λ z. z.x0) h₂ in omega arith
-
-  pub ends-y0 : ends.y0 ≡ min c.y0 y
-  ends-y0 = let a = ap (λ z. z.y0) h₁ in let b = ap (λ z. z.y0) h₂ in omega arith
-
-  pub ends-x1 : ends.x1 ≡ max c.x1 last
-  ends-x1 = let a = ap (λ z. z.x1) h₁ in let b = ap (λ z. z.x1) h₂ in omega arith
-
-  pub ends-y1 : ends.y1 ≡ max c.y1 y
-  ends-y1 = let a = ap (λ z. z.y1) h₁ in let b = ap (λ z. z.y1) h₂ in omega arith

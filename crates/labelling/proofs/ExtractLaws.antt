@@ -373,18 +373,6 @@ module _ {row : List ℕ} {from to base : ℕ} {s₀ s : List ℕ} {at k x : ℕ
       let o = S.low in
       record { low = l; high = omega arith; dots = omega arith; room = omega arith }
 
-  pub sweep-read : (s' : List ℕ) (r : ℕ) → Scanned row x upto base s s' k r → ScanSweep row from to base s₀ s' at r (r % 2) upto
-  sweep-read s' r X =
-      let o = S.low in
-      record {
-        asks = S.asks;
-        len = X.len ∙ S.len;
-        low = omega arith;
-        high = h;
-        short = let b = S.short in let c = X.short in omega arith;
-        read = λ s₁ start R. X.read s₁ start (S.read s₁ start R);
-      }
-
 -- d dots from `from` on, which are counted at once
 module _ (d : ℕ) (row : List ℕ) (from : ℕ) (h : from + d ≤ length row) where
   pub chunk-long : length (take (from + d - from) (drop from row)) ≡ d

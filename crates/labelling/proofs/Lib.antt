@@ -28,8 +28,6 @@ pub mod RowLinkLaws
 pub mod ToldLaws
 -- turns of the dots that pass a test, by ink and marks
 pub mod MarkedLaws
--- nine words
-pub mod NineLaws
 -- labels painted run by run
 pub mod PaintLaws
 -- records written span by span

@@ -12,21 +12,20 @@ use lib.Dec.{eqb, ltb}
 use mir.Val.{bool_byte, Fits}
 use mir.Syntax.{w64}
 use Rattle.memory.specs.rules.Lists.{count_if}
-use Rattle.memory.specs.rules.Limits.{max_mask_dots}
 use Rattle.memory.proofs.TableLaws.{length-table, get_or-table, table-ext}
 use Rattle.memory.proofs.PartLaws.{part-is-table}
 use Rattle.memory.proofs.CountLaws.{count_none}
 use Rattle.memory.specs.rules.Masks.{is_ink}
 use Rattle.labelling.specs.stages.InkRuns.{differ, turns}
-use Rattle.labelling.specs.stages.Extraction.{RowScan, ScanRoom, Scanned, TurnsTold, ToldRoom, ToldWritten, RowRoom, RowExtracted}
+use Rattle.labelling.specs.stages.Extraction.{RowScan, ScanRoom, Scanned, TurnsTold, ToldWritten, RowRoom, RowExtracted}
 use Rattle.labelling.specs.stages.Marked.{passes, passing, row_passing, MarkedScanRoom, MarkedScanned, MarkedRowRoom, MarkedRowLeft, MarkedRoom, MarkedLeft}
 use Rattle.labelling.specs.declared.marked.Test.{Test}
 use Rattle.labelling.specs.declared.marked.Test.TheVariants.{First, Second, Neither}
 use Rattle.memory.proofs.PlaceLaws.{count-zero}
 use Rattle.labelling.proofs.ScanLaws.{turns_fit}
 use Rattle.labelling.proofs.RunLabelLaws.{turns-even}
-use Rattle.labelling.proofs.ExtractLaws.{byte-bit, byte-turn, turn-bit, ink-more, chunk-still, ScanSweep, sweep-none, sweep-room, sweep-more, sweep-done, scan-start, scan-asks, scan-blank, scan-room-end, scan-ink, PlaneScan, plane-none, plane-inside, plane-row, plane-more, plane-done}
-use Rattle.labelling.proofs.ToldLaws.{chunk_before, before-long, told-room, written-within, written-scanned}
+use Rattle.labelling.proofs.ExtractLaws.{byte-turn, turn-bit, ink-more, chunk-still, ScanSweep, sweep-none, sweep-room, sweep-more, sweep-done, scan-start, scan-asks, scan-blank, scan-room-end, scan-ink, PlaneScan, plane-none, plane-inside, plane-row, plane-more, plane-done}
+use Rattle.labelling.proofs.ToldLaws.{chunk_before, written-within, written-scanned}
 
 -- The mask, dot by dot
 
@@ -74,9 +73,6 @@ bit-again false = refl
 pub bit-least : (b : Bool) → cond b 1 0 ≤ 1
 bit-least true = omega arith
 bit-least false = omega arith
-
-pub passes-told : (t d : Test) (ink : Bool) (mark : ℕ) → t ≡ d → bool_byte (passes d ink mark) ≡ cond (passes t ink mark) 1 0
-passes-told t d ink mark e = subst (λ z. bool_byte (passes d ink mark) ≡ cond (passes z ink mark) 1 0) (sym e) (byte-bit (passes d ink mark))
 
 -- Counts of a chunk
 
@@ -127,9 +123,6 @@ module _ {t : Test} {ink : List ℕ} {from to base : ℕ} {s₀ s : List ℕ} {a
       let r = sweep-room S.sweep l in
       omega arith
 
-  pub marked-fits : k < length s
-  marked-fits = let h = marked-mark in let b = marked-before in omega arith
-
   pub marked_more : (here turn : ℕ) → here ≡ cond (passes t (is_ink ink x) (get_or s (marks + base + x) 0)) 1 0 → turn ≡ cond (eqb before here) 0 1
       → MarkedSweep t ink from to base s₀ (set s k (base + x)) at marks (k + turn) here (x + 1)
   marked_more here turn e et =
@@ -171,9 +164,6 @@ part-passing t ink s marks base a c f g n h ef ec eg =
 pub chunk-high : {t : Test} {ink : List ℕ} {from base : ℕ} {s : List ℕ} {at marks : ℕ} → MarkedScanRoom t ink from (from + 32) base s at marks → from + 32 ≤ length ink
 chunk-high {t} {ink} {from} {base} {s} {at} {marks} A = let e = passing-length t ink (drop base (drop marks s)) (length ink) in let h = A.asks.high in omega arith
 
-pub chunk-marked : {t : Test} {ink : List ℕ} {from base : ℕ} {s : List ℕ} {at marks : ℕ} → MarkedScanRoom t ink from (from + 32) base s at marks → marks + base + from + 32 ≤ length s
-chunk-marked A = let h = A.marked in omega arith
-
 pub chunk-passed : {t : Test} {ink : List ℕ} {from base : ℕ} {s : List ℕ} {at marks : ℕ} → MarkedScanRoom t ink from (from + 32) base s at marks → (count : ℕ)
     → count ≡ count_if (is_ink (passing t (take (from + 32 - from) (drop from ink)) (take (marks + base + from + 32 - (marks + base + from)) (drop (marks + base + from) s)) 32)) 32
     → count ≡ 32 * (at % 2) → MarkedScanned t ink from (from + 32) base s s at marks at
@@ -202,24 +192,9 @@ passing-turn t ink marks n i a b l ea eb =
 pub mark-fits : (x : ℕ) → Fits w64 (x * 4) → Fits w64 ((x - 1) * 4)
 mark-fits x h = omega arith
 
-pub chunk_inside : {t : Test} {ink : List ℕ} {from base : ℕ} {s : List ℕ} {at marks : ℕ} → MarkedScanRoom t ink from (from + 32) base s at marks → from ≤ length ink
-chunk_inside A = let h = chunk-high A in omega arith
-
-pub chunk-lengths : {t : Test} {ink : List ℕ} {from base : ℕ} {s : List ℕ} {at marks : ℕ} → MarkedScanRoom t ink from (from + 32) base s at marks → (from ≡ 0 → ⊥)
-    → (length (chunk_before ink from) ≡ 33) × (length (chunk_before s (marks + base + from)) ≡ 33)
-chunk-lengths {t} {ink} {from} {base} {s} {at} {marks} A some =
-    (before-long ink from some (chunk-high A), before-long s (marks + base + from) (λ q. some (omega arith)) (chunk-marked A))
-
 module _ {t : Test} {ink : List ℕ} {from base : ℕ} {s : List ℕ} {at marks : ℕ} (A : MarkedScanRoom t ink from (from + 32) base s at marks) (n : ℕ) (e : n ≡ 32) where
   told-before : at + n ≤ marks
   told-before = let r = A.asks.room in let m = A.marked in let q = length-take-le marks s (omega arith) in omega arith
-
-  pub marked-told : {dots told : List ℕ} → TurnsTold dots told 32 → ToldRoom told n (base + from) s at
-  marked-told T =
-      let R = told-room A.asks T n e in
-      let b = told-before in
-      let m = A.marked in
-      record { few = R.few; bits = R.bits; dots = R.dots; room = omega arith }
 
   pub marked-written : (from ≡ 0 → ⊥) → {told : List ℕ}
       → TurnsTold (passing t (chunk_before ink from) (chunk_before s (marks + base + from)) 33) told 32
@@ -246,9 +221,6 @@ pub record MarkedRowScan (t : Test) (ink : List ℕ) (base : ℕ) (s₀ s : List
   pub len : length s ≡ length s₀
   pub scan : RowScan (row_passing t ink (drop marks s₀) base) base (take marks s₀) (take marks s) at k (k % 2) x
   pub kept : drop marks s ≡ drop marks s₀
-
-pub marked-dots : {t : Test} {ink : List ℕ} {base : ℕ} {s : List ℕ} {at marks : ℕ} → MarkedRowRoom t ink base s at marks → base + length ink ≤ max_mask_dots
-marked-dots {t} {ink} {base} {s} {at} {marks} A = let e = passing-length t ink (drop base (drop marks s)) (length ink) in let d = A.asks.dots in omega arith
 
 pub marked_start : {t : Test} {ink : List ℕ} {base : ℕ} {s : List ℕ} {at marks : ℕ} → MarkedRowRoom t ink base s at marks → MarkedRowScan t ink base s s at marks at 0
 marked_start A = record { asks = A; len = refl; scan = scan-start A.asks; kept = refl }

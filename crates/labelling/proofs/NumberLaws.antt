@@ -115,13 +115,3 @@ module _ {c capacity : ℕ} {p₀ p : List ℕ} {k count : ℕ} (S : NumberSweep
               omega arith;
           numbers = λ f low F h. absurd (omega arith);
         }
-
-pub number-done : {c capacity : ℕ} {p₀ p : List ℕ} {k count : ℕ} → NumberSweep c capacity p₀ p k count → c ≤ k → Numbered c capacity p₀ p count
-number-done {c} {capacity} {p₀} {p} {k} {count} S l =
-    let u = S.upto in
-    let e : k ≡ c = omega arith in
-    record {
-      len = S.len;
-      count = λ f low F. let q = S.count_is f low F ∙ ap (count_if (is_root f)) e in let h = S.low in omega arith;
-      numbers = λ f low F h i li. S.numbers f low F i (omega arith);
-    }

@@ -1,7 +1,9 @@
 -- Labels painted run by run.
+use Rattle.std.proofs.Common.{replicate}
+use Rattle.std.proofs.lemmas.List.{replicate_more}
 use mathlib.Core.Path.{◌≡◌, refl, sym, ap, ◌∙◌, subst}
-use mathlib.Core.List.{List, ◌++◌}
-use Prim.Native.Nat.{ℕ, suc, ◌+◌, ◌-◌, ◌*◌, ◌≤◌, ◌<◌}
+use mathlib.Core.List.{List, [], ◌∷◌, ◌++◌}
+use Prim.Native.Nat.{ℕ, zero, suc, ◌+◌, ◌-◌, ◌*◌, ◌≤◌, ◌<◌}
 use native.Mathlib.Nat.{le_refl}
 use native.Mathlib.Numerals.{add-one}
 use native.Mathlib.Decide.{ℕ_discrete, dec_lt}
@@ -15,6 +17,12 @@ use Rattle.memory.specs.stages.Stored.{Stored}
 use Rattle.memory.proofs.StoredLaws.{within_none, within-trans, within_wider, within-set, stored_at, stored-filled}
 use Rattle.labelling.specs.stages.InkRuns.{start_of, end_of}
 use Rattle.labelling.specs.stages.Painting.{Front, numbered, Paintable, OnRuns, OffRuns, Painted, PaintSweep}
+
+-- what `fill` leaves
+pub filled : (v n : ℕ) → replicate n v ≡ table (λ _. v) n
+unfolding table
+filled v zero = refl
+filled v (suc n) = ap (λ z. replicate z v) (sym (add-one n)) ∙ (sym (replicate_more n v) ∙ ap (λ z. z ++ (v ∷ [])) (filled v n))
 
 -- Turns and numbers that stand apart
 

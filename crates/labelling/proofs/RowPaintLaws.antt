@@ -187,9 +187,6 @@ module _ {w c h : ℕ} (t numbers : List ℕ) {l₀ l comps₀ comps : List ℕ}
   pub plane-fits : (clear ≤ w * h) × (w * h ≤ max_mask_dots) × (w * h ≤ length l)
   plane-fits = let a = I.sweep.asks.labels in let n = I.sweep.len in (I.sweep.inside, I.sweep.asks.dots, omega arith)
 
-  pub plane-read : k < c → (2 * k < length t) × (0 < w)
-  plane-read lk = (omega arith, I.tally.asks.list.wide)
-
   -- run k lies in row y
   module _ (lk : k < c) (start y : ℕ) (es : start ≡ get_or t (2 * k) 0) (ey : y ≡ start / w) where
     start_is : start ≡ start_of (take (2 * c) (numbered c t numbers)) k

@@ -128,9 +128,6 @@ kin-parent q s k r e d =
     let h : r ≡ get_or (drop q s) k 0 = e ∙ sym (get_or-drop q s k 0) in
     record { low = omega arith; same = λ f n l F. ap f h ∙ F.same k l }
 
-pub kin-self : (p : List ℕ) (k : ℕ) → Kin p k k
-kin-self p k = record { low = le_refl k; same = λ f n l F. refl }
-
 module _ {w c q first to j : ℕ} {s : List ℕ} (A : Joinable w c q s first to j) where
   -- run j has met those before `first`, none of which it touches
   met-before : Seen (touching w (take (2 * c) s)) c A.linked.rep j first
@@ -266,14 +263,6 @@ module _ {w c q first to j : ℕ} {s₀ s : List ℕ} {k member : ℕ} (S : Swee
 
 -- One run
 
--- of the runs up to `to`, which does not end left of `start`, one that does is not the last
-pub before-end : (t : List ℕ) (k to start : ℕ) → k ≤ to → end_of t 0 k < start → start ≤ end_of t 0 to → k + 1 ≤ to
-before-end t k to start l h h₂ = go (ℕ_discrete k to)
-  where
-    go : Dec (k ≡ to) → k + 1 ≤ to
-    go (yes e) = let x : end_of t 0 k ≡ end_of t 0 to = ap (end_of t 0) e in absurd (omega arith)
-    go (no ne) = omega arith
-
 module _ {w c q i to j : ℕ} {s : List ℕ} (A : Linkable w c q s i to j) where
   -- the words of run j
   one-start : get_or s (2 * j) 0 ≡ start_of (take (2 * c) s) j
@@ -290,16 +279,6 @@ module _ {w c q i to j : ℕ} {s : List ℕ} (A : Linkable w c q s i to j) where
       let h : 1 * w ≤ x / w * w = mul-le-mul_right w (let y : 1 ≤ x / w = omega arith in y) in
       let d = div-add-mod' x w in
       let e = one-start in
-      omega arith
-
-  -- run `to` does not end left of run j, moved up
-  pub own-high : i < to → get_or s (2 * j) 0 ≤ get_or s (2 * to + 1) 0 + w
-  own-high l =
-      let a = A.under.own l in
-      let m = A.under.mid in
-      let h = A.under.high in
-      let b = one-start in
-      let d = kept_word A.list (kept-none q s) (2 * to + 1) (omega arith) in
       omega arith
 
   pub end-high : i < to → w ≤ get_or s (2 * j + 1) 0
@@ -487,9 +466,6 @@ module _ {w c q limit : ℕ} {s₀ s : List ℕ} {above here i j : ℕ} (S : Row
   pub walk-done : (j < c → limit ≤ start_of s₀ j) → RowLinked w c q limit s₀ s here j
   walk-done past = record { row = record { from = S.sweep.from; upto = S.upto; inside = S.within; past = past }; linked = row_done S.sweep (le_refl j) }
 
-  pub walk-all : c ≤ j → RowLinked w c q limit s₀ s here c
-  walk-all all = subst (RowLinked w c q limit s₀ s here) (let e : j ≡ c = omega (arith, S.upto) in e) (walk-done (λ l. absurd (omega (arith, all, l))))
-
 -- All rows: those before row y are linked, which starts at dot `base`
 
 pub row-at : (w base y s : ℕ) → 0 < w → base ≡ y * w → base ≤ s → s < base + w → s / w ≡ y
@@ -552,15 +528,6 @@ plane-none w c q h s R th ins =
 module _ {w c q h : ℕ} {s₀ s : List ℕ} {above here base y : ℕ} (S : PlaneSweep w c q h s₀ s above here base y) where
   hw : 0 < w
   hw = S.list.wide
-
-  pub plane-small : base ≤ max_mask_side * max_mask_side
-  plane-small =
-      let e = S.base-is in
-      let u = S.upto in
-      let t = S.tall in
-      let n = S.list.narrow in
-      let h : y * w ≤ max_mask_side * w = mul-le-mul_right w (let x : y ≤ max_mask_side = omega arith in x) in
-      omega arith
 
   start-is-now : (a : ℕ) → a < c → start_of s a ≡ start_of (take (2 * c) s₀) a
   start-is-now a l = kept_word S.list S.kept (2 * a) (omega arith)

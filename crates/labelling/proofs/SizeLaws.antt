@@ -12,7 +12,7 @@ use lib.Seq.{length-take-le, get_or-take, get_or-drop, take-take, take_at, drop_
 use Rattle.memory.specs.rules.Lists.{table, count_if}
 use Rattle.memory.specs.rules.Words.{over}
 use Rattle.memory.specs.rules.Records.{encoded}
-use Rattle.memory.specs.rules.Limits.{max_mask_dots, max_capacity}
+use Rattle.memory.specs.rules.Limits.{max_mask_dots}
 use Rattle.memory.proofs.PartLaws.{tail-part, tail-put}
 use Rattle.memory.proofs.TableLaws.{length-table, get_or-table}
 use Rattle.memory.proofs.RecordLaws.{length-encoded, record-at}
@@ -160,12 +160,6 @@ component-boxed w h m hw lim k l =
 -- Numbers: runs linked, then numbered
 
 module _ {w h c P : ℕ} {s s₂ : List ℕ} (B : RunsNumberable w h c P s) (K : AllLinked w c s s₂) where
-  linked_long : c ≤ length (drop (2 * c) s₂)
-  linked_long = simp length-drop (let r = B.list.room in let l = K.kept.len in omega arith)
-
-  pub numbers-ask : (c ≤ length (take (length s₂ - 2 * c) (drop (2 * c) s₂))) × (P ≤ max_capacity) × ((j : ℕ) → j < c → get_or (take (length s₂ - 2 * c) (drop (2 * c) s₂)) j 0 ≤ j)
-  numbers-ask = rw (tail-part (2 * c) s₂) (linked_long, B.few, K.forest.down)
-
   pub numbers-done : {p : List ℕ} {r : ℕ} → Numbered c P (take (length s₂ - 2 * c) (drop (2 * c) s₂)) p r → RunsNumbered w c P s (put_mid (2 * c) (length s₂ - 2 * c) s₂ p) r
   numbers-done {p} {r} N₀ =
       rw (tail-put (2 * c) s₂ p)

@@ -8,7 +8,7 @@ use native.Mathlib.Decide.{dec_lt}
 use native.Mathlib.Omega.{arith}
 use borrow.Author.Tests.{lt-ltb, le-ltb}
 use borrow.Rule.Slice.PartMut.{put_mid}
-use lib.ListN.{get_or, length, set, take, drop, take-append-drop, length-append, length-drop, get_or-append}
+use lib.ListN.{get_or, length, take, drop, take-append-drop, length-append, length-drop, get_or-append}
 use lib.Seq.{length-take-le, get_or-take, take-take, take_at, drop_at, drop-drop, drop-append-add}
 use lib.Dec.{ltb}
 use Rattle.memory.specs.rules.Lists.{table, count_if}
@@ -20,7 +20,6 @@ use Rattle.memory.proofs.TableLaws.{length-table, get_or-table, table-ext}
 use Rattle.memory.proofs.RecordLaws.{length-encoded}
 use Rattle.labelling.specs.rules.Components.{no_dots}
 use Rattle.labelling.specs.stages.Absorbing.{absorbed_span}
-use Rattle.labelling.specs.stages.RecordParts.{lowered, raised}
 use Rattle.labelling.specs.stages.InkRuns.{start_of, end_of, is_root, component_number, component_runs}
 use Rattle.labelling.specs.stages.Linking.{first_run}
 use Rattle.labelling.specs.stages.Tallying.{Tallyable}
@@ -30,7 +29,6 @@ use Rattle.labelling.specs.stages.Spans.{SpanOf}
 use Rattle.labelling.specs.declared.component.Component.{Component}
 use Rattle.memory.proofs.PlaceLaws.{count-mono, count-step}
 use Rattle.labelling.proofs.TallyLaws.{record-put, record-append, table-put}
-use Rattle.labelling.proofs.NineLaws.{boxed}
 use Rattle.labelling.proofs.RecordSweepLaws.{first-low, first-same, number-some, count-max, records-none, run-bounded}
 
 -- Records in a list of them, k words each
@@ -100,33 +98,6 @@ five-part at s = ap (λ z. take z (drop at s)) (let e : at + 5 - at ≡ 5 = omeg
 
 five-put : (at : ℕ) (s v : List ℕ) → put_mid at (at + 5 - at) s v ≡ take at s ++ (v ++ drop (at + 5) s)
 five-put at s v = ap (λ z. take at s ++ (v ++ z)) (drop-drop (at + 5 - at) at s ∙ ap (λ z. drop z s) (let e : at + (at + 5 - at) ≡ at + 5 = omega arith in e))
-
--- five stores fill five words
-pub five-stores : (s : List ℕ) → length s ≡ 5 → (a b c d e : ℕ) → set (set (set (set (set s 0 a) 1 b) 2 c) 3 d) 4 e ≡ a ∷ b ∷ c ∷ d ∷ e ∷ []
-five-stores [] l = absurd (omega arith)
-five-stores (x0 ∷ []) l = absurd (omega arith)
-five-stores (x0 ∷ x1 ∷ []) l = absurd (omega arith)
-five-stores (x0 ∷ x1 ∷ x2 ∷ []) l = absurd (omega arith)
-five-stores (x0 ∷ x1 ∷ x2 ∷ x3 ∷ []) l = absurd (omega arith)
-five-stores (x0 ∷ x1 ∷ x2 ∷ x3 ∷ x4 ∷ []) l = λ a b c d e. refl
-five-stores (x0 ∷ x1 ∷ x2 ∷ x3 ∷ x4 ∷ x5 ∷ xs) l = absurd (omega arith)
-
--- and the same words changed one by one
-five-case : (P : List ℕ → Type 0) → ((x0 x1 x2 x3 x4 : ℕ) → P (x0 ∷ x1 ∷ x2 ∷ x3 ∷ x4 ∷ [])) → (s : List ℕ) → length s ≡ 5 → P s
-five-case P p [] l = absurd (omega arith)
-five-case P p (x0 ∷ []) l = absurd (omega arith)
-five-case P p (x0 ∷ x1 ∷ []) l = absurd (omega arith)
-five-case P p (x0 ∷ x1 ∷ x2 ∷ []) l = absurd (omega arith)
-five-case P p (x0 ∷ x1 ∷ x2 ∷ x3 ∷ []) l = absurd (omega arith)
-five-case P p (x0 ∷ x1 ∷ x2 ∷ x3 ∷ x4 ∷ []) l = p x0 x1 x2 x3 x4
-five-case P p (x0 ∷ x1 ∷ x2 ∷ x3 ∷ x4 ∷ x5 ∷ xs) l = absurd (omega arith)
-
-pub five-widened : (s : List ℕ) → length s ≡ 5 → (x last dots y : ℕ) (s₁ s₂ s₃ s₄ : List ℕ)
-    → s₁ ≡ lowered (set s 0 (get_or s 0 0 + dots)) 1 x → s₂ ≡ lowered s₁ 2 y → s₃ ≡ raised s₂ 3 last → s₄ ≡ raised s₃ 4 y
-    → s₄ ≡ size_words (absorbed_span (size_of s) x last dots 0 y)
-five-widened s five x last dots y s₁ s₂ s₃ s₄ e₁ e₂ e₃ e₄ =
-    e₄ ∙ (ap (λ z. raised z 4 y) (e₃ ∙ ap (λ z. raised z 3 last) (e₂ ∙ ap (λ z. lowered z 2 y) e₁))
-    ∙ five-case (λ z. boxed (get_or z 0 0 + dots) x y last z ≡ size_words (absorbed_span (size_of z) x last dots 0 y)) (λ x0 x1 x2 x3 x4. refl) s five)
 
 pub span-sized : (s : List ℕ) (number count x last dots y : ℕ) (before : Component) (v : List ℕ)
     → before ≡ held_size s number count → v ≡ size_words (absorbed_span before x last dots 0 y)

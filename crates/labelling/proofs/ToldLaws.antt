@@ -7,8 +7,8 @@ use native.Mathlib.Nat.{le_refl}
 use native.Mathlib.Numerals.{add-one}
 use native.Mathlib.Decide.{ℕ_discrete}
 use native.Mathlib.Omega.{arith}
-use lib.ListN.{get_or, length, set, take, drop, length-set, length-map, length-append, length-take, length-drop}
-use lib.Seq.{length-take-le, get_or-set_same, get_or-set_other, take_all, take-take, drop-drop, drop-set-lt}
+use lib.ListN.{get_or, length, set, take, drop, length-set, length-map, length-append, length-take}
+use lib.Seq.{get_or-set_same, get_or-set_other, take_all, take-take, drop-drop, drop-set-lt}
 use lib.Dec.{ltb}
 use mir.Val.{bool_byte}
 use Rattle.memory.specs.rules.Limits.{max_mask_dots}
@@ -20,9 +20,6 @@ use Rattle.labelling.proofs.ScanLaws.{append-step, turns-inner, ink_before-inner
 use Rattle.labelling.proofs.ExtractLaws.{rest-on, rest-further, inner-wider, append-map, length-append_if, ink-of-part, bit-small, scan-parity}
 
 -- Told
-
-pub told_none : (dots told : List ℕ) → TurnsTold dots told 0
-told_none dots told = record { tells = λ i l. absurd (omega arith) }
 
 pub told_more : {dots told : List ℕ} {n : ℕ} → TurnsTold dots told n → n < length told → (turn : ℕ) → turn ≡ bit (differ (is_ink dots n) (is_ink dots (suc n)))
     → TurnsTold dots (set told n turn) (n + 1)
@@ -42,9 +39,6 @@ turn_byte dots i = ap (λ z. bool_byte (not (beq (ltb 0 (get_or dots i 0)) (ltb 
     go true false = refl
     go false true = refl
     go false false = refl
-
-pub told-bits : {dots told : List ℕ} {n : ℕ} → TurnsTold dots told n → (i : ℕ) → i < n → get_or told i 0 ≤ 1
-told-bits {dots} T i l = let e = T.tells i l in let b = bit-small (differ (is_ink dots i) (is_ink dots (suc i))) in omega arith
 
 -- Written
 
@@ -164,21 +158,9 @@ written-within {told} {n} {start} {s} {s'} {at} {r} X m h =
 pub chunk_count : (long from n : ℕ) → from + 32 ≤ long → n ≡ min (long - from) 32 → n ≡ 32
 chunk_count long from n h e = omega arith
 
-pub told-room : {row : List ℕ} {from base : ℕ} {s : List ℕ} {at : ℕ} → ScanRoom row from (from + 32) base s at → {dots told : List ℕ} → TurnsTold dots told 32 → (n : ℕ) → n ≡ 32
-    → ToldRoom told n (base + from) s at
-told-room A T n e =
-    let d = A.dots in
-    let r = A.room in
-    record { few = omega arith; bits = λ i l. told-bits T i (omega arith); dots = omega arith; room = omega arith }
-
 -- the chunk's own 32 dots, and the dot before them
 abbrev pub chunk_before : List ℕ → ℕ → List ℕ
 chunk_before row from = take (from + 32 - (from - 1)) (drop (from - 1) row)
-
-pub before-long : (row : List ℕ) (from : ℕ) → (from ≡ 0 → ⊥) → from + 32 ≤ length row → length (chunk_before row from) ≡ 33
-before-long row from some h =
-    let e : from + 32 - (from - 1) ≡ 33 = omega arith in
-    rw e (length-take-le 33 (drop (from - 1) row) (simp length-drop (omega arith)))
 
 -- dots counted from `base`, after others so counted
 moved : (base from : ℕ) (a l : List ℕ) → map (λ j. base + j) a ++ map (λ j. base + from + j) l ≡ map (λ j. base + j) (a ++ map (λ j. from + j) l)

@@ -8,7 +8,6 @@ ghost use Rattle.labelling.specs.stages.Tallying.{Tallyable, records};
 
 use crate::span::{NumberedRuns, Span, column_sum};
 use crate::tally::tally_span;
-use memory::fill_words;
 
 // How many labels past a run are cleared with it: about what waits to be written while the work goes on.
 const AHEAD: usize = 128;
@@ -30,7 +29,7 @@ fn clear_to(labels: &mut [u32], clear: usize, end: usize, limit: usize) -> usize
         return clear;
     }
     let to = (end + AHEAD).min(limit);
-    fill_words(&mut labels[clear..to], 0);
+    labels[clear..to].fill(0);
     to
 }
 
@@ -50,7 +49,7 @@ fn paint_run(
     let clear = clear_to(labels, cleared, end, limit);
     labels[start] = label;
     let rest = start + 1;
-    fill_words(&mut labels[rest..end], label);
+    labels[rest..end].fill(label);
     clear
 }
 
@@ -156,5 +155,5 @@ pub fn paint_runs(
         let y = words[2 * reached.next] as usize / w;
         reached = list.paint_row(y, reached, labels, components);
     }
-    fill_words(&mut labels[reached.clear..dots], 0);
+    labels[reached.clear..dots].fill(0);
 }

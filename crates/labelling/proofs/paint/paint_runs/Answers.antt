@@ -1,3 +1,4 @@
+use mathlib.Core.Path.{◌∙◌}
 use native.Mathlib.Omega.{arith}
 use mathlib.Core.Path.{refl}
 use Prim.Native.Nat.{◌*◌}
@@ -5,6 +6,7 @@ use native.Mathlib.Nat.{le_trans}
 use lib.ListN.{drop}
 use Rattle.memory.proofs.PartLaws.{tail-part}
 use Rattle.memory.proofs.StoredLaws.{stored-filled}
+use Rattle.labelling.proofs.PaintLaws.{filled}
 use Rattle.labelling.proofs.RowPaintLaws.{plane-none, plane-fits, plane-ahead, plane-more, plane-on, plane-done}
 use Rattle.labelling.proofs.paint.paint_runs.Goals as goal
 
@@ -23,5 +25,5 @@ loop-reached-preserved c = plane-more c.args.words.now (drop c.args.numbers c.ar
 pub returns : goal.returns
 returns c =
     let f = plane-fits c.args.words.now (drop c.args.numbers c.args.words.now) (le_trans c.requires.0 c.requires.1) c.loop-reached.invariant in
-    let t = stored-filled 0 c.loop-reached.reached.clear (c.args.w * c.args.h) c.loop-reached.labels c.fill_words.new.dst f.0 f.2 c.fill_words.ensures in
+    let t = stored-filled 0 c.loop-reached.reached.clear (c.args.w * c.args.h) c.loop-reached.labels c.fill.new.self f.0 f.2 (c.fill.ensures.after (λ y h. h) ∙ filled _ _) in
     plane-done c.args.words.now (drop c.args.numbers c.args.words.now) (le_trans c.requires.0 c.requires.1) c.loop-reached.invariant c.loop-reached-test.false _ t
