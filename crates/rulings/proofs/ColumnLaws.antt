@@ -412,4 +412,3 @@ module _ (g : Sweep) (m : List ℕ) (thick_max i o marks : ℕ) (s : List ℕ) w
       drop-set-add marks s at (get_or s (marks + at) 0 + 2)
       ∙ ((λ j. set (drop marks s) (e j) (x j + 2))
       ∙ ap (λ (b : Bool). cond b (set (drop marks s) (spot_of g i o) (get_or (drop marks s) (spot_of g i o) 0 + 2)) (drop marks s)) (sym t ∙ h))
-
