@@ -249,9 +249,6 @@ recounted-counted g m a b y s t R = record { each = R.inside }
 
 -- the first counter, the last, then those between
 module _ (g : Sweep) (m : List ℕ) (a b y : ℕ) (s t : List ℕ) (C : Counted g m a b y s) (two : a + 1 < b) (A : Recounted g m a (a + 1) y s t) where
-  pub counted-last : Counted g m (b - 1) (b - 1 + 1) y t
-  counted-last = record { each = λ o h k. A.above o (omega arith) ∙ C.each o (omega arith) (omega arith) }
-
   module _ (u : List ℕ) (B : Recounted g m (b - 1) (b - 1 + 1) y t u) where
     pub counted-between : Counted g m (a + 1) (b - 1) y u
     counted-between = record { each = λ o h k. B.below o k ∙ (A.above o h ∙ C.each o (omega arith) (omega arith)) }
@@ -286,9 +283,6 @@ recounted-row g m a b y s t e ly l h C D =
       below = D.below;
       above = D.above;
     }
-
-pub counted-on-none : (m : List ℕ) (row a : ℕ) (s : List ℕ) → CountedOn m row a a s s
-counted-on-none m row a s = record { inside = λ o h k. absurd (omega arith); below = λ o h. refl; above = λ o h. refl }
 
 pub counted-on-next : (m : List ℕ) (row a x v : ℕ) (s t : List ℕ) → a ≤ x → x < length t → v ≡ cond (ink_beside m (row + x)) (get_or t x 0 + 1) 0 → CountedOn m row a x s t → CountedOn m row a (x + 1) s (set t x v)
 counted-on-next m row a x v s t l k e D = record { inside = λ o h j. go o h j (ℕ_discrete o x); below = λ o h. get_or-set_other t x o v 0 (λ z. omega arith) ∙ D.below o h; above = λ o h. get_or-set_other t x o v 0 (λ z. omega arith) ∙ D.above o (omega arith) }
@@ -418,7 +412,3 @@ module _ (g : Sweep) (m : List ℕ) (thick_max i o marks : ℕ) (s : List ℕ) w
       drop-set-add marks s at (get_or s (marks + at) 0 + 2)
       ∙ ((λ j. set (drop marks s) (e j) (x j + 2))
       ∙ ap (λ (b : Bool). cond b (set (drop marks s) (spot_of g i o) (get_or (drop marks s) (spot_of g i o) 0 + 2)) (drop marks s)) (sym t ∙ h))
-
-  pub place-left : (r : Bool) → r ≡ is_thin g m thick_max i o → r ≡ false
-      → drop marks s ≡ cond (is_thin g m thick_max i o) (set (drop marks s) (spot_of g i o) (get_or (drop marks s) (spot_of g i o) 0 + 2)) (drop marks s)
-  place-left r h t = ap (λ (b : Bool). cond b (set (drop marks s) (spot_of g i o) (get_or (drop marks s) (spot_of g i o) 0 + 2)) (drop marks s)) (sym t ∙ h)

@@ -17,7 +17,7 @@ pub struct Sweep {
 }
 
 // The ink, and how it is walked: each place has a dot of its own.
-#[derive(Clone, Copy)]
+#[derive(Clone, Copy, Debug, PartialEq, Eq)]
 pub struct Plane<'a> {
     pub ink: &'a [u8],
     pub sweep: Sweep,
@@ -26,7 +26,7 @@ pub struct Plane<'a> {
 
 // Thin rulings of a plane: runs of at least run_min, cut where they are at most thick_max thick. The marks start at word `marks`; the
 // words before have room for a counter a scanline, and for two words a place.
-#[derive(Clone, Copy)]
+#[derive(Clone, Copy, Debug, PartialEq, Eq)]
 pub struct Rulings<'a> {
     pub plane: Plane<'a>,
     pub run_min: u32,

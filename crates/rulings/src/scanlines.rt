@@ -156,6 +156,7 @@ impl<'a> Rulings<'a> {
     }
 
     // One dot, marked where it is ink and thin across.
+    // No twin of columns' cut_place: here the extent across is kept in the words before the marks, which change; there they stay.
     fn cut_dot(self, words: &mut [u32], i: usize, o: usize) -> bool
         requires { (i < self.plane.sweep.inner) × (o < self.plane.sweep.outer) × (length self.plane.ink.now ≤ length (drop self.marks words.old)) × (get_or (drop self.marks words.old) (spot_of self.plane.sweep i o) 0 ≤ 2) × (kept self o words.old) × (self.marks ≤ length words.old) }
         ensures { (drop self.entry.marks words.new ≡ cond (is_thin self.entry.plane.sweep self.entry.plane.ink.now self.entry.thick_max i o) (set (drop self.entry.marks words.old) (spot_of self.entry.plane.sweep i o) (get_or (drop self.entry.marks words.old) (spot_of self.entry.plane.sweep i o) 0 + 1)) (drop self.entry.marks words.old)) × (kept self.entry o words.new) × (told self.entry result words.old words.new) }

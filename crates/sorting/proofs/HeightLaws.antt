@@ -11,7 +11,6 @@ use borrow.Author.Tests.{eq-eqb, ne_eqb}
 use lib.ListN.{get_or, length, take, drop, set, length-take, get_or-eq_default}
 use lib.Seq.{get_or-set_same, get_or-set_other, get_or-take, get_or-drop}
 use lib.Dec.{eqb}
-use mir.Val.{bool_byte}
 use Rattle.memory.specs.rules.Lists.{table, keep, occurs}
 use Rattle.memory.proofs.TableLaws.{table-ext}
 use Rattle.memory.specs.rules.Rects.{height}
@@ -64,11 +63,6 @@ module _ {A : Type 0} (p : A → Bool) (f : A → ℕ) where
 pub one_at_most : (t : Bool) → cond t 1 0 ≤ 1
 one_at_most true = omega arith
 one_at_most false = omega arith
-
--- a test as a number
-pub bit-cond : (t u : Bool) → t ≡ u → bool_byte t ≡ cond u 1 0
-bit-cond true u e = ap (λ b. cond b (bool_byte true) (bool_byte false)) e
-bit-cond false u e = ap (λ b. cond b (bool_byte true) (bool_byte false)) e
 
 both-at-most : (t u : Bool) → cond t (cond u 1 0) 0 ≤ 1
 both-at-most true u = one_at_most u
@@ -192,10 +186,6 @@ pub unit-some : (p : LayoutParams) (n m : ℕ) (l counts : List ℕ) → (n ≡ 
 unfolding unit_from
 unit-some p n m [] counts e C q = absurd (e (let z = C.size in omega arith))
 unit-some p n m (a ∷ l) counts e C q = ap (λ (k : ℕ). Measured (float k)) q
-
--- one word changed, at the place of a height
-pub height-set : (s : List ℕ) (at q r n : ℕ) → q ≡ r → set s (at + q) (get_or s (at + q) 0 + n) ≡ set s (at + r) (get_or s (at + r) 0 + n)
-height-set s at q r n e = ap (λ (z : ℕ). set s (at + z) (get_or s (at + z) 0 + n)) e
 
 -- what stood before the counts were cleared stands past them still
 pub inside_past : {w h sizes n a e : ℕ} {s t : List ℕ} → SizesInside w h s sizes n → Within a e s t → e ≤ sizes → SizesInside w h t sizes n

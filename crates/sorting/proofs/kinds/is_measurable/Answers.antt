@@ -1,7 +1,4 @@
 use Rattle.sorting.specs.rules.Units.{measurable, under_extents}
-use native.Mathlib.Omega.{arith}
-use mathlib.Core.Path.{ap}
-use Rattle.memory.specs.declared.rect.Rect.{Rect}
 use Rattle.sorting.proofs.kinds.is_measurable.Goals as goal
 
 pub returns : goal.returns

@@ -1,9 +1,8 @@
 use native.Mathlib.Omega.{arith}
 use Prim.Native.Nat.{◌+◌, ◌*◌}
-use mathlib.Core.Path.{◌≡◌, refl, ap, ◌∙◌}
+use mathlib.Core.Path.{refl, ap, ◌∙◌}
 use Rattle.labelling.specs.declared.component.Component.{Component}
-use lib.ListN.{length-set}
-use Rattle.memory.proofs.StoredLaws.{stored-none, stored_more, stored-count}
+use Rattle.memory.proofs.StoredLaws.{stored_more, stored-count}
 use Rattle.sorting.proofs.SizedLaws.{sized_past, box-word-first, box-word-second}
 use Rattle.sorting.proofs.measure.pack_boxes.Goals as goal
 

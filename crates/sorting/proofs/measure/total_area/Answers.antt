@@ -1,8 +1,4 @@
 use native.Mathlib.Omega.{arith}
-use Prim.Native.Nat.{ℕ}
-use mathlib.Core.Path.{◌≡◌, ap, ◌∙◌}
-use Rattle.memory.specs.rules.Lists.{table, total}
-use Rattle.sorting.specs.stages.Measures.{sized_at}
 use Rattle.sorting.proofs.AreaLaws.{areas-none, areas-more, areas-fit}
 use Rattle.sorting.proofs.measure.total_area.Goals as goal
 

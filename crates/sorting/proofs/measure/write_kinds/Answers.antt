@@ -1,13 +1,13 @@
 use native.Mathlib.Omega.{arith}
 use Prim.Native.Nat.{◌+◌, ◌<◌}
-use mathlib.Core.Path.{◌≡◌, refl, sym, ap, ◌∙◌, subst}
+use mathlib.Core.Path.{refl, sym, ap, ◌∙◌, subst}
 use Rattle.labelling.specs.declared.component.Component.{Component}
 use Rattle.memory.specs.stages.Boxes.{Inside}
 use Rattle.labelling.specs.rules.Components.{box_of}
 use Rattle.sorting.specs.rules.Units.{unit_value}
 use Rattle.sorting.specs.rules.Kinds.{kind_of}
 use Rattle.sorting.specs.stages.Measures.{sized_at}
-use Rattle.memory.proofs.StoredLaws.{stored-none, stored_more, stored-count}
+use Rattle.memory.proofs.StoredLaws.{stored_more}
 use Rattle.sorting.proofs.SizedLaws.{sized-before}
 use Rattle.sorting.proofs.HeightLaws.{box-fits}
 use Rattle.sorting.proofs.measure.write_kinds.Goals as goal

@@ -1,12 +1,10 @@
 use native.Mathlib.Omega.{arith}
-use Prim.Native.Nat.{ℕ}
-use mathlib.Core.Path.{◌≡◌, sym, ◌∙◌, subst}
+use mathlib.Core.Path.{sym, ◌∙◌, subst}
 use Rattle.sorting.specs.rules.Units.{measurable}
 use Rattle.memory.specs.rules.Rects.{height}
 use Rattle.labelling.specs.rules.Components.{box_of}
 use Rattle.memory.specs.stages.Boxes.{Inside}
 use Rattle.labelling.specs.declared.component.Component.{Component}
-use Rattle.sorting.specs.stages.Measures.{HeightsCounted}
 use Rattle.sorting.proofs.HeightLaws.{counted_none, counted_same, counted-few, counted-more, one_at_most}
 use Rattle.sorting.proofs.measure.Heights.count_all.Goals as goal
 
