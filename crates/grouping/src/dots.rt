@@ -35,6 +35,7 @@ impl<'a> DotQuery<'a> {
     }
 
     // Writes those of page row y behind the n before it, and answers how many there are with them.
+    // Beside `count_row` and not one with it: a closure for both would be asked for room after each dot, which its caller can't say plainer.
     fn write_row(&self, y: usize, n: usize, out: &mut [u32]) -> usize
         requires { FrameWords (page_frame self.now.page) self.now.kinds.now × OneWay (page_frame self.now.page) × (y < self.now.page.sides.page_h) × (n ≡ count_if (asked self.now) (y * self.now.page.sides.page_w))
             × (2 * count_if (asked self.now) (self.now.page.sides.page_w * self.now.page.sides.page_h) ≤ length out.old) }

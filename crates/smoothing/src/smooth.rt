@@ -18,6 +18,7 @@ pub struct Places {
 
 // How far the walk has come: runs and smoothed runs of the page so far, the greatest number of a glyph among them, and the end of the
 // row's last glyph run, or 0 where there is none yet.
+// That 0 stays a number: the rules that the theorems rest on (RowWalk, PageWalk in specs/) are about it.
 #[derive(Clone, Copy, Debug, PartialEq, Eq)]
 pub struct Walk {
     pub passed: usize,

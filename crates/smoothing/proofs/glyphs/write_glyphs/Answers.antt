@@ -1,6 +1,6 @@
-use mathlib.Core.Path.{◌≡◌, refl, ◌∙◌}
+use mathlib.Core.Path.{refl, ◌∙◌}
 use native.Mathlib.Omega.{arith}
-use Rattle.smoothing.proofs.GlyphLaws.{glyphs-none, glyphs-few, glyphs-more, glyphs-all}
+use Rattle.smoothing.proofs.GlyphLaws.{glyphs-none, glyphs-few, glyphs-more}
 use Rattle.smoothing.proofs.glyphs.write_glyphs.Goals as goal
 
 pub loop-k-init : goal.loop-k-init
@@ -15,6 +15,3 @@ pub loop-k-preserved : goal.loop-k-preserved
 loop-k-preserved c =
     let f = glyphs-few c.args.sizes c.args.kinds c.args.numbers c.args.words.now c.loop-k.k c.loop-k.n c.args.out.now c.loop-k.out c.loop-k.invariant.1 in
     (c.write_glyph-n.auto.out ∙ c.loop-k.invariant.0, glyphs-more c.args.sizes c.args.kinds c.args.numbers c.args.words.now c.loop-k.k c.loop-k.n c.args.out.now c.loop-k.out c.loop-k.invariant.1 c.write_glyph-n.result c.write_glyph-n.new.out (omega (arith, c.requires.room)) c.write_glyph-n.ensures)
-
-pub returns : goal.returns
-returns c = glyphs-all c.args.sizes c.args.kinds c.args.numbers c.args.words.now c.loop-k.k c.loop-k.n c.args.out.now c.loop-k.out c.loop-k.invariant.1 c.args.count (let e : c.loop-k.k ≡ c.args.count = omega arith in e)

@@ -1,10 +1,6 @@
 use mathlib.Core.Path.{refl}
-use native.Mathlib.Omega.{arith}
-use Rattle.smoothing.proofs.PageWalkLaws.{last-low, add-fits, joined-some, mark-fits, glyph-pass}
+use Rattle.smoothing.proofs.PageWalkLaws.{add-fits, joined-some, mark-fits, glyph-pass}
 use Rattle.smoothing.proofs.smooth.smooth_glyph.Goals as goal
-
-pub joins_last-joins-requires : goal.joins_last-joins-requires
-joins_last-joins-requires c = let p = c.requires in let h = last-low p.2 p.3 in omega arith
 
 pub add_run-smoothed-requires : goal.add_run-smoothed-requires
 add_run-smoothed-requires c = let p = c.requires in (add-fits p.2 p.3, joined-some p.2 p.3 c.joins_last-joins.result c.joins_last-joins.ensures)
