@@ -94,7 +94,10 @@ pub fn ends_with(body: &[u8], answers: &[u64]) -> bool {
         return false;
     }
     let from = words - answers.len();
-    answers.iter().enumerate().all(|(i, answer)| *answer == text::word(body, from + i))
+    answers
+        .iter()
+        .enumerate()
+        .all(|(i, answer)| *answer == text::word(body, from + i))
 }
 
 // Whether the answer and what was lent for it are as the last three words have them.

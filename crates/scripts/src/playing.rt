@@ -74,10 +74,7 @@ fn log_outcome(o: Outcome) -> Logged
             number: 0,
             value: 0,
         },
-        Outcome::Refused(number) => Logged {
-            number,
-            value: 0,
-        },
+        Outcome::Refused(number) => Logged { number, value: 0 },
     }
 }
 
@@ -86,14 +83,8 @@ fn log_answer(a: Answer) -> Logged
     ensures { (result.number ≡ answer_number a) × (result.value ≡ answer_value a) }
 {
     match a {
-        Answer::Told(value) => Logged {
-            number: 0,
-            value,
-        },
-        Answer::Refused(number) => Logged {
-            number,
-            value: 0,
-        },
+        Answer::Told(value) => Logged { number: 0, value },
+        Answer::Refused(number) => Logged { number, value: 0 },
     }
 }
 
