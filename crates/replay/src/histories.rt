@@ -122,61 +122,71 @@ fn hash_floats(floats: &[f64]) -> u64 {
     h
 }
 
+// A script with its floats and its bytes.
+#[derive(Clone, Copy)]
+struct Script<'a> {
+    calls: &'a [u32],
+    floats: &'a [f64],
+    bytes: &'a [u8],
+}
+
+// The outputs that the calls of a script are lent.
+#[derive(Drop)]
+struct Outputs<'a> {
+    words: &'a mut [u32],
+    gray: &'a mut [u8],
+    integers: &'a mut [i32],
+    numbers: &'a mut [f64],
+}
+
+// The store, its planes and scratch.
+#[derive(Drop)]
+struct Memory<'a> {
+    store: &'a mut [u32],
+    ink: &'a mut [u8],
+    kinds: &'a mut [u8],
+    scratch: &'a mut [u32],
+}
+
 // Whether the hashes of all that is left but the integers are the first six of the numbers, and the integers the words behind them.
-fn is_left(
-    text: &[u8],
-    store: &[u32],
-    ink: &[u8],
-    kinds: &[u8],
-    words: &[u32],
-    gray: &[u8],
-    integers: &[i32],
-    numbers: &[f64],
-) -> bool {
-    (hash(store) == half(text, 0) as u64)
-        & (hash(ink) == half(text, 1) as u64)
-        & (hash(kinds) == half(text, 2) as u64)
-        & (hash(words) == half(text, 3) as u64)
-        & (hash(gray) == half(text, 4) as u64)
-        & (hash_floats(numbers) == half(text, 5) as u64)
-        & are_integers(behind(text, 6), integers)
+fn is_left(text: &[u8], memory: &Memory, outputs: &Outputs) -> bool {
+    (hash(memory.store) == half(text, 0) as u64)
+        & (hash(memory.ink) == half(text, 1) as u64)
+        & (hash(memory.kinds) == half(text, 2) as u64)
+        & (hash(outputs.words) == half(text, 3) as u64)
+        & (hash(outputs.gray) == half(text, 4) as u64)
+        & (hash_floats(outputs.numbers) == half(text, 5) as u64)
+        & are_integers(behind(text, 6), outputs.integers)
 }
 
 // Plays a script; whether the log and what is left are as told behind the script.
 fn is_played(
     told: &[u8],
-    script: &[u32],
-    floats: &[f64],
-    bytes: &[u8],
-    store: &mut [u32],
-    ink: &mut [u8],
-    kinds: &mut [u8],
-    scratch: &mut [u32],
-    words: &mut [u32],
-    gray: &mut [u8],
-    integers: &mut [i32],
-    numbers: &mut [f64],
+    script: Script,
+    memory: &mut Memory,
+    outputs: &mut Outputs,
     log: &mut [u32],
 ) -> bool {
     scripts::play(
-        script, floats, bytes, store, ink, kinds, scratch, words, gray, integers, numbers, log,
+        script.calls,
+        script.floats,
+        script.bytes,
+        memory.store,
+        memory.ink,
+        memory.kinds,
+        memory.scratch,
+        outputs.words,
+        outputs.gray,
+        outputs.integers,
+        outputs.numbers,
+        log,
     );
     let left = behind(told, log.len());
-    are_next(told, log) & is_left(left, store, ink, kinds, words, gray, integers, numbers)
+    are_next(told, log) & is_left(left, memory, outputs)
 }
 
 // The same on these outputs, with a store and planes as the head has them.
-fn with_store(
-    body: &[u8],
-    told: &[u8],
-    script: &[u32],
-    floats: &[f64],
-    bytes: &[u8],
-    words: &mut [u32],
-    gray: &mut [u8],
-    integers: &mut [i32],
-    numbers: &mut [f64],
-) -> bool {
+fn with_store(body: &[u8], told: &[u8], script: Script, outputs: &mut Outputs) -> bool {
     let mut store = [OLD_WORD; STORE];
     let mut ink = [OLD_BYTE; PLANE];
     let mut kinds = [OLD_BYTE; PLANE];
@@ -187,26 +197,18 @@ fn with_store(
     let i = size(body, 4, PLANE);
     let k = size(body, 5, PLANE);
     let x = size(body, 6, SCRATCH);
-    let n = log_size(script);
-    is_played(
-        told,
-        script,
-        floats,
-        bytes,
-        &mut store[0..s],
-        &mut ink[0..i],
-        &mut kinds[0..k],
-        &mut scratch[0..x],
-        words,
-        gray,
-        integers,
-        numbers,
-        &mut log[0..n],
-    )
+    let n = log_size(script.calls);
+    let mut memory = Memory {
+        store: &mut store[0..s],
+        ink: &mut ink[0..i],
+        kinds: &mut kinds[0..k],
+        scratch: &mut scratch[0..x],
+    };
+    is_played(told, script, &mut memory, outputs, &mut log[0..n])
 }
 
 // The same with outputs as the head has them.
-fn with_outputs(body: &[u8], told: &[u8], script: &[u32], floats: &[f64], bytes: &[u8]) -> bool {
+fn with_outputs(body: &[u8], told: &[u8], script: Script) -> bool {
     let mut words = [OLD_WORD; WORDS];
     let mut gray = [OLD_BYTE; PLANE];
     let mut integers = [7i32; INTEGERS];
@@ -215,30 +217,31 @@ fn with_outputs(body: &[u8], told: &[u8], script: &[u32], floats: &[f64], bytes:
     let g = size(body, 8, PLANE);
     let i = size(body, 9, INTEGERS);
     let n = size(body, 10, NUMBERS);
-    with_store(
-        body,
-        told,
-        script,
-        floats,
-        bytes,
-        &mut words[0..w],
-        &mut gray[0..g],
-        &mut integers[0..i],
-        &mut numbers[0..n],
-    )
+    let mut outputs = Outputs {
+        words: &mut words[0..w],
+        gray: &mut gray[0..g],
+        integers: &mut integers[0..i],
+        numbers: &mut numbers[0..n],
+    };
+    with_store(body, told, script, &mut outputs)
 }
 
 // Reads a script with its floats and bytes, as many as there is room for, and plays it.
-fn with_script(body: &[u8], script: &mut [u32], floats: &mut [f64], bytes: &mut [u8]) -> bool {
+fn with_script(body: &[u8], calls: &mut [u32], floats: &mut [f64], bytes: &mut [u8]) -> bool {
     let dots = size(body, 2, BYTES);
     let at_script = behind(body, HEAD);
     let at_floats = behind(at_script, size(body, 0, SCRIPT));
     let at_dots = behind(at_floats, 2 * size(body, 1, FLOATS));
     let told = behind(at_dots, dots / 32);
-    read_numbers(at_script, script);
+    read_numbers(at_script, calls);
     read_floats(at_floats, floats);
     read_bytes(at_dots, dots, bytes);
-    with_outputs(body, told, script, floats, bytes)
+    let script = Script {
+        calls,
+        floats,
+        bytes,
+    };
+    with_outputs(body, told, script)
 }
 
 // 0D: the eleven numbers of the head; the script, its floats, two numbers each, its dots, 32 a number; the log, the hashes of store,

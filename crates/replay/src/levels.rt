@@ -19,9 +19,11 @@ fn is_answered(body: &[u8], size: u64, width: u32, shears: &[u32], plane: &[u8])
     }
     masks::ends_with(
         body,
-        size,
-        masks::hash_of(shears, width as usize + h as usize),
-        masks::hash(&plane[0..n]),
+        &[
+            size,
+            masks::hash_of(shears, width as usize + h as usize),
+            masks::hash(&plane[0..n]),
+        ],
     )
 }
 

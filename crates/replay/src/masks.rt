@@ -87,15 +87,17 @@ pub fn hash_of(words: &[u32], n: usize) -> u64 {
     }
 }
 
-// Whether the last three words are these.
-pub fn ends_with(body: &[u8], answer: u64, first: u64, second: u64) -> bool {
+// Whether the last words are these.
+pub fn ends_with(body: &[u8], answers: &[u64]) -> bool {
     let words = text::count(body);
-    if words < 3 {
+    if words < answers.len() {
         return false;
     }
-    (text::word(body, words - 3) == answer)
-        & (text::word(body, words - 2) == first)
-        & (text::word(body, words - 1) == second)
+    let from = words - answers.len();
+    answers
+        .iter()
+        .enumerate()
+        .all(|(i, answer)| *answer == text::word(body, from + i))
 }
 
 // Whether the answer and what was lent for it are as the last three words have them.
@@ -103,11 +105,13 @@ fn is_answered(body: &[u8], answer: LabelAnswer, labels: &[u32], components: &[u
     match answer {
         LabelAnswer::Labelled(count) => ends_with(
             body,
-            count as u64,
-            hash(labels),
-            hash_of(components, RECORD * count as usize),
+            &[
+                count as u64,
+                hash(labels),
+                hash_of(components, RECORD * count as usize),
+            ],
         ),
-        LabelAnswer::Refused(number) => ends_with(body, number as u64 * 4294967296, 0, 0),
+        LabelAnswer::Refused(number) => ends_with(body, &[number as u64 * 4294967296, 0, 0]),
     }
 }
 

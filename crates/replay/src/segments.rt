@@ -18,18 +18,6 @@ const RESULT_WORDS: usize = 10432;
 
 const FIGURES: usize = 15;
 
-// Whether the last four words are these.
-fn ends_with(body: &[u8], number: u32, figures: u64, results: u64, kinds: u64) -> bool {
-    let words = text::count(body);
-    if words < 4 {
-        return false;
-    }
-    (text::word(body, words - 4) == number as u64)
-        & (text::word(body, words - 3) == figures)
-        & (text::word(body, words - 2) == results)
-        & (text::word(body, words - 1) == kinds)
-}
-
 // Segments the page that the digits spell, of as many dots as there are kinds.
 fn segment_page(body: &[u8], width: u32, height: u32, ink: &mut [u8], kinds: &mut [u8]) -> bool {
     if body.len() < PAGE_FROM {
@@ -53,12 +41,14 @@ fn segment_page(body: &[u8], width: u32, height: u32, ink: &mut [u8], kinds: &mu
         &mut figures,
     );
     let words = segmenting::result_words(width as usize, capacity as usize);
-    ends_with(
+    masks::ends_with(
         body,
-        number,
-        masks::hash_of(&figures, FIGURES),
-        masks::hash_of(&results, words),
-        masks::hash(kinds),
+        &[
+            number as u64,
+            masks::hash_of(&figures, FIGURES),
+            masks::hash_of(&results, words),
+            masks::hash(kinds),
+        ],
     )
 }
 

@@ -74,10 +74,7 @@ fn log_outcome(o: Outcome) -> Logged
             number: 0,
             value: 0,
         },
-        Outcome::Refused(number) => Logged {
-            number,
-            value: 0,
-        },
+        Outcome::Refused(number) => Logged { number, value: 0 },
     }
 }
 
@@ -86,14 +83,8 @@ fn log_answer(a: Answer) -> Logged
     ensures { (result.number ≡ answer_number a) × (result.value ≡ answer_value a) }
 {
     match a {
-        Answer::Told(value) => Logged {
-            number: 0,
-            value,
-        },
-        Answer::Refused(number) => Logged {
-            number,
-            value: 0,
-        },
+        Answer::Told(value) => Logged { number: 0, value },
+        Answer::Refused(number) => Logged { number, value: 0 },
     }
 }
 
@@ -186,22 +177,14 @@ fn read_level(
 fn read_list(op: u32, store: &[u32], ink: &[u8], kinds: &[u8], out: &mut [u32]) -> Answer
     ensures { told (answer_number result) (answer_value result) (words out.new) ≡ result_told (ResultReading.list (list_named op) out.old) store.now ink.now kinds.now }
 {
-    if op == COLUMNS {
-        return read_columns(store, ink, kinds, out);
+    match op {
+        COLUMNS => read_columns(store, ink, kinds, out),
+        RULES => read_rules(store, ink, kinds, out),
+        GRAPHICS => read_graphics(store, ink, kinds, out),
+        GLYPHS => read_glyphs(store, ink, kinds, out),
+        LINES => read_lines(store, ink, kinds, out),
+        _ => read_blocks(store, ink, kinds, out),
     }
-    if op == RULES {
-        return read_rules(store, ink, kinds, out);
-    }
-    if op == GRAPHICS {
-        return read_graphics(store, ink, kinds, out);
-    }
-    if op == GLYPHS {
-        return read_glyphs(store, ink, kinds, out);
-    }
-    if op == LINES {
-        return read_lines(store, ink, kinds, out);
-    }
-    read_blocks(store, ink, kinds, out)
 }
 
 // A reading of results that fills words; all are the parts that it is lent.

@@ -6,8 +6,8 @@ ghost use Rattle.store.specs.rules.Answers.{answer_value};
 ghost use Rattle.showing.specs.rules.Shows.{shown};
 ghost use Rattle.showing.specs.stages.Rooms.{longest_shown};
 
-use std::io;
 use showing::read_full;
+use std::io;
 use std::io::{Read, Write};
 use store::Answer;
 
