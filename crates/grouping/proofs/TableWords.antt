@@ -61,7 +61,7 @@ counts-more l s m v h =
     ∙ (set-append_left (counts l m) (drop (length (counts l m)) s) v (occurs v l + 1) (omega arith)
     ∙ ((λ i. counts-set l m v h i ++ drop (a i) s) ∙ ap (λ k. counts (l ++ (v ∷ [])) m ++ drop k s) (sym b)))
 
--- words of the front lent and filled: `fill_words(&mut t[0..m], v)`
+-- words of the front lent and filled: `fill(&mut t[0..m], v)`
 pub front-filled : (v m : ℕ) (t part : List ℕ) → m ≤ length t → part ≡ table (λ _. v) (length (take (m - 0) (drop 0 t))) → put_mid 0 (m - 0) t part ≡ over (table (λ _. v) m) t
 front-filled v m t part l e =
     let z : m - 0 ≡ m = omega arith in

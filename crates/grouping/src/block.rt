@@ -20,7 +20,7 @@ ghost use Rattle.grouping.specs.stages.Counts.{counts};
 use crate::counts::{count_below, count_values};
 use crate::number::{number_blocks, write_numbers};
 use crate::record::write_blocks;
-use memory::{Rect, box_at, fill_words};
+use memory::{Rect, box_at, fill};
 use params::LayoutParams;
 use smoothing::LINE_WORDS;
 use sorting::median_of_counts;
@@ -207,7 +207,7 @@ impl<'a> TextLines<'a> {
         ensures { (result ≡ length (nearest_gaps self.now.sheet.block_min_overlap cap (line_boxes self.now.words.now self.now.n)))
             × (table.new ≡ over (counts (nearest_gaps self.now.sheet.block_min_overlap cap (line_boxes self.now.words.now self.now.n)) self.now.h) table.old) }
     {
-        fill_words(&mut table[0..self.h as usize], 0);
+        fill(&mut table[0..self.h as usize], 0);
         let mut found = 0;
         for i in 0..self.n {
             let gap = self.nearest_gap(i, cap);

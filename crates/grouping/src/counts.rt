@@ -6,7 +6,7 @@ ghost use Rattle.smoothing.specs.rules.LineRecords.{line_words};
 ghost use Rattle.memory.specs.rules.Records.{fields};
 ghost use Rattle.grouping.specs.stages.Counts.{counts, below};
 
-use memory::fill_words;
+use memory::fill;
 use smoothing::LINE_WORDS;
 
 // Counts the values, all below m, that `value` has at 0 to n - 1.
@@ -14,7 +14,7 @@ pub fn count_values<F: Fn(usize) -> u32>(value: F, n: usize, tally: &mut [u32], 
     requires { ((f : ℕ → ℕ) × ((i : ℕ) → i < n → F.pre value i × ((v : ℕ) → F.post value i v → (v ≡ f i) × (v < m)))) × (n ≤ 4294967295) × (m ≤ length tally.old) }
     ensures { (f : ℕ → ℕ) → ((i v : ℕ) → i < n → F.post value i v → v ≡ f i) → tally.new ≡ over (counts (table f n) m) tally.old }
 {
-    fill_words(&mut tally[0..m], 0);
+    fill(&mut tally[0..m], 0);
     for i in 0..n {
         tally[value(i) as usize] += 1;
     }

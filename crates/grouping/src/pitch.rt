@@ -7,7 +7,7 @@ ghost use Rattle.grouping.specs.rules.Readings.{twenty_of};
 ghost use Rattle.grouping.specs.rules.HeldLines.{centre_at, block_at, pitches_below};
 ghost use Rattle.grouping.specs.stages.Pitches.{walked_pitches, last_centre, PitchAdded, BlockedLines};
 
-use memory::fill_words;
+use memory::fill;
 use smoothing::LINE_WORDS;
 use sorting::median_of_counts;
 
@@ -31,7 +31,7 @@ pub fn median_pitch(lines: &[u32], n: usize, blocks: usize, h: u32, scratch: &mu
     ensures { (result ≡ median (pitches_below (centre_at lines.now) (block_at lines.now) n blocks)) × (result ≤ 2 * h) }
 {
     let values = 2 * (h as usize);
-    fill_words(&mut scratch[0..values + blocks], 0);
+    fill(&mut scratch[0..values + blocks], 0);
     let found = count_pitches(lines, n, blocks, values, scratch);
     median_of_counts(&scratch[..values], found)
 }

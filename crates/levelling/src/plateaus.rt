@@ -11,7 +11,7 @@ ghost use Rattle.levelling.specs.stages.Moves.{Plateau, Plateaus, column_at};
 ghost use Rattle.levelling.specs.stages.Held.{frame_held};
 
 use crate::page_plane::PagePlane;
-use memory::{MAX_PAGE_SIDE, copy_bytes, fill_bytes};
+use memory::{MAX_PAGE_SIDE, copy_over, fill};
 
 // The columns of the widest page.
 const COLUMNS: usize = MAX_PAGE_SIDE as usize;
@@ -43,9 +43,9 @@ impl PagePlane<'_> {
             let start = r * w;
             let left = start + self.shear_x[r] as usize;
             let right = left + self.sides.page_w;
-            fill_bytes(&mut out[start..left], self.fill);
+            fill(&mut out[start..left], self.fill);
             self.level_columns(ends, r, &mut out[left..right]);
-            fill_bytes(&mut out[right..start + w], self.fill);
+            fill(&mut out[right..start + w], self.fill);
         }
     }
 
@@ -74,7 +74,7 @@ impl PagePlane<'_> {
         ensures { out.new ≡ table (λ i. column_at self.now.page.now self.now.fill self.now.sides.page_w self.now.sides.page_h r s (c + i)) (length out.old) }
     {
         if r < s || self.sides.page_h <= r - s {
-            fill_bytes(out, self.fill);
+            fill(out, self.fill);
             return;
         }
         let from = (r - s) * self.sides.page_w + c;
@@ -100,7 +100,7 @@ fn copy_columns(dst: &mut [u8], src: &[u8])
         copy_chunk(dst, src);
         return;
     }
-    copy_bytes(dst, src);
+    copy_over(dst, src);
 }
 
 // The same of one chunk, all of it read before any of it is written: then the machine moves it in its widest steps.
@@ -109,8 +109,8 @@ fn copy_chunk(dst: &mut [u8], src: &[u8])
     ensures { dst.new ≡ over src.now dst.old }
 {
     let mut chunk = [0u8; CHUNK];
-    copy_bytes(&mut chunk, &src[0..CHUNK]);
-    copy_bytes(dst, &chunk);
+    copy_over(&mut chunk, &src[0..CHUNK]);
+    copy_over(dst, &chunk);
 }
 
 // The end of the plateau that begins at each column, the last column first.

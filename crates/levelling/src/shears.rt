@@ -7,7 +7,7 @@ ghost use Rattle.levelling.specs.rules.Shears as Shears;
 ghost use Rattle.levelling.specs.rules.Shears.{drift_of, shear_of};
 ghost use Rattle.levelling.specs.stages.Entries.{least_end, LeastOf, entry_of};
 
-use memory::fill_words;
+use memory::fill;
 use params::LayoutParams;
 
 // The entries that are found together: at gentle slopes most steps are level.
@@ -108,7 +108,7 @@ impl Shear {
     {
         let first = self.entry(c);
         if first == self.entry(c + (out.len() - 1) as u32) {
-            fill_words(out, first);
+            fill(out, first);
             return;
         }
         self.each_entry(c, out);

@@ -9,7 +9,7 @@ ghost use Rattle.levelling.specs.stages.Moves.{partly, or_rows};
 ghost use Rattle.levelling.specs.stages.Held.{frame_held, frame_moved, FitsPart, MovesHeld};
 
 use crate::page_plane::PagePlane;
-use memory::fill_bytes;
+use memory::fill;
 
 // The columns of a tile, and the most frame rows that one tile goes to at a time: more are slow to store to, which was measured.
 const TILE: usize = 1024;
@@ -53,7 +53,7 @@ impl PagePlane<'_> {
     {
         let page_w = self.sides.page_w;
         let dots = self.sides.w * self.sides.h;
-        fill_bytes(&mut out[..dots], self.fill);
+        fill(&mut out[..dots], self.fill);
         if self.sides.h - self.sides.page_h <= TILE {
             self.move_tile(0, page_w, out);
             return;

@@ -86,7 +86,7 @@ stored-put f at n s part l e =
 pub stored-filled : (v a b : ℕ) (s part : List ℕ) → a ≤ b → b ≤ length s → part ≡ table (λ _. v) (length (take (b - a) (drop a s))) → Stored (λ _. v) a (b - a) s (put_mid a (b - a) s part)
 stored-filled v a b s part l u e = stored-put (λ _. v) a (b - a) s part (omega arith) (e ∙ ap (table (λ _. v)) (length_part a b s l u))
 
--- a part lent and filled: `fill_words(&mut s[a..e], v)`
+-- a part lent and filled: `fill(&mut s[a..e], v)`
 pub stored-fill : (v a n : ℕ) (s part : List ℕ) → a + n ≤ length s → part ≡ table (λ _. v) (length (take (a + n - a) (drop a s))) → Stored (λ _. v) a n s (put_mid a (a + n - a) s part)
 stored-fill v a n s part l e =
     let size : a + n - a ≡ n = omega arith in

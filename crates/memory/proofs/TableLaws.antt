@@ -8,8 +8,6 @@ use native.Mathlib.Decide.{ℕ_discrete}
 use native.Mathlib.Omega.{arith}
 use lib.ListN.{get_or, length, set, drop, length-append, get_or-append}
 use lib.Seq.{get_or_at, set_at, drop-cons, append_snoc, drop-length}
-use Rattle.std.proofs.Math.ListN.{replicate}
-use Rattle.std.proofs.lemmas.List.{replicate_more}
 use Rattle.memory.specs.rules.Lists.{table}
 use Rattle.memory.specs.rules.Words.{over}
 
@@ -38,14 +36,14 @@ table-ext f g zero h = refl
 table-ext {A} f g (suc n) h = λ i. table-ext f g n (λ k l. h k (omega arith)) i ++ (h n (le_refl (suc n)) i ∷ [])
 
 -- one more entry is stored
-pub table_step : (f : ℕ → ℕ) (s : List ℕ) (i : ℕ) → i < length s → set (table f i ++ drop i s) i (f i) ≡ table f (suc i) ++ drop (suc i) s
+pub table_step : {A : Type 0} (f : ℕ → A) (s : List A) (i : ℕ) → i < length s → set (table f i ++ drop i s) i (f i) ≡ table f (suc i) ++ drop (suc i) s
 unfolding table
 table_step f s i l =
-    ap (λ r. set (table f i ++ r) i (f i)) (drop-cons s i 0 l)
-    ∙ (set_at (table f i) (get_or s i 0) (drop (suc i) s) (f i) i (length-table f i) ∙ sym (append_snoc (table f i) (f i) (drop (suc i) s)))
+    ap (λ r. set (table f i ++ r) i (f i)) (drop-cons s i (f i) l)
+    ∙ (set_at (table f i) (get_or s i (f i)) (drop (suc i) s) (f i) i (length-table f i) ∙ sym (append_snoc (table f i) (f i) (drop (suc i) s)))
 
 -- the same, as a loop asks it of what its slice holds now
-pub table_more : (f : ℕ → ℕ) (s out : List ℕ) (i v : ℕ) → i < length s → out ≡ table f i ++ drop i s → v ≡ f i → set out i v ≡ table f (i + 1) ++ drop (i + 1) s
+pub table_more : {A : Type 0} (f : ℕ → A) (s out : List A) (i : ℕ) (v : A) → i < length s → out ≡ table f i ++ drop i s → v ≡ f i → set out i v ≡ table f (i + 1) ++ drop (i + 1) s
 table_more f s out i v l e q = (λ t. set (e t) i (q t)) ∙ (table_step f s i l ∙ ap (λ k. table f k ++ drop k s) (sym (add-one i)))
 
 -- the loop has filled in all n: the table lies over the front
@@ -56,11 +54,5 @@ table_filled f s out v i n e q t = e ∙ (ap (λ k. table f k ++ drop k s) q ∙
     lengths = sym (length-table f n) ∙ ap length t
 
 -- and where there is no more than n places, the table is all
-pub table-whole : (f : ℕ → ℕ) (s out : List ℕ) (i : ℕ) → out ≡ table f i ++ drop i s → i ≡ length s → out ≡ table f (length s)
-table-whole f s out i e q = e ∙ (ap (λ k. table f k ++ drop k s) q ∙ (ap (λ (z : List ℕ). table f (length s) ++ z) (drop-length s) ∙ append-nil (table f (length s))))
-
--- n times the same entry
-pub replicate-table : {A : Type 0} (n : ℕ) (v : A) → replicate n v ≡ table (λ _. v) n
-unfolding table
-replicate-table zero v = refl
-replicate-table {A} (suc n) v = sym (ap (λ k. replicate k v) (add-one n)) ∙ (sym (replicate_more n v) ∙ ap (λ (z : List A). z ++ (v ∷ [])) (replicate-table n v))
+pub table-whole : {A : Type 0} (f : ℕ → A) (s out : List A) (i : ℕ) → out ≡ table f i ++ drop i s → i ≡ length s → out ≡ table f (length s)
+table-whole {A} f s out i e q = e ∙ (ap (λ k. table f k ++ drop k s) q ∙ (ap (λ (z : List A). table f (length s) ++ z) (drop-length s) ∙ append-nil (table f (length s))))

@@ -16,7 +16,7 @@ pub use limits::{
     MAX_MASK_DOTS, MAX_MASK_SIDE, MAX_PAGE_SIDE, NO_LINE, scratch_words, store_words,
 };
 pub use masks::{is_mask, judge_sides};
-pub use numbers::{area, max_u32, max_usize, min_u32, min_usize, wide};
+pub use numbers::area;
 pub use rect::{Rect, box_at, put_box};
 pub use refusals::{Refusal, number_of, word_of};
-pub use words::{copy_bytes, copy_words, fill_bytes, fill_words, word_at};
+pub use words::{copy_over, fill, word_at};

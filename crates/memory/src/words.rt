@@ -11,15 +11,7 @@ pub fn word_at(s: &[u32], k: usize) -> u32
 }
 
 // The whole of src over the front of dst; what lies past it stays.
-pub fn copy_words(dst: &mut [u32], src: &[u32])
-    requires { length src.now ≤ length dst.old }
-    ensures { dst.new ≡ over src.now dst.old }
-{
-    dst[..src.len()].copy_from_slice(src);
-}
-
-// The same of bytes.
-pub fn copy_bytes(dst: &mut [u8], src: &[u8])
+pub fn copy_over<T: Copy>(dst: &mut [T], src: &[T])
     requires { length src.now ≤ length dst.old }
     ensures { dst.new ≡ over src.now dst.old }
 {
@@ -27,15 +19,10 @@ pub fn copy_bytes(dst: &mut [u8], src: &[u8])
 }
 
 // v in every place.
-pub fn fill_bytes(dst: &mut [u8], v: u8)
+pub fn fill<T: Copy>(dst: &mut [T], v: T)
     ensures { dst.new ≡ table (λ _. v) (length dst.old) }
 {
-    dst.fill(v);
-}
-
-// The same of words.
-pub fn fill_words(dst: &mut [u32], v: u32)
-    ensures { dst.new ≡ table (λ _. v) (length dst.old) }
-{
-    dst.fill(v);
+    for i in 0..dst.len() {
+        dst[i] = v;
+    }
 }

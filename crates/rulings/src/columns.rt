@@ -11,7 +11,7 @@ ghost use Rattle.rulings.specs.stages.Worked.{ruled, thinned, raised, told, befo
 use crate::plane::{Plane, Rulings};
 use crate::scanlines::Walk;
 use extents::chunk_end;
-use memory::fill_words;
+use memory::fill;
 
 impl<'a> Rulings<'a> {
     // Down every column, some strips of columns at a time: 2 more at each dot that is cut. Answers whether a dot was marked.
@@ -56,7 +56,7 @@ impl<'a> Rulings<'a> {
         ensures { (raised self.entry a b 0 self.entry.plane.sweep.inner words.old words.new) × (told self.entry result words.old words.new) }
     {
         let inner = self.plane.sweep.inner;
-        fill_words(&mut words[a..b], 0);
+        fill(&mut words[a..b], 0);
         let mut found = false;
         for y in 0..inner {
             found |= self.mark_row(words, a, b, y);

@@ -12,7 +12,7 @@ ghost use Rattle.rulings.specs.stages.Worked.{ruled, thinned, walked, told, unma
 
 use crate::plane::{Plane, Rulings, Sweep};
 use extents::capped;
-use memory::{area, fill_words};
+use memory::{area, fill};
 
 // How far a walk came, and whether it marked a dot.
 #[derive(Clone, Copy, Debug, PartialEq, Eq)]
@@ -45,7 +45,7 @@ pub fn mark_rulings(
     let w = width as usize;
     let h = height as usize;
     let end = marks + area(width, height);
-    fill_words(&mut words[marks..end], 0);
+    fill(&mut words[marks..end], 0);
     let columns = Rulings {
         plane: Plane {
             ink,
@@ -80,7 +80,7 @@ impl<'a> Rulings<'a> {
     {
         let inner = self.plane.sweep.inner;
         let outer = self.plane.sweep.outer;
-        fill_words(&mut words[0..inner], 0);
+        fill(&mut words[0..inner], 0);
         let mut found = false;
         for o in 0..outer {
             found |= self.mark_scanline(words, o);

@@ -7,7 +7,7 @@ ghost use Rattle.memory.specs.stages.Stored.{Stored};
 ghost use Rattle.sorting.specs.rules.Kinds.{glyph_kind};
 ghost use Rattle.smoothing.specs.stages.LineWords.{kind_word, first_number, LabelRoom, label_at, labels_at, CountRoom, glyph_fields, glyph_record_at, GlyphRoom, WrittenGlyph, WrittenGlyphs};
 
-use memory::{Rect, fill_words, put_box};
+use memory::{Rect, fill, put_box};
 use sorting::{GLYPH, SIZE_WORDS, size_box};
 
 // The words of a glyph's record.
@@ -41,7 +41,7 @@ pub fn count_glyphs(words: &mut [u32], kinds: usize, count: usize, glyphs: usize
     requires { CountRoom kinds count glyphs smears words.old }
     ensures { Stored (λ (t : ℕ). occurs (suc t) (labels_at words.old kinds count)) glyphs smears words.old words.new }
 {
-    fill_words(&mut words[glyphs..glyphs + smears], 0);
+    fill(&mut words[glyphs..glyphs + smears], 0);
     for k in 0..count {
         let label = (words[kinds + k] / 8) as usize;
         count_label(words, glyphs, label);

@@ -16,7 +16,7 @@ use crate::kinds::{is_measurable, kind_of};
 use crate::median::median_of_counts;
 use crate::plan::Plan;
 use labelling::Component;
-use memory::{Rect, box_at, fill_words};
+use memory::{Rect, box_at, fill};
 use params::LayoutParams;
 
 // The words of a component's size.
@@ -64,7 +64,7 @@ pub fn measure_unit(
     ensures { (result ≡ unit_of sheet w h (sized_from words.old sizes count)) × (Within heights (heights + h + 1) words.old words.new) }
 {
     let rows = h as usize + 1;
-    fill_words(&mut words[heights..heights + rows], 0);
+    fill(&mut words[heights..heights + rows], 0);
     let counts = Heights {
         at: heights,
         sheet,

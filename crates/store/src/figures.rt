@@ -9,14 +9,14 @@ ghost use Rattle.store.specs.rules.Outcomes.{told, result_told};
 ghost use Rattle.memory.specs.rules.Refusals.{answer_number};
 
 use judging::{FIGURES, FIGURES_END, FIGURES_LENGTH, judge_reading};
-use memory::{Refusal, copy_words};
+use memory::{Refusal, copy_over};
 
 // The words 10 to 24 over the front of the words lent, the first as 0 or 1.
 fn put_figures(store: &[u32], out: &mut [u32])
     requires { (header_words ≤ length store.now) × (figures_length ≤ length out.old) }
     ensures { out.new ≡ over (figures_told (part figures_at figures_length store.now)) out.old }
 {
-    copy_words(out, &store[FIGURES..FIGURES_END]);
+    copy_over(out, &store[FIGURES..FIGURES_END]);
     if store[FIGURES] != 0 {
         out[0] = 1;
     }

@@ -14,7 +14,7 @@ use judging::{
     CAPACITY, FRAME_HEIGHT, FRAME_WIDTH, HEADER, LEVELLED, PAGE_HEIGHT, PAGE_WIDTH, STATE,
     judge_leaf, judge_place,
 };
-use memory::{Refusal, bits_of, copy_words};
+use memory::{Refusal, bits_of, copy_over};
 use params::LayoutParams;
 
 // What levelling is handed beside mask and sheet (01, part 3).
@@ -71,7 +71,7 @@ fn write_head(a: Head, store: &mut [u32])
     head[7] = (skew / 4294967296) as u32;
     head[8] = (slope % 4294967296) as u32;
     head[9] = (slope / 4294967296) as u32;
-    copy_words(store, &head);
+    copy_over(store, &head);
 }
 
 // Both shears, and the mask moved by them.

@@ -11,7 +11,7 @@ use judging::{
     BLOCKS, CAPACITY, COLUMNS, FRAME_HEIGHT, FRAME_WIDTH, GLYPHS, GRAPHICS, LINES, PAGE_WIDTH,
     RULES, judge_reading, lists_at,
 };
-use memory::{Refusal, copy_words};
+use memory::{Refusal, copy_over};
 use segmenting::{BOX_WORDS, COLUMN_WORDS, result_places};
 use smoothing::{GLYPH_WORDS, LINE_WORDS};
 
@@ -82,7 +82,7 @@ fn read_list(store: &[u32], ink: &[u8], kinds: &[u8], which: ListName, out: &mut
     if out.len() < list.len() {
         return Err(Refusal::Lent);
     }
-    copy_words(out, list);
+    copy_over(out, list);
     Ok(count_of(store, which))
 }
 

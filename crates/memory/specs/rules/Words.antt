@@ -6,7 +6,7 @@ abbrev pub word_at : List ℕ → ℕ → ℕ
 word_at s k = get_or s k 0
 
 -- s with v over its front: what lies past v is untouched (01, Limits)
-abbrev pub over : List ℕ → List ℕ → List ℕ
+abbrev pub over : {A : Type 0} → List A → List A → List A
 over v s = v ++ drop (length v) s
 
 -- v from word `at` on; what lies before and past it stays

@@ -10,7 +10,7 @@ use native.Mathlib.Omega.{arith}
 use Rattle.grouping.proofs.counts.count_values.Goals as goal
 
 pub loop-i-init : goal.loop-i-init
-loop-i-init g c = λ f h. values_none f c.args.tally.now (put_mid 0 (c.args.m - 0) c.args.tally.now c.fill_words.new.dst) c.args.m (front-filled 0 c.args.m c.args.tally.now _ (omega arith) c.fill_words.ensures)
+loop-i-init g c = λ f h. values_none f c.args.tally.now (put_mid 0 (c.args.m - 0) c.args.tally.now c.fill.new.dst) c.args.m (front-filled 0 c.args.m c.args.tally.now _ (omega arith) c.fill.ensures)
 
 pub bounds-tally-value : goal.bounds-tally-value
 bounds-tally-value g c = let r = c.requires.0 in let v = (r.1 c.loop-i.i (omega arith)).1 _ c.value.ensures in omega arith
@@ -32,6 +32,6 @@ loop-i-preserved g c = λ f h.
 pub returns : goal.returns
 returns g c = λ f h.
     let e : c.loop-i.i ≡ c.args.n = omega arith in
-    let filled : List ℕ = put_mid 0 (c.args.m - 0) c.args.tally.now c.fill_words.new.dst in
-    counts-done c.args.tally.now filled c.loop-i.tally _ c.args.m (front-filled 0 c.args.m c.args.tally.now _ (omega arith) c.fill_words.ensures)
+    let filled : List ℕ = put_mid 0 (c.args.m - 0) c.args.tally.now c.fill.new.dst in
+    counts-done c.args.tally.now filled c.loop-i.tally _ c.args.m (front-filled 0 c.args.m c.args.tally.now _ (omega arith) c.fill.ensures)
     (c.loop-i.invariant f h ∙ ap (λ (k : ℕ). over (counts (table f k) c.args.m) filled) e)

@@ -9,7 +9,7 @@ use native.Mathlib.Omega.{arith}
 use Rattle.grouping.proofs.pitch.median_pitch.Goals as goal
 
 pub count_pitches-found-requires : goal.count_pitches-found-requires
-count_pitches-found-requires c = ((c.args.h, c.requires.0, refl), omega arith, omega arith, filled_at (λ k. 0) ((2 * c.args.h) + c.args.blocks) (put_mid 0 (2 * c.args.h + c.args.blocks - 0) c.args.scratch.now c.fill_words.new.dst) c.args.scratch.now (front-filled 0 (2 * c.args.h + c.args.blocks) c.args.scratch.now _ (omega arith) c.fill_words.ensures))
+count_pitches-found-requires c = ((c.args.h, c.requires.0, refl), omega arith, omega arith, filled_at (λ k. 0) ((2 * c.args.h) + c.args.blocks) (put_mid 0 (2 * c.args.h + c.args.blocks - 0) c.args.scratch.now c.fill.new.dst) c.args.scratch.now (front-filled 0 (2 * c.args.h + c.args.blocks) c.args.scratch.now _ (omega arith) c.fill.ensures))
 
 pub returns : goal.returns
 returns c = let l = pitches_below (centre_at c.args.lines.now) (block_at c.args.lines.now) c.args.n c.args.blocks in

@@ -15,14 +15,14 @@ overflow_add-end c = let p = c.requires.0 in omega (arith, c.area.ensures, p.pla
 pub offset_bounds-words-marks : goal.offset_bounds-words-marks
 offset_bounds-words-marks c = let p = c.requires.0 in omega (arith, c.area.ensures, p.plane.room, p.before)
 
-pub slice_bounds-fill_words-count : goal.slice_bounds-fill_words-count
-slice_bounds-fill_words-count c = let p = c.requires.0 in omega (arith, c.area.ensures, p.plane.room, p.before)
+pub slice_bounds-fill-count : goal.slice_bounds-fill-count
+slice_bounds-fill-count c = let p = c.requires.0 in omega (arith, c.area.ensures, p.plane.room, p.before)
 
-pub slice_bounds-fill_words-start : goal.slice_bounds-fill_words-start
-slice_bounds-fill_words-start c = let p = c.requires.0 in omega (arith, c.area.ensures, p.plane.room, p.before)
+pub slice_bounds-fill-start : goal.slice_bounds-fill-start
+slice_bounds-fill-start c = let p = c.requires.0 in omega (arith, c.area.ensures, p.plane.room, p.before)
 
-pub slice_bounds-fill_words-end : goal.slice_bounds-fill_words-end
-slice_bounds-fill_words-end c = let p = c.requires.0 in omega (arith, c.area.ensures, p.plane.room, p.before)
+pub slice_bounds-fill-end : goal.slice_bounds-fill-end
+slice_bounds-fill-end c = let p = c.requires.0 in omega (arith, c.area.ensures, p.plane.room, p.before)
 
 pub invariant_of-columns : goal.invariant_of-columns
 invariant_of-columns c =
@@ -38,9 +38,9 @@ pub mark_columns-vertical-requires : goal.mark_columns-vertical-requires
 mark_columns-vertical-requires c =
     let a = c.args in
     let p = c.requires.0 in
-    let f = marks-cleared a.marks c.area.result (a.width * a.height) a.words.now c.fill_words.new.dst c.area.ensures p.plane.room p.before c.fill_words.ensures in
+    let f = marks-cleared a.marks c.area.result (a.width * a.height) a.words.now c.fill.new.dst c.area.ensures p.plane.room p.before c.fill.ensures in
     let L = fit-down a.width a.height _ _ p.plane in
-    subst (λ (g : Sweep). (g.across ≡ 1) × (UpTo g (length a.ink.now) (drop a.marks (put_mid a.marks (a.marks + c.area.result - a.marks) a.words.now c.fill_words.new.dst)) 2) × (a.marks ≤ length (put_mid a.marks (a.marks + c.area.result - a.marks) a.words.now c.fill_words.new.dst))) (sym c.down.ensures) (
+    subst (λ (g : Sweep). (g.across ≡ 1) × (UpTo g (length a.ink.now) (drop a.marks (put_mid a.marks (a.marks + c.area.result - a.marks) a.words.now c.fill.new.dst)) 2) × (a.marks ≤ length (put_mid a.marks (a.marks + c.area.result - a.marks) a.words.now c.fill.new.dst))) (sym c.down.ensures) (
       refl,
       up-to-all (sweep_down a.width a.height) (length a.ink.now) 2 _ L (omega (arith, f.room, p.plane.dots)) (λ k l. omega (arith, f.zeros k (omega (arith, p.plane.dots)))),
       omega (arith, f.size, p.before),
@@ -50,9 +50,9 @@ pub mark_scanlines-horizontal-requires : goal.mark_scanlines-horizontal-requires
 mark_scanlines-horizontal-requires c =
     let a = c.args in
     let p = c.requires.0 in
-    let f = marks-cleared a.marks c.area.result (a.width * a.height) a.words.now c.fill_words.new.dst c.area.ensures p.plane.room p.before c.fill_words.ensures in
+    let f = marks-cleared a.marks c.area.result (a.width * a.height) a.words.now c.fill.new.dst c.area.ensures p.plane.room p.before c.fill.ensures in
     let L = fit-across a.width a.height _ _ p.plane in
-    let A = subst (λ (g : Sweep). Marked g (length a.ink.now) (is_ruling g a.ink.now a.run_min a.thick_max) 2 (drop a.marks (put_mid a.marks (a.marks + c.area.result - a.marks) a.words.now c.fill_words.new.dst)) (drop a.marks c.mark_columns-vertical.new.words) 0 (g.outer * g.inner)) c.down.ensures c.mark_columns-vertical.ensures.0 in
+    let A = subst (λ (g : Sweep). Marked g (length a.ink.now) (is_ruling g a.ink.now a.run_min a.thick_max) 2 (drop a.marks (put_mid a.marks (a.marks + c.area.result - a.marks) a.words.now c.fill.new.dst)) (drop a.marks c.mark_columns-vertical.new.words) 0 (g.outer * g.inner)) c.down.ensures c.mark_columns-vertical.ensures.0 in
     subst (λ (g : Sweep). (Unmarked g (length a.ink.now) (drop a.marks c.mark_columns-vertical.new.words) 0) × (a.marks ≤ length c.mark_columns-vertical.new.words)) (sym c.across.ensures) (
       unmarked-all _ (length a.ink.now) (drop a.marks c.mark_columns-vertical.new.words) L (omega (arith, A.size, f.room, p.plane.dots)) (marked-small a.run_min a.thick_max a.width a.height a.ink.now p.plane.wide p.plane.dots _ (drop a.marks c.mark_columns-vertical.new.words) f.zeros A),
       omega (arith, c.words-2-1.given, f.size, p.before),
@@ -62,8 +62,8 @@ pub returns : goal.returns
 returns c =
     let a = c.args in
     let p = c.requires.0 in
-    let f = marks-cleared a.marks c.area.result (a.width * a.height) a.words.now c.fill_words.new.dst c.area.ensures p.plane.room p.before c.fill_words.ensures in
-    let A = subst (λ (g : Sweep). Marked g (length a.ink.now) (is_ruling g a.ink.now a.run_min a.thick_max) 2 (drop a.marks (put_mid a.marks (a.marks + c.area.result - a.marks) a.words.now c.fill_words.new.dst)) (drop a.marks c.mark_columns-vertical.new.words) 0 (g.outer * g.inner)) c.down.ensures c.mark_columns-vertical.ensures.0 in
+    let f = marks-cleared a.marks c.area.result (a.width * a.height) a.words.now c.fill.new.dst c.area.ensures p.plane.room p.before c.fill.ensures in
+    let A = subst (λ (g : Sweep). Marked g (length a.ink.now) (is_ruling g a.ink.now a.run_min a.thick_max) 2 (drop a.marks (put_mid a.marks (a.marks + c.area.result - a.marks) a.words.now c.fill.new.dst)) (drop a.marks c.mark_columns-vertical.new.words) 0 (g.outer * g.inner)) c.down.ensures c.mark_columns-vertical.ensures.0 in
     let B = subst (λ (g : Sweep). Marked g (length a.ink.now) (is_ruling g a.ink.now a.run_min a.thick_max) 1 (drop a.marks c.mark_columns-vertical.new.words) (drop a.marks c.mark_scanlines-horizontal.new.words) 0 (g.outer * g.inner)) c.across.ensures c.mark_scanlines-horizontal.ensures.0 in
     record {
       len = c.words-3-1.given ∙ (c.words-2-1.given ∙ f.size);

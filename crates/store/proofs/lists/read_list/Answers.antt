@@ -31,5 +31,5 @@ pub returns : goal.returns
 returns c =
     let l = c.list_of-list.ensures in
     let e = ap length l in
-    list_done c.args.store.now c.args.ink.now c.args.kinds.now (told-good (ResultReading.list (which_of c.args.which) c.args.out.now) c.args.store.now c.args.ink.now c.args.kinds.now 0 c.in_ok-judge_reading.ensures refl).0 (which_of c.args.which) c.args.out.now 0 c.in_ok-judge_reading.ensures refl (omega (arith, c.if-out-list.false)) c.count_of.result c.copy_words.new.dst c.count_of.ensures
-    (c.copy_words.ensures ∙ ap (λ z. over z c.args.out.now) l)
+    list_done c.args.store.now c.args.ink.now c.args.kinds.now (told-good (ResultReading.list (which_of c.args.which) c.args.out.now) c.args.store.now c.args.ink.now c.args.kinds.now 0 c.in_ok-judge_reading.ensures refl).0 (which_of c.args.which) c.args.out.now 0 c.in_ok-judge_reading.ensures refl (omega (arith, c.if-out-list.false)) c.count_of.result c.copy_over.new.dst c.count_of.ensures
+    (c.copy_over.ensures ∙ ap (λ z. over z c.args.out.now) l)

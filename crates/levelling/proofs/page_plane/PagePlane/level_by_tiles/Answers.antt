@@ -32,7 +32,7 @@ pub returns-then-self-le-TILE : goal.returns-then-self-le-TILE
 returns-then-self-le-TILE c =
     let p = c.args.self.now in
     let all : 0 + p.sides.page_w ≡ p.sides.page_w = omega arith in
-    whole p c.args.out.now c.fill_bytes.new.dst c.move_tile.new.out c.requires c.fill_bytes.ensures
+    whole p c.args.out.now c.fill.new.dst c.move_tile.new.out c.requires c.fill.ensures
     (subst (Tiled (frame_moved p) p.fill p.page.now _ c.move_tile.new.out) all (tiled-more _ _ _ _ _ _ 0 p.sides.page_w (tiled-none (frame_moved p) p.fill p.page.now _) c.move_tile.ensures))
 
 pub loop-tile-init : goal.loop-tile-init
@@ -55,4 +55,4 @@ pub returns : goal.returns
 returns c =
     let p = c.args.self.now in
     let all : min (c.loop-tile.tile * 1024) p.sides.page_w ≡ p.sides.page_w = omega arith in
-    whole p c.args.out.now c.fill_bytes.new.dst c.loop-tile.out c.requires c.fill_bytes.ensures (subst (Tiled (frame_moved p) p.fill p.page.now _ c.loop-tile.out) all c.loop-tile.invariant)
+    whole p c.args.out.now c.fill.new.dst c.loop-tile.out c.requires c.fill.ensures (subst (Tiled (frame_moved p) p.fill p.page.now _ c.loop-tile.out) all c.loop-tile.invariant)

@@ -10,8 +10,8 @@ returns-then-r-s c =
     let a = c.args in
     let p = a.self.now in
     elim c.then-r-s.branch [
-      | then-r-s-via-then-r-s w ↦ c.fill_bytes.ensures ∙ plateau-above p.page.now p.fill p.sides.page_w p.sides.page_h a.r a.s a.c (length a.out.now) w.if-r-s.true
-      | then-r-s-via-else-r-s+then-self-r w ↦ c.fill_bytes.ensures ∙ plateau-below p.page.now p.fill p.sides.page_w p.sides.page_h a.r a.s a.c (length a.out.now) w.if-r-s.false w.if-self-r.true
+      | then-r-s-via-then-r-s w ↦ c.fill.ensures ∙ plateau-above p.page.now p.fill p.sides.page_w p.sides.page_h a.r a.s a.c (length a.out.now) w.if-r-s.true
+      | then-r-s-via-else-r-s+then-self-r w ↦ c.fill.ensures ∙ plateau-below p.page.now p.fill p.sides.page_w p.sides.page_h a.r a.s a.c (length a.out.now) w.if-r-s.false w.if-self-r.true
     ]
 
 pub returns : goal.returns

@@ -25,14 +25,14 @@ loop-r-preserved c =
     let left = start + get_or p.shear_x.now c.loop-r.r 0 in
     let right = left + p.sides.page_w in
     let end = start + p.sides.w in
-    let one = put_mid start (left - start) c.loop-r.out c.fill_bytes.new.dst in
+    let one = put_mid start (left - start) c.loop-r.out c.fill.new.dst in
     let two = put_mid left (right - left) one c.level_columns.new.out in
     let e = row-end p.sides.w p.sides.h c.loop-r.r c.loop-r-test.true in
     let i = F.inside c.loop-r.r in
     let k : length two ≡ length c.loop-r.out = omega arith in
-    row_put (frame_held p) p.fill p.page.now c.args.out.now c.loop-r.out c.fill_bytes.new.dst c.level_columns.new.out c.fill_bytes-in-loop-r.new.dst c.loop-r.r
+    row_put (frame_held p) p.fill p.page.now c.args.out.now c.loop-r.out c.fill.new.dst c.level_columns.new.out c.fill-in-loop-r.new.dst c.loop-r.r
     (length (take (left - start) (drop start c.loop-r.out))) (length (take (end - right) (drop right two))) (left - start) (right - left) (end - right)
-    c.loop-r.invariant c.fill_bytes.ensures c.level_columns.ensures c.fill_bytes-in-loop-r.ensures i
+    c.loop-r.invariant c.fill.ensures c.level_columns.ensures c.fill-in-loop-r.ensures i
     (simp (length-take, length-drop) (omega (arith, e, F.out_size, i))) (simp (length-take, length-drop) (omega (arith, k, e, F.out_size, i))) (omega arith) (omega arith) (omega (arith, i))
 
 pub returns : goal.returns

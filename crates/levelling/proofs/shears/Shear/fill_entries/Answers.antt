@@ -10,7 +10,7 @@ pub returns-then-first-entry : goal.returns-then-first-entry
 returns-then-first-entry c =
     let s = c.args.self in
     let n = length c.args.out.now in
-    c.fill_words.ensures
+    c.fill.ensures
     ∙ table-ext (λ _. c.entry-first.result) _ n
     (λ i l.
     c.entry-first.ensures

@@ -13,16 +13,16 @@ pub loop-y-init : goal.loop-y-init
 loop-y-init c =
     let a = c.args in
     let p = c.requires in
-    let s = put_mid a.a (a.b - a.a) a.words.now c.fill_words.new.dst in
-    let f = stored-filled 0 a.a a.b a.words.now c.fill_words.new.dst (omega arith) (omega arith) c.fill_words.ensures in
+    let s = put_mid a.a (a.b - a.a) a.words.now c.fill.new.dst in
+    let f = stored-filled 0 a.a a.b a.words.now c.fill.new.dst (omega arith) (omega arith) c.fill.ensures in
     (risen-none a.self.plane.sweep a.self.plane.ink.now a.self.run_min a.self.thick_max a.a a.b 0 (drop a.self.marks s), counted-zero a.self.plane.sweep a.self.plane.ink.now a.a a.b s (λ o k b. stored_at f o k (omega arith)), refl, λ e. refl)
 
 pub mark_row-found-requires : goal.mark_row-found-requires
 mark_row-found-requires c =
     let a = c.args in
     let p = c.requires in
-    let s = put_mid a.a (a.b - a.a) a.words.now c.fill_words.new.dst in
-    let f = stored-filled 0 a.a a.b a.words.now c.fill_words.new.dst (omega arith) (omega arith) c.fill_words.ensures in
+    let s = put_mid a.a (a.b - a.a) a.words.now c.fill.new.dst in
+    let f = stored-filled 0 a.a a.b a.words.now c.fill.new.dst (omega arith) (omega arith) c.fill.ensures in
     let D : drop a.self.marks s ≡ drop a.self.marks a.words.now = within-drop f.within a.self.marks (omega arith) in (
       p.0,
       p.1,
@@ -37,8 +37,8 @@ pub loop-y-preserved : goal.loop-y-preserved
 loop-y-preserved c =
     let a = c.args in
     let p = c.requires in
-    let s = put_mid a.a (a.b - a.a) a.words.now c.fill_words.new.dst in
-    let f = stored-filled 0 a.a a.b a.words.now c.fill_words.new.dst (omega arith) (omega arith) c.fill_words.ensures in (
+    let s = put_mid a.a (a.b - a.a) a.words.now c.fill.new.dst in
+    let f = stored-filled 0 a.a a.b a.words.now c.fill.new.dst (omega arith) (omega arith) c.fill.ensures in (
       risen-places a.self.plane.sweep a.self.plane.ink.now a.self.run_min a.self.thick_max a.a a.b 0 c.loop-y.y (c.loop-y.y + 1) (drop a.self.marks s) (drop a.self.marks c.loop-y.words) _ c.loop-y.invariant.0 c.mark_row-found.ensures.0,
       c.mark_row-found.ensures.1,
       omega arith,
@@ -49,8 +49,8 @@ pub returns : goal.returns
 returns c =
     let a = c.args in
     let p = c.requires in
-    let s = put_mid a.a (a.b - a.a) a.words.now c.fill_words.new.dst in
-    let f = stored-filled 0 a.a a.b a.words.now c.fill_words.new.dst (omega arith) (omega arith) c.fill_words.ensures in
+    let s = put_mid a.a (a.b - a.a) a.words.now c.fill.new.dst in
+    let f = stored-filled 0 a.a a.b a.words.now c.fill.new.dst (omega arith) (omega arith) c.fill.ensures in
     let D : drop a.self.marks s ≡ drop a.self.marks a.words.now = within-drop f.within a.self.marks (omega arith) in
     let e : c.loop-y.y ≡ a.self.plane.sweep.inner = omega arith in
     let M = subst (λ k. Risen a.self.plane.sweep a.self.plane.ink.now a.self.run_min a.self.thick_max a.a a.b 0 k (drop a.self.marks s) (drop a.self.marks c.loop-y.words)) e c.loop-y.invariant.0 in
