@@ -2,14 +2,14 @@
 #![tactic(auto)]
 
 ghost use Rattle.std.specs.Prelude.{◌≡◌, ◌≤◌, length, take};
-ghost use Rattle.store.specs.rules.Answers.{answer_value};
+ghost use Rattle.memory.specs.rules.Refusals.{answer_value};
 ghost use Rattle.showing.specs.rules.Shows.{shown};
 ghost use Rattle.showing.specs.stages.Rooms.{longest_shown};
 
 use showing::read_full;
 use std::io;
 use std::io::{Read, Write};
-use store::Answer;
+use memory::Refusal;
 
 // Longer than any well made input, which has at most 121 bytes.
 const INPUT: usize = 4096;
@@ -32,13 +32,10 @@ fn drain<R: Read>(input: &mut R) -> io::Result<()> {
 }
 
 // The value of an answer.
-fn value_of(answer: Answer) -> u32
+fn value_of(answer: Result<u32, Refusal>) -> u32
     ensures { result ≡ answer_value answer }
 {
-    match answer {
-        Answer::Told(value) => value,
-        Answer::Refused(_) => 0,
-    }
+    answer.unwrap_or(0)
 }
 
 // What is printed for an input, in front of the bytes lent; how many bytes it is.

@@ -2,7 +2,7 @@
 ghost use Rattle.std.specs.Prelude.{◌≡◌, ◌≤◌, length};
 ghost use Rattle.params.specs.rules.ShowSheets.{show_sheet};
 ghost use Rattle.listing.specs.rules.Digits.{refusal_text};
-ghost use Rattle.store.specs.rules.Answers.{outcome_number, answer_number, answer_value};
+ghost use Rattle.memory.specs.rules.Refusals.{answer_number, answer_value};
 ghost use Rattle.store.specs.rules.Readings.Output.{words};
 ghost use Rattle.store.specs.rules.Outcomes.{told, left, level_left, segment_left};
 ghost use Rattle.showing.specs.rules.Inputs.{max_shown_side};
@@ -13,9 +13,9 @@ ghost use Rattle.showing.specs.stages.Texts.{text_told};
 
 use crate::input::{Page, parse_page};
 use listing::put_refusal;
-use memory::from_bits;
+use memory::{Refusal, from_bits};
 use params::LayoutParams;
-use store::{Answer, Handed, Outcome, level, segment, write_sheet};
+use store::{Handed, level, segment, write_sheet};
 
 // The most dots of a page and of its frame: a page of 16 by 16 under a slope of 1 is moved into 46 by 31.
 const PAGE_DOTS: usize = 256;
@@ -59,29 +59,24 @@ fn show_sheet() -> LayoutParams
 }
 
 // The line of a refusal over the front of the bytes lent.
-fn tell_refusal(number: u32, out: &mut [u8]) -> Answer
+fn tell_refusal(number: u32, out: &mut [u8]) -> Result<u32, Refusal>
     ensures { told (answer_number result) (answer_value result) (words out.new) ≡ text_told (refusal_text number) out.old }
 {
     if out.len() < REFUSAL {
-        return Answer::Refused(9);
+        return Err(Refusal::Lent);
     }
     put_refusal(out, number);
-    Answer::Told(REFUSAL as u32)
+    Ok(REFUSAL as u32)
 }
 
-// The number of a refusal, 0 where the call is done.
-fn number_of(outcome: Outcome) -> u32
-    ensures { result ≡ outcome_number outcome }
-{
-    match outcome {
-        Outcome::Done => 0,
-        Outcome::Refused(number) => number,
-    }
-}
-
-// The page levelled into the store and the ink plane: the number of a refusal, or 0.
-fn level_page(mask: &[u8], page: Page, store: &mut [u32], ink: &mut [u8]) -> u32
-    ensures { left result store.new ink.new ≡ level_left (page_shown mask.now page.width page.height page.skew page.slope) store.old ink.old }
+// The page levelled into the store and the ink plane.
+fn level_page(
+    mask: &[u8],
+    page: Page,
+    store: &mut [u32],
+    ink: &mut [u8],
+) -> Result<(), Refusal>
+    ensures { left (answer_number result) store.new ink.new ≡ level_left (page_shown mask.now page.width page.height page.skew page.slope) store.old ink.old }
 {
     let sheet = show_sheet();
     let handed = Handed {
@@ -91,17 +86,20 @@ fn level_page(mask: &[u8], page: Page, store: &mut [u32], ink: &mut [u8]) -> u32
         slope: from_bits(page.slope),
         capacity: CAPACITY,
     };
-    let done = level(mask, handed, sheet, store, ink);
-    number_of(done)
+    level(mask, handed, sheet, store, ink)
 }
 
-// The page in the store segmented: the number of a refusal, or 0.
-fn segment_page(store: &mut [u32], ink: &[u8], kinds: &mut [u8], scratch: &mut [u32]) -> u32
-    ensures { left result store.new kinds.new ≡ segment_left show_sheet store.old ink.now kinds.old (length scratch.old) }
+// The page in the store segmented.
+fn segment_page(
+    store: &mut [u32],
+    ink: &[u8],
+    kinds: &mut [u8],
+    scratch: &mut [u32],
+) -> Result<(), Refusal>
+    ensures { left (answer_number result) store.new kinds.new ≡ segment_left show_sheet store.old ink.now kinds.old (length scratch.old) }
 {
     let sheet = show_sheet();
-    let done = segment(sheet, store, ink, kinds, scratch);
-    number_of(done)
+    segment(sheet, store, ink, kinds, scratch)
 }
 
 // A page levelled, segmented and printed, in memory that is long enough for it.
@@ -113,24 +111,22 @@ fn show_leaf(
     kinds: &mut [u8],
     scratch: &mut [u32],
     out: &mut [u8],
-) -> Answer
+) -> Result<u32, Refusal>
     requires small { (page.width ≤ max_shown_side) × (page.height ≤ max_shown_side) }
     requires room { ShownRoom store.old ink.old kinds.old scratch.old }
     ensures { told (answer_number result) (answer_value result) (words out.new) ≡ text_told (leaf_text (page_shown mask.now page.width page.height page.skew page.slope)) out.old }
 {
-    let refused = level_page(mask, page, store, ink);
-    if refused != 0 {
-        return tell_refusal(refused, out);
+    if let Err(refused) = level_page(mask, page, store, ink) {
+        return tell_refusal(u32::from(refused), out);
     }
-    let crowded = segment_page(store, ink, kinds, scratch);
-    if crowded != 0 {
-        return tell_refusal(crowded, out);
+    if let Err(crowded) = segment_page(store, ink, kinds, scratch) {
+        return tell_refusal(u32::from(crowded), out);
     }
     write_sheet(store, ink, kinds, out)
 }
 
 // The same in memory of its own, empty at first.
-fn show_page(mask: &[u8], page: Page, out: &mut [u8]) -> Answer
+fn show_page(mask: &[u8], page: Page, out: &mut [u8]) -> Result<u32, Refusal>
     requires { (page.width ≤ max_shown_side) × (page.height ≤ max_shown_side) }
     ensures { told (answer_number result) (answer_value result) (words out.new) ≡ text_told (leaf_text (page_shown mask.now page.width page.height page.skew page.slope)) out.old }
 {
@@ -150,7 +146,7 @@ fn show_page(mask: &[u8], page: Page, out: &mut [u8]) -> Answer
 }
 
 // What is printed for an input, over the front of the bytes lent: how many bytes they are, or 9 where fewer are lent.
-pub fn show(input: &[u8], out: &mut [u8]) -> Answer
+pub fn show(input: &[u8], out: &mut [u8]) -> Result<u32, Refusal>
     ensures { told (answer_number result) (answer_value result) (words out.new) ≡ shown_to input.now out.old }
 {
     let mut mask = [0u8; PAGE_DOTS];

@@ -1,5 +1,5 @@
 use mathlib.Core.Path.{◌∙◌}
-use Rattle.store.specs.rules.Answers.{answer_number}
+use Rattle.memory.specs.rules.Refusals.{answer_number}
 use Rattle.store.specs.rules.Readings.Output.{words}
 use Rattle.store.specs.rules.Outcomes.{told}
 use Rattle.showing.proofs.ShortLaws.{printed-front}
