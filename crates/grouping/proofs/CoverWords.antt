@@ -45,9 +45,6 @@ module _ (lines : List ℕ) (n w h : ℕ) (v : Lines w h n lines) where
       let r = b.right in
       omega arith
 
-  pub end_below : (i : ℕ) → i < n → get_or lines (i * 8 + 2) 0 < w
-  end_below i l = (v.boxes i l).right
-
   -- the two tables one after the other
   steps : n ≤ 4294967295 → (s : List ℕ) → 2 * w ≤ length s → ((x : ℕ) → x < w → get_or s x 0 ≡ occurs x (fields 8 0 lines n))
       → ((x : ℕ) → x < w → get_or s (w + x) 0 ≡ occurs x (fields 8 2 lines n)) → CoverSteps w s (cover (line_boxes lines n))
@@ -87,12 +84,6 @@ module _ (lines : List ℕ) (n w h : ℕ) (v : Lines w h n lines) where
       (λ x k. ap (λ i. get_or (a ++ b) (i + x) 0) (sym la)
       ∙ (get_or-append-add a b x 0
       ∙ (ap (λ (t : List ℕ). get_or t x 0) eb ∙ over-at (λ z. occurs z (fields 8 2 lines n)) w (take (length (a ++ drop w s) - w) (drop w (a ++ drop w s))) x k))))
-
--- the tail has room for the second table
-pub tail-room : (w : ℕ) (s a : List ℕ) → 2 * w ≤ length s → length a ≡ length (take w s) → w ≤ length (take (length (a ++ drop w s) - w) (drop w (a ++ drop w s)))
-tail-room w s a room e =
-    rw (tail-part w (a ++ drop w s))
-    (let t = length-take w s in let d = length-drop w s in let p = length-append a (drop w s) in let u = length-drop w (a ++ drop w s) in omega arith)
 
 -- what the sums say of each frame column
 pub filled_at : (f : ℕ → ℕ) (w : ℕ) (s t : List ℕ) → s ≡ over (table f w) t → (x : ℕ) → x < w → get_or s x 0 ≡ f x

@@ -11,7 +11,6 @@ use borrow.Author.Tests.{eq-eqb, ne_eqb}
 use lib.ListN.{get_or, length, set, drop, length-set, get_or-append}
 use lib.Seq.{drop-set-lt, drop-drop, get_or-drop}
 use Rattle.memory.specs.rules.Lists.{table, count_if}
-use Rattle.memory.specs.rules.Words.{over}
 use Rattle.memory.proofs.TableLaws.{length-table, get_or-table}
 use Rattle.union_find.specs.rules.Classes.{first_of}
 use Rattle.union_find.specs.stages.Forests.{Forest}
@@ -20,7 +19,7 @@ use Rattle.grouping.specs.stages.Numbering.{NumberedOne, with_blocks}
 use Rattle.smoothing.specs.rules.LineRecords.{line_words}
 use Rattle.memory.proofs.PlaceLaws.{count_yes, count_no}
 use Rattle.grouping.proofs.CoverSums.{past}
-use Rattle.grouping.proofs.TableWords.{table_more, over-table}
+use Rattle.grouping.proofs.TableWords.{table_more}
 
 -- The words past line i stay
 
@@ -96,10 +95,6 @@ module _ (fs p₀ : List ℕ) (n : ℕ) (F : Forest (first_of fs) p₀ n) (low :
             count_is = q ∙ (W.count_is ∙ sym (ap (count_if (opens_block fs)) (add-one i) ∙ count_no (opens_block fs) i (opens-no i other)));
             words = stored (get_or p (get_or p i 0) 0) value s;
           }
-
-pub numbered-all : (fs p₀ p : List ℕ) (count i n : ℕ) → Numbered fs p₀ p count i → i ≡ n → (count ≡ count_if (opens_block fs) n) × (p ≡ over (table (block_number fs) n) p₀)
-numbered-all fs p₀ p count i n W e =
-    (W.count_is ∙ ap (count_if (opens_block fs)) e, W.words ∙ (ap (λ k. table (block_number fs) k ++ drop k p₀) e ∙ over-table (block_number fs) n p₀))
 
 -- The numbers in the lines' words
 

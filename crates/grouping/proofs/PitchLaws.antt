@@ -8,8 +8,8 @@ use native.Mathlib.Decide.{ℕ_discrete, dec_lt}
 use native.Mathlib.Omega.{arith}
 use native.Mathlib.Numerals.{add-one}
 use borrow.Author.Tests.{eq-eqb, ne_eqb}
-use lib.ListN.{get_or, length, set, take, length-take, length-append, length-set, get_or-eq_default}
-use lib.Seq.{take-suc, take-length, get_or-take, get_or-set_same, get_or-set_other}
+use lib.ListN.{get_or, length, take, length-take, length-append, get_or-eq_default}
+use lib.Seq.{take-suc, take-length, get_or-take}
 use lib.Dec.{eqb, leb}
 use Rattle.memory.specs.rules.Lists.{table, upto, keep, occurs, sort_by}
 use Rattle.sorting.specs.rules.Units.{median}
@@ -230,39 +230,6 @@ module _ (centre number : ℕ → ℕ) where
         go : Dec (last_centre centre number (number i) i ≡ 0) → Walked values blocks s' (found + r) (suc i)
         go (yes e) = first_more e
         go (no n) = later_more n
-
--- One line more, as the words have it
-
-module _ (values b c : ℕ) (s : List ℕ) (room : values + b < length s) (low : c + 1 < values) where
-  pub added-first : get_or s (values + b) 0 ≡ 0 → PitchAdded values b c s (set s (values + b) (c + 1)) 0
-  added-first e =
-      record {
-        len = length-set s (values + b) (c + 1);
-        last = get_or-set_same s (values + b) (c + 1) 0 room;
-        others = λ k l n. get_or-set_other s (values + b) k (c + 1) 0 n;
-        first = λ _. (refl, λ k l. get_or-set_other s (values + b) k (c + 1) 0 (λ q. omega arith));
-        later = λ n. absurd (n e);
-      }
-
-  pub added-later : (d : ℕ) → d ≡ c + 1 - get_or s (values + b) 0 → (get_or s (values + b) 0 ≡ 0 → ⊥)
-      → PitchAdded values b c s (set (set s (values + b) (c + 1)) d (get_or (set s (values + b) (c + 1)) d 0 + 1)) 1
-  added-later d ed n =
-      let t : List ℕ = set s (values + b) (c + 1) in
-      let v : ℕ = get_or t d 0 + 1 in
-      let ld : d < values = omega arith in
-      let lt : length t ≡ length s = length-set s (values + b) (c + 1) in
-      let old : get_or t d 0 ≡ get_or s d 0 = get_or-set_other s (values + b) d (c + 1) 0 (λ q. omega arith) in
-      record {
-        len = length-set t d v ∙ lt;
-        last = get_or-set_other t d (values + b) v 0 (λ q. omega arith) ∙ get_or-set_same s (values + b) (c + 1) 0 room;
-        others = λ k l m. get_or-set_other t d k v 0 (λ q. omega arith) ∙ get_or-set_other s (values + b) k (c + 1) 0 m;
-        first = λ e. absurd (n e);
-        later = λ _. (
-          refl,
-          subst (λ k. get_or (set t d v) k 0 ≡ get_or s k 0 + 1) ed (get_or-set_same t d v 0 (omega arith) ∙ ap (λ k. k + 1) old),
-          λ k l m. get_or-set_other t d k v 0 (λ q. m (q ∙ ed)) ∙ get_or-set_other s (values + b) k (c + 1) 0 (λ q. omega arith),
-        );
-      }
 
 -- The median of values below a bound
 

@@ -230,16 +230,6 @@ module _ {f : Frame} (v : Sheared f) where
   some-height : 0 < f.h
   some-height = let a = v.row_inside 0 0 v.one_way.some_column v.one_way.some_row in omega arith
 
-  -- places cut to the tables
-  pub row-place : (x a : ℕ) → x ≡ min a (f.h - 1) → x < length f.shear_x
-  row-place x a e = let l = cut_inside x a f.h some-height e in let b = v.rows in omega arith
-
-  pub column-place : (x a : ℕ) → x ≡ min a (f.page_w - 1) → x < length f.shear
-  column-place x a e = let l = cut_inside x a f.page_w v.one_way.some_column e in let b = v.shears in omega arith
-
-  pub some-sides : (0 < f.h) × (0 < f.page_w) × (0 < f.page_h) × (f.page_w ≤ length f.shear)
-  some-sides = (some-height, v.one_way.some_column, v.one_way.some_row, v.shears)
-
 pub short-same : (r : Rect) (x y : ℕ) {falls start f s : Bool} → falls ≡ f → start ≡ s → is_short r f s x y ≡ is_short r falls start x y
 short-same r x y ef es = λ i. is_short r (sym ef i) (sym es i) x y
 

@@ -1,9 +1,9 @@
 -- The summary, from the share that another function gave.
-use mathlib.Core.Path.{◌≡◌, refl, ap}
+use mathlib.Core.Path.{◌≡◌, refl}
 use Prim.Native.Nat.{ℕ, ◌*◌}
 use lib.Ieee.{Float, binary64, div, of_bits, of_int, round}
 use Rattle.rounding.specs.rules.Lengths.{float}
-use Rattle.grouping.specs.rules.Readings.{two, text_share, summarized}
+use Rattle.grouping.specs.rules.Readings.{two}
 use Rattle.grouping.specs.declared.summary.Summary.{Summary}
 use Rattle.grouping.specs.declared.summary.Totals.{Totals}
 
@@ -23,10 +23,6 @@ with_share xheight skew w h t pitch glyph_height share =
       median_line_pitch_xh = div binary64 (div binary64 (float pitch) two) xheight;
       median_glyph_height_xh = div binary64 (float glyph_height) xheight;
     }
-
-pub share-right : (xheight skew : Float) (w h : ℕ) (t : Totals) (pitch glyph_height : ℕ) (share : Float) → share ≡ text_share t.glyph_ink t.ink
-    → with_share xheight skew w h t pitch glyph_height share ≡ summarized xheight skew w h t pitch glyph_height
-share-right xheight skew w h t pitch glyph_height share e = ap (with_share xheight skew w h t pitch glyph_height) e
 
 pub two_is : two ≡ float 2
 unfolding of_bits of_int round

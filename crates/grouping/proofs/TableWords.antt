@@ -1,7 +1,7 @@
 -- Tables over the front of lent words: tables of counts with one more value counted, and a table with one more entry.
 use mathlib.Core.Path.{◌≡◌, refl, sym, ap, ◌∙◌}
-use mathlib.Core.List.{List, [], ◌∷◌, ◌++◌, append-nil}
-use borrow.Author.Tests.{lt-ltb, le-ltb}
+use mathlib.Core.List.{List, [], ◌∷◌, ◌++◌}
+use borrow.Author.Tests.{lt-ltb}
 use Prim.Native.Nat.{ℕ, ◌+◌, ◌-◌, ◌≤◌, ◌<◌}
 use native.Mathlib.Decide.{ℕ_discrete}
 use native.Mathlib.Omega.{arith}
@@ -84,9 +84,6 @@ pub below-counted : (l s t : List ℕ) (m v : ℕ) → v < m → t ≡ over (cou
     → (1 ≡ length (below m v)) × (set t v (get_or t v 0 + 1) ≡ over (counts (l ++ below m v) m) s)
 below-counted l s t m v h e =
     rw (lt-ltb v m h) (refl, ap (λ (z : List ℕ). set z v (get_or z v 0 + 1)) e ∙ counts-more l s m v h)
-
-pub below_left : (l s t : List ℕ) (m v : ℕ) → m ≤ v → t ≡ over (counts l m) s → (0 ≡ length (below m v)) × (t ≡ over (counts (l ++ below m v) m) s)
-below_left l s t m v h e = rw (le-ltb v m h) (refl, e ∙ ap (λ (z : List ℕ). over (counts z m) s) (sym (append-nil l)))
 
 -- no count is more than the values
 pub counted-few : (l s t : List ℕ) (m v : ℕ) → v < m → t ≡ over (counts l m) s → get_or t v 0 ≤ length l

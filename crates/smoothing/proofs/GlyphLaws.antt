@@ -64,9 +64,6 @@ module _ (sizes kinds numbers : ℕ) (s : List ℕ) where
                   ∙ ap (λ (l : List ℕ). over (encoded (glyph_record_at s sizes kinds numbers) l) out₀) (sym m)));
             }
 
-    pub glyphs-all : (count : ℕ) → k ≡ count → WrittenGlyphs sizes kinds count numbers s out₀ out n
-    glyphs-all count e = subst (λ z. WrittenGlyphs sizes kinds z numbers s out₀ out n) e w
-
 -- Sums
 
 pub total-snoc : (l : List ℕ) (a : ℕ) → total (l ++ (a ∷ [])) ≡ total l + a

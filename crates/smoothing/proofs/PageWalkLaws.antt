@@ -9,7 +9,6 @@ use native.Mathlib.Omega.{arith}
 use borrow.Author.Tests.{eq-eqb, ne_eqb}
 use lib.ListN.{get_or, length, take, drop, set, length-drop}
 use lib.Seq.{get_or-take, get_or-drop, length-take-le}
-use Rattle.memory.proofs.PlaneLaws.{row-end}
 use lib.Dec.{ltb, leb}
 use Rattle.sorting.specs.rules.Kinds.{glyph_kind}
 use Rattle.smoothing.specs.stages.RowRuns.{SmoothRoom, SmoothingInput, start_at, end_at, number_at, glyph_of, RowWalk, PageWalk, row_start, RowEnd, RowOf, kind_of, RowParts, RunOfGlyph, GlyphAt, RunAdded}
@@ -18,7 +17,7 @@ use Rattle.smoothing.specs.declared.smooth.Walk.{Walk}
 use Rattle.smoothing.specs.declared.smooth.GlyphRun.{GlyphRun}
 use Rattle.smoothing.proofs.RowWordLaws.{read-start, read-end, read_number, read-kind, number-range, glyph-kind}
 use Rattle.smoothing.proofs.RowRunLaws.{dots-few, runs-few}
-use Rattle.smoothing.proofs.RowStepLaws.{Added, last-before, step_other, add-room, some-run, step_run, mark-room, step-mark, walk_none, walk-row}
+use Rattle.smoothing.proofs.RowStepLaws.{Added, step_other, add-room, some-run, step_run, mark-room, step-mark, walk_none, walk-row}
 
 -- a part of the words, from a to e
 abbrev pub part_of : List ℕ → ℕ → ℕ → List ℕ
@@ -148,9 +147,6 @@ module _ {g : SmoothingInput} {s : List ℕ} {places : Places} {gap y : ℕ} {wa
 -- The walk with a glyph run
 
 module _ {g : SmoothingInput} {s : List ℕ} {places : Places} {gap y : ℕ} {walk : Walk} {run : GlyphRun} (W : PageWalk g s places gap y walk) (A : GlyphAt g y walk.passed run) where
-  pub last-low : walk.last ≤ run.start
-  last-low = let a = last-before g W.walked A.within in let e = A.start in omega arith
-
   -- the test that joins, by what is read
   joins-is : (t : Bool) → t ≡ (ltb 0 walk.last && leb (run.start - walk.last) gap) → t ≡ (ltb 0 walk.last && leb (start_at g walk.passed - walk.last) g.gap)
   joins-is t e = e ∙ (λ i. ltb 0 walk.last && leb (A.start i - walk.last) (W.gap_is i))
@@ -212,10 +208,6 @@ places_of c kinds firsts = record { numbers = 2 * c; smoothed = 3 * c; kinds = k
 -- its runs are few
 pub page-few : (g : SmoothingInput) → g.c ≤ 402595842
 page-few g = let a = runs-few g in let b = dots-few g in omega arith
-
--- a row of a page ends within few dots
-pub row-few : (g : SmoothingInput) (y : ℕ) → y < g.h → y * g.w + g.w ≤ 402595842
-row-few g y l = let a = row-end g.w g.h y l in let b = dots-few g in omega arith
 
 pub page-start : (g : SmoothingInput) → PageWalk g g.words (places_of g.c g.kinds g.firsts) g.gap 0 (record { passed = 0; smoothed = 0; newest = 0; last = 0 })
 page-start g = record { gap_is = refl; numbers_is = refl; smoothed_is = refl; kinds_is = refl; firsts_is = refl; walked = walk_none g }
