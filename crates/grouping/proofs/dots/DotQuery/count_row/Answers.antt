@@ -1,4 +1,4 @@
-use Rattle.labelling.proofs.MarkedLaws.{byte-bit}
+use Rattle.labelling.proofs.ExtractLaws.{byte-bit}
 use Prim.Native.Nat.{◌+◌, ◌*◌}
 use mathlib.Core.Path.{ap, ◌∙◌}
 use mathlib.Core.Bool.{Bool, cond}
