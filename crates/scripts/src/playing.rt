@@ -270,21 +270,16 @@ fn perform(
 ) -> Logged
     ensures { Did floats.now bytes.now (length scratch.old) call.now (memory (world store.old ink.old kinds.old) (outputs words.old gray.old integers.old numbers.old)) result.number result.value (memory (world store.new ink.new kinds.new) (outputs words.new gray.new integers.new numbers.new)) }
 {
-    let op = word_at(call, OP);
-    if op == LEVEL {
-        return log_outcome(level_call(call, floats, bytes, store, ink));
-    }
-    if op == SEGMENT {
-        return log_outcome(segment_call(call, floats, store, ink, kinds, scratch));
-    }
     let n = cut(call, STORE, store.len());
-    if (op >= TO_PAGE) & (op <= FRAME) {
-        return log_outcome(read_level(call, bytes, &store[..n], words, gray, integers));
+    match word_at(call, OP) {
+        LEVEL => log_outcome(level_call(call, floats, bytes, store, ink)),
+        SEGMENT => log_outcome(segment_call(call, floats, store, ink, kinds, scratch)),
+        TO_PAGE..=FRAME => {
+            log_outcome(read_level(call, bytes, &store[..n], words, gray, integers))
+        }
+        FIGURES..=SHEET => read_planes(call, &store[..n], ink, kinds, words, gray, numbers),
+        _ => log_outcome(clear(&mut store[..n])),
     }
-    if (op >= FIGURES) & (op <= SHEET) {
-        return read_planes(call, &store[..n], ink, kinds, words, gray, numbers);
-    }
-    log_outcome(clear(&mut store[..n]))
 }
 
 // Call i of the script.
