@@ -154,23 +154,26 @@ fn read_level(
 ) -> Outcome
     ensures { (ns : List Float) → Filled (fills_bytes (Act.read_level (level_reading call.now bytes.now (outputs words.old gray.old integers.old ns)))) (level_told (level_reading call.now bytes.now (outputs words.old gray.old integers.old ns)) store.now) (outcome_number result) 0 (outputs words.old gray.old integers.old ns) (outputs words.new gray.new integers.new ns) }
 {
-    let op = word_at(call, OP);
-    if op == TO_PAGE {
-        let n = cut(call, OUT, integers.len());
-        let x = word_at(call, LEFT);
-        let y = word_at(call, TOP);
-        return to_page(store, x, y, &mut integers[..n]);
+    match word_at(call, OP) {
+        TO_PAGE => {
+            let n = cut(call, OUT, integers.len());
+            let x = word_at(call, LEFT);
+            let y = word_at(call, TOP);
+            to_page(store, x, y, &mut integers[..n])
+        }
+        RECT_TO_PAGE => {
+            let n = cut(call, OUT, integers.len());
+            rect_to_page(store, box_from(call), &mut integers[..n])
+        }
+        LEVEL_GRAY => {
+            let n = cut(call, OUT, gray.len());
+            level_gray(store, bytes_of(call, bytes), &mut gray[..n])
+        }
+        _ => {
+            let n = cut(call, OUT, words.len());
+            read_frame(store, &mut words[..n])
+        }
     }
-    if op == RECT_TO_PAGE {
-        let n = cut(call, OUT, integers.len());
-        return rect_to_page(store, box_from(call), &mut integers[..n]);
-    }
-    if op == LEVEL_GRAY {
-        let n = cut(call, OUT, gray.len());
-        return level_gray(store, bytes_of(call, bytes), &mut gray[..n]);
-    }
-    let n = cut(call, OUT, words.len());
-    read_frame(store, &mut words[..n])
 }
 
 // The list that a call's first word names.
@@ -191,15 +194,14 @@ fn read_list(op: u32, store: &[u32], ink: &[u8], kinds: &[u8], out: &mut [u32]) 
 fn read_words(call: &[u32], store: &[u32], ink: &[u8], kinds: &[u8], out: &mut [u32]) -> Logged
     ensures { told result.number result.value (words out.new) ≡ result_told (words_reading call.now out.old) store.now ink.now kinds.now }
 {
-    let op = word_at(call, OP);
-    if op == FIGURES {
-        return log_outcome(read_figures(store, ink, kinds, out));
+    match word_at(call, OP) {
+        FIGURES => log_outcome(read_figures(store, ink, kinds, out)),
+        READ_DOTS => {
+            let kind = word_at(call, KIND);
+            log_answer(read_dots(store, ink, kinds, kind, box_from(call), out))
+        }
+        op => log_answer(read_list(op, store, ink, kinds, out)),
     }
-    if op == READ_DOTS {
-        let kind = word_at(call, KIND);
-        return log_answer(read_dots(store, ink, kinds, kind, box_from(call), out));
-    }
-    log_answer(read_list(op, store, ink, kinds, out))
 }
 
 // A reading of results, over the front of its output; store and planes are the parts that it is lent.
@@ -214,24 +216,25 @@ fn read_results(
 ) -> Logged
     ensures { (is : List ℤ) → Filled (fills_bytes (Act.read_result (result_reading call.now (outputs words.old gray.old is numbers.old)))) (result_told (result_reading call.now (outputs words.old gray.old is numbers.old)) store.now ink.now kinds.now) result.number result.value (outputs words.old gray.old is numbers.old) (outputs words.new gray.new is numbers.new) }
 {
-    let op = word_at(call, OP);
-    if op == SUMMARY {
-        let n = cut(call, OUT, numbers.len());
-        return log_outcome(read_summary(store, ink, kinds, &mut numbers[..n]));
+    match word_at(call, OP) {
+        SUMMARY => {
+            let n = cut(call, OUT, numbers.len());
+            log_outcome(read_summary(store, ink, kinds, &mut numbers[..n]))
+        }
+        TWENTY_LINES => log_answer(twenty_line_measure(store, ink, kinds)),
+        COUNT_DOTS => {
+            let kind = word_at(call, KIND);
+            log_answer(count_dots(store, ink, kinds, kind, box_from(call)))
+        }
+        SHEET => {
+            let n = cut(call, OUT, gray.len());
+            log_answer(write_sheet(store, ink, kinds, &mut gray[..n]))
+        }
+        _ => {
+            let n = cut(call, OUT, words.len());
+            read_words(call, store, ink, kinds, &mut words[..n])
+        }
     }
-    if op == TWENTY_LINES {
-        return log_answer(twenty_line_measure(store, ink, kinds));
-    }
-    if op == COUNT_DOTS {
-        let kind = word_at(call, KIND);
-        return log_answer(count_dots(store, ink, kinds, kind, box_from(call)));
-    }
-    if op == SHEET {
-        let n = cut(call, OUT, gray.len());
-        return log_answer(write_sheet(store, ink, kinds, &mut gray[..n]));
-    }
-    let n = cut(call, OUT, words.len());
-    read_words(call, store, ink, kinds, &mut words[..n])
 }
 
 // The same on the parts of the planes that the call is lent.
@@ -267,21 +270,16 @@ fn perform(
 ) -> Logged
     ensures { Did floats.now bytes.now (length scratch.old) call.now (memory (world store.old ink.old kinds.old) (outputs words.old gray.old integers.old numbers.old)) result.number result.value (memory (world store.new ink.new kinds.new) (outputs words.new gray.new integers.new numbers.new)) }
 {
-    let op = word_at(call, OP);
-    if op == LEVEL {
-        return log_outcome(level_call(call, floats, bytes, store, ink));
-    }
-    if op == SEGMENT {
-        return log_outcome(segment_call(call, floats, store, ink, kinds, scratch));
-    }
     let n = cut(call, STORE, store.len());
-    if (op >= TO_PAGE) & (op <= FRAME) {
-        return log_outcome(read_level(call, bytes, &store[..n], words, gray, integers));
+    match word_at(call, OP) {
+        LEVEL => log_outcome(level_call(call, floats, bytes, store, ink)),
+        SEGMENT => log_outcome(segment_call(call, floats, store, ink, kinds, scratch)),
+        TO_PAGE..=FRAME => {
+            log_outcome(read_level(call, bytes, &store[..n], words, gray, integers))
+        }
+        FIGURES..=SHEET => read_planes(call, &store[..n], ink, kinds, words, gray, numbers),
+        _ => log_outcome(clear(&mut store[..n])),
     }
-    if (op >= FIGURES) & (op <= SHEET) {
-        return read_planes(call, &store[..n], ink, kinds, words, gray, numbers);
-    }
-    log_outcome(clear(&mut store[..n]))
 }
 
 // Call i of the script.

@@ -1,11 +1,5 @@
-use Rattle.scripts.proofs.ScriptLaws.{part-long, level-called}
+use Rattle.scripts.proofs.ScriptLaws.{level-called}
 use Rattle.scripts.proofs.playing.level_call.Goals as goal
-
-pub slice_bounds-level-end-2 : goal.slice_bounds-level-end-2
-slice_bounds-level-end-2 c = part-long _ _ c.args.store.now c.cut-n.ensures
-
-pub slice_bounds-level-end-4 : goal.slice_bounds-level-end-4
-slice_bounds-level-end-4 c = part-long _ _ c.args.ink.now c.cut-m.ensures
 
 pub returns : goal.returns
 returns c =

@@ -1,34 +1,23 @@
-use Rattle.scripts.proofs.ScriptLaws.{part-long, read-point, read-box, read-gray, read-frame}
+use native.Mathlib.Omega.{arith}
+use Rattle.scripts.proofs.ScriptLaws.{read-point, read-box, read-gray, read-frame}
 use Rattle.scripts.proofs.playing.read_level.Goals as goal
 
-pub slice_bounds-to_page-end-then-op-eq-TO_PAGE : goal.slice_bounds-to_page-end-then-op-eq-TO_PAGE
-slice_bounds-to_page-end-then-op-eq-TO_PAGE c = part-long _ _ c.args.integers.now c.cut-n.ensures
-
-pub returns-then-op-eq-TO_PAGE : goal.returns-then-op-eq-TO_PAGE
-returns-then-op-eq-TO_PAGE c =
+pub returns-in-3 : goal.returns-in-3
+returns-in-3 c =
     let a = c.args in
-    read-point a.call.now a.bytes.now a.store.now a.words.now a.gray.now a.integers.now c.word_at-op.ensures c.if-op-eq-TO_PAGE.true c.cut-n.ensures c.word_at-x.ensures c.word_at-y.ensures c.to_page.ensures c.to_page.auto.point
+    read-point a.call.now a.bytes.now a.store.now a.words.now a.gray.now a.integers.now c.word_at.ensures (omega arith) c.cut-n.ensures c.word_at-x.ensures c.word_at-y.ensures c.to_page.ensures c.to_page.auto.point
 
-pub slice_bounds-rect_to_page-end-then-op-eq-RECT_TO_PAGE : goal.slice_bounds-rect_to_page-end-then-op-eq-RECT_TO_PAGE
-slice_bounds-rect_to_page-end-then-op-eq-RECT_TO_PAGE c = part-long _ _ c.args.integers.now c.cut-n-then-op-eq-RECT_TO_PAGE.ensures
-
-pub returns-then-op-eq-RECT_TO_PAGE : goal.returns-then-op-eq-RECT_TO_PAGE
-returns-then-op-eq-RECT_TO_PAGE c =
+pub returns-in-4 : goal.returns-in-4
+returns-in-4 c =
     let a = c.args in
-    read-box a.call.now a.bytes.now a.store.now a.words.now a.gray.now a.integers.now c.word_at-op.ensures c.if-op-eq-TO_PAGE.false c.if-op-eq-RECT_TO_PAGE.true c.cut-n-then-op-eq-RECT_TO_PAGE.ensures c.box_from.ensures c.rect_to_page.ensures c.rect_to_page.auto.rect
+    read-box a.call.now a.bytes.now a.store.now a.words.now a.gray.now a.integers.now c.word_at.ensures (omega arith) (omega arith) c.cut-n-in-4.ensures c.box_from.ensures c.rect_to_page.ensures c.rect_to_page.auto.rect
 
-pub slice_bounds-level_gray-end-then-op-eq-LEVEL_GRAY : goal.slice_bounds-level_gray-end-then-op-eq-LEVEL_GRAY
-slice_bounds-level_gray-end-then-op-eq-LEVEL_GRAY c = part-long _ _ c.args.gray.now c.cut-n-then-op-eq-LEVEL_GRAY.ensures
-
-pub returns-then-op-eq-LEVEL_GRAY : goal.returns-then-op-eq-LEVEL_GRAY
-returns-then-op-eq-LEVEL_GRAY c =
+pub returns-in-5 : goal.returns-in-5
+returns-in-5 c =
     let a = c.args in
-    read-gray a.call.now a.bytes.now a.store.now a.words.now a.gray.now a.integers.now c.word_at-op.ensures c.if-op-eq-TO_PAGE.false c.if-op-eq-RECT_TO_PAGE.false c.if-op-eq-LEVEL_GRAY.true c.cut-n-then-op-eq-LEVEL_GRAY.ensures c.bytes_of.ensures c.level_gray.ensures c.level_gray.auto.out
+    read-gray a.call.now a.bytes.now a.store.now a.words.now a.gray.now a.integers.now c.word_at.ensures (omega arith) (omega arith) (omega arith) c.cut-n-in-5.ensures c.bytes_of.ensures c.level_gray.ensures c.level_gray.auto.out
 
-pub slice_bounds-read_frame-end-2 : goal.slice_bounds-read_frame-end-2
-slice_bounds-read_frame-end-2 c = part-long _ _ c.args.words.now c.cut-n-2.ensures
-
-pub returns : goal.returns
-returns c =
+pub returns-in_default : goal.returns-in_default
+returns-in_default c =
     let a = c.args in
-    read-frame a.call.now a.bytes.now a.store.now a.words.now a.gray.now a.integers.now c.word_at-op.ensures c.if-op-eq-TO_PAGE.false c.if-op-eq-RECT_TO_PAGE.false c.if-op-eq-LEVEL_GRAY.false c.cut-n-2.ensures c.read_frame.ensures c.read_frame.auto.out
+    read-frame a.call.now a.bytes.now a.store.now a.words.now a.gray.now a.integers.now c.word_at.ensures (omega arith) (omega arith) (omega arith) c.cut-n-in_default.ensures c.read_frame.ensures c.read_frame.auto.out
