@@ -121,7 +121,7 @@ fn own_parents(parents: &mut [u32], n: usize)
 }
 
 // The text lines of a frame h high: n records at the front of the words, which go by y0.
-#[derive(Clone, Copy)]
+#[derive(Clone, Copy, Debug, PartialEq)]
 struct TextLines<'a> {
     words: &'a [u32],
     n: usize,

@@ -11,7 +11,7 @@ use levelling::Sides;
 use memory::Rect;
 
 // The dots asked for: those of one kind inside a frame box, with the kinds of all frame dots.
-#[derive(Clone, Copy)]
+#[derive(Clone, Copy, Debug, PartialEq, Eq)]
 struct DotQuery<'a> {
     page: Page<'a>,
     kinds: &'a [u8],

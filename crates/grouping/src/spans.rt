@@ -14,7 +14,7 @@ pub struct Span {
 }
 
 // A page over its frame: the two shears, which lead each page dot to its frame point, and the sides of both.
-#[derive(Clone, Copy)]
+#[derive(Clone, Copy, Debug, PartialEq, Eq)]
 pub struct Page<'a> {
     pub shear: &'a [u32],
     pub shear_x: &'a [u32],
@@ -29,7 +29,7 @@ pub struct Point {
 }
 
 // An end of a box on the way of a page row, which goes up where the shear falls: where the box starts, or where it ends.
-#[derive(Clone, Copy)]
+#[derive(Clone, Copy, Debug, PartialEq, Eq)]
 struct BoxEnd {
     r: Rect,
     falls: bool,

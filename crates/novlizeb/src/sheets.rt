@@ -4,10 +4,10 @@ ghost use Rattle.params.specs.rules.Sheets.{sheet_of};
 
 use params::LayoutParams;
 
-#[derive(Clone, Copy)]
+#[derive(Clone, Copy, Debug, PartialEq, Eq)]
 pub struct Counts(pub u32, pub u32, pub u32);
 
-#[derive(Clone, Copy)]
+#[derive(Clone, Copy, Debug, PartialEq)]
 pub struct Lengths(pub f64, pub f64, pub f64);
 
 // The counts, by area of a glyph, area for the x-height, glyphs of a line; then lengths: the greatest extent, the fallback x-height and the

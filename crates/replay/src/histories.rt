@@ -123,7 +123,7 @@ fn hash_floats(floats: &[f64]) -> u64 {
 }
 
 // A script with its floats and its bytes.
-#[derive(Clone, Copy)]
+#[derive(Clone, Copy, Debug, PartialEq)]
 struct Script<'a> {
     calls: &'a [u32],
     floats: &'a [f64],

@@ -1,7 +1,7 @@
 // A script of calls, played on one store, its planes and four outputs: what each word of a call means is in specs/rules/Scripts.
 ghost use Rattle.std.specs.Prelude.{◌≡◌, List, ℕ, ◌+◌, ◌*◌, ◌≤◌, min, ℤ, Float, length};
 ghost use Rattle.memory.specs.rules.Words.{word_at};
-ghost use Rattle.store.specs.rules.Answers.{outcome_number, answer_number, answer_value};
+ghost use Rattle.memory.specs.rules.Refusals.{answer_number, answer_value};
 ghost use Rattle.store.specs.rules.Readings.{ResultReading};
 ghost use Rattle.store.specs.rules.Readings.Output.{words};
 ghost use Rattle.store.specs.rules.Outcomes.{left, level_left, segment_left, told, level_told, result_told};
@@ -14,9 +14,9 @@ use crate::words::{
     CALL_WORDS, CAPACITY, HEIGHT, INK, KIND, KINDS, LEFT, OP, OUT, SCRATCH, STORE, TOP, TURNS,
     WIDTH,
 };
-use memory::word_at;
+use memory::{Refusal, number_of, word_at};
 use store::{
-    Answer, Handed, Outcome, clear, count_dots, level, level_gray, read_blocks, read_columns,
+    Handed, clear, count_dots, level, level_gray, read_blocks, read_columns,
     read_dots, read_figures, read_frame, read_glyphs, read_graphics, read_lines, read_rules,
     read_summary, rect_to_page, segment, to_page, twenty_line_measure, write_sheet,
 };
@@ -66,25 +66,25 @@ struct Logged {
 }
 
 // Of a call that gives no value.
-fn log_outcome(o: Outcome) -> Logged
-    ensures { (result.number ≡ outcome_number o) × (result.value ≡ 0) }
+fn log_outcome(o: Result<(), Refusal>) -> Logged
+    ensures { (result.number ≡ answer_number o) × (result.value ≡ 0) }
 {
-    match o {
-        Outcome::Done => Logged {
-            number: 0,
-            value: 0,
-        },
-        Outcome::Refused(number) => Logged { number, value: 0 },
+    Logged {
+        number: number_of(o),
+        value: 0,
     }
 }
 
 // Of a call that gives a value.
-fn log_answer(a: Answer) -> Logged
+fn log_answer(a: Result<u32, Refusal>) -> Logged
     ensures { (result.number ≡ answer_number a) × (result.value ≡ answer_value a) }
 {
     match a {
-        Answer::Told(value) => Logged { number: 0, value },
-        Answer::Refused(number) => Logged { number, value: 0 },
+        Ok(value) => Logged { number: 0, value },
+        Err(refusal) => Logged {
+            number: u32::from(refusal),
+            value: 0,
+        },
     }
 }
 
@@ -95,8 +95,8 @@ fn level_call(
     bytes: &[u8],
     store: &mut [u32],
     ink: &mut [u8],
-) -> Outcome
-    ensures { left (outcome_number result) store.new ink.new ≡ left_back (level_left (leaf_from call.now floats.now bytes.now) (lent_of call.now store_at store.old) (lent_of call.now ink_at ink.old)) store.old ink.old }
+) -> Result<(), Refusal>
+    ensures { left (answer_number result) store.new ink.new ≡ left_back (level_left (leaf_from call.now floats.now bytes.now) (lent_of call.now store_at store.old) (lent_of call.now ink_at ink.old)) store.old ink.old }
 {
     let n = cut(call, STORE, store.len());
     let m = cut(call, INK, ink.len());
@@ -126,8 +126,8 @@ fn segment_call(
     ink: &[u8],
     kinds: &mut [u8],
     scratch: &mut [u32],
-) -> Outcome
-    ensures { left (outcome_number result) store.new kinds.new ≡ left_back (segment_left (sheet_from call.now floats.now) (lent_of call.now store_at store.old) (lent_of call.now ink_at ink.now) (lent_of call.now kinds_at kinds.old) (min (word_at call.now scratch_at) (length scratch.old))) store.old kinds.old }
+) -> Result<(), Refusal>
+    ensures { left (answer_number result) store.new kinds.new ≡ left_back (segment_left (sheet_from call.now floats.now) (lent_of call.now store_at store.old) (lent_of call.now ink_at ink.now) (lent_of call.now kinds_at kinds.old) (min (word_at call.now scratch_at) (length scratch.old))) store.old kinds.old }
 {
     let n = cut(call, STORE, store.len());
     let m = cut(call, INK, ink.len());
@@ -151,8 +151,8 @@ fn read_level(
     words: &mut [u32],
     gray: &mut [u8],
     integers: &mut [i32],
-) -> Outcome
-    ensures { (ns : List Float) → Filled (fills_bytes (Act.read_level (level_reading call.now bytes.now (outputs words.old gray.old integers.old ns)))) (level_told (level_reading call.now bytes.now (outputs words.old gray.old integers.old ns)) store.now) (outcome_number result) 0 (outputs words.old gray.old integers.old ns) (outputs words.new gray.new integers.new ns) }
+) -> Result<(), Refusal>
+    ensures { (ns : List Float) → Filled (fills_bytes (Act.read_level (level_reading call.now bytes.now (outputs words.old gray.old integers.old ns)))) (level_told (level_reading call.now bytes.now (outputs words.old gray.old integers.old ns)) store.now) (answer_number result) 0 (outputs words.old gray.old integers.old ns) (outputs words.new gray.new integers.new ns) }
 {
     match word_at(call, OP) {
         TO_PAGE => {
@@ -177,7 +177,7 @@ fn read_level(
 }
 
 // The list that a call's first word names.
-fn read_list(op: u32, store: &[u32], ink: &[u8], kinds: &[u8], out: &mut [u32]) -> Answer
+fn read_list(op: u32, store: &[u32], ink: &[u8], kinds: &[u8], out: &mut [u32]) -> Result<u32, Refusal>
     ensures { told (answer_number result) (answer_value result) (words out.new) ≡ result_told (ResultReading.list (list_named op) out.old) store.now ink.now kinds.now }
 {
     match op {

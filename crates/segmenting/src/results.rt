@@ -17,7 +17,7 @@ use smoothing::Smears;
 use sorting::{GLYPH, GRAPHIC, Plan, RULE, SPECK, SortCounts, Unit};
 
 // What is told of a segmentation besides its lists: the unit, how long each list is, the dots of ink and of each kind.
-#[derive(Clone, Copy)]
+#[derive(Clone, Copy, Debug, PartialEq)]
 pub struct Segmentation {
     pub unit: Unit,
     pub rules: u32,

@@ -70,7 +70,7 @@ pub fn kind_by_size(
 }
 
 // What a component is held against: the thresholds, the unit that they are multiples of, and the sides of the frame.
-#[derive(Clone, Copy)]
+#[derive(Clone, Copy, Debug, PartialEq)]
 struct Scale {
     sheet: LayoutParams,
     unit: f64,

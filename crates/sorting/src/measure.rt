@@ -76,7 +76,7 @@ pub fn measure_unit(
 }
 
 // Counts by height from word `at` on, for a frame w wide and h high: how many components of each height count for the unit.
-#[derive(Clone, Copy)]
+#[derive(Clone, Copy, Debug, PartialEq)]
 struct Heights {
     at: usize,
     sheet: LayoutParams,

@@ -25,7 +25,7 @@ pub fn judge_plane(ink: &[u8], width: u32, height: u32) -> Result<(), Refusal>
 }
 
 // How long what is lent is.
-#[derive(Clone, Copy)]
+#[derive(Clone, Copy, Debug, PartialEq, Eq)]
 struct Lent {
     words: usize,
     results: usize,

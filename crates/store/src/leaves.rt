@@ -18,7 +18,7 @@ use memory::{Refusal, bits_of, copy_over};
 use params::LayoutParams;
 
 // What levelling is handed beside mask and sheet (01, part 3).
-#[derive(Clone, Copy)]
+#[derive(Clone, Copy, Debug, PartialEq)]
 pub struct Handed {
     pub width: u32,
     pub height: u32,
@@ -42,7 +42,7 @@ impl Handed {
 }
 
 // What the store's head says of a levelled leaf: the sides of page and frame, the capacity, the applied skew and slope.
-#[derive(Clone, Copy)]
+#[derive(Clone, Copy, Debug, PartialEq)]
 struct Head {
     page_w: u32,
     page_h: u32,
