@@ -2,8 +2,8 @@
 ghost use Rattle.std.specs.Prelude.{◌<◌};
 
 use crate::text;
-use extents::{Along, ExtentsAnswer};
-use labelling::LabelAnswer;
+use extents::Along;
+use memory::{Refusal, word_of};
 
 // The most dots of a mask.
 const MOST_DOTS: usize = 5120;
@@ -101,9 +101,9 @@ pub fn ends_with(body: &[u8], answers: &[u64]) -> bool {
 }
 
 // Whether the answer and what was lent for it are as the last three words have them.
-fn is_answered(body: &[u8], answer: LabelAnswer, labels: &[u32], components: &[u32]) -> bool {
+fn is_answered(body: &[u8], answer: Result<u32, Refusal>, labels: &[u32], components: &[u32]) -> bool {
     match answer {
-        LabelAnswer::Labelled(count) => ends_with(
+        Ok(count) => ends_with(
             body,
             &[
                 count as u64,
@@ -111,7 +111,7 @@ fn is_answered(body: &[u8], answer: LabelAnswer, labels: &[u32], components: &[u
                 hash_of(components, RECORD * count as usize),
             ],
         ),
-        LabelAnswer::Refused(number) => ends_with(body, &[number as u64 * 4294967296, 0, 0]),
+        Err(_) => ends_with(body, &[word_of(answer), 0, 0]),
     }
 }
 
@@ -174,8 +174,8 @@ fn extents_of_mask(
     read_mask(&body[MASK_FROM..], mask);
     let answer = extents::run_extents(mask, size.width, size.height, along, extents);
     match answer {
-        ExtentsAnswer::Done => hash(extents) == text::word(body, words - 1),
-        ExtentsAnswer::Refused(_) => false,
+        Ok(()) => hash(extents) == text::word(body, words - 1),
+        Err(_) => false,
     }
 }
 
@@ -218,8 +218,8 @@ fn extents_of_run(body: &[u8], size: Size, ink: &[u8], extents: &mut [u32]) -> b
     let along = along_of(text::whole(body, 2));
     let answer = extents::run_extents(ink, size.width, size.height, along, extents);
     match answer {
-        ExtentsAnswer::Done => are_all(extents, text::whole(body, 3)),
-        ExtentsAnswer::Refused(_) => false,
+        Ok(()) => are_all(extents, text::whole(body, 3)),
+        Err(_) => false,
     }
 }
 

@@ -1,6 +1,6 @@
 // The kind of case that is the show program: an input, and what is printed for it.
 use crate::text::{behind, half, number};
-use store::Answer;
+use memory::Refusal;
 
 // The numbers before the bytes: how many the input has, and how many are printed.
 const HEAD: usize = 2;
@@ -48,10 +48,10 @@ fn is_left(digits: &[u8], printed: usize, out: &[u8]) -> bool {
 }
 
 // Whether so many bytes are told as printed.
-fn is_told(answer: Answer, printed: usize) -> bool {
+fn is_told(answer: Result<u32, Refusal>, printed: usize) -> bool {
     match answer {
-        Answer::Told(bytes) => bytes as usize == printed,
-        Answer::Refused(_) => false,
+        Ok(bytes) => bytes as usize == printed,
+        Err(_) => false,
     }
 }
 
