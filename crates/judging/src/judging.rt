@@ -11,9 +11,7 @@ ghost use Rattle.judging.specs.rules.Refusals.{leaf_refusal, place_refusal, head
 use crate::words::{
     CAPACITY, EMPTY, HEADER, PAGE_HEIGHT, PAGE_WIDTH, SEGMENTED, SKEW, SLOPE, STATE,
 };
-use memory::{
-    MAX_CAPACITY, MAX_PAGE_SIDE, Refusal, area, float_at, is_mask, store_words, word_at,
-};
+use memory::{MAX_CAPACITY, MAX_PAGE_SIDE, Refusal, area, float_at, is_mask, store_words, word_at};
 use params::LayoutParams;
 
 fn side_ok(n: u32) -> bool

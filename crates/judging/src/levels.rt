@@ -31,13 +31,7 @@ pub fn frame_held(store: &[u32]) -> FrameSize
 }
 
 // What follows the header, by that frame: 9 for the store, 9, 16 for frame and shears, 8.
-pub fn judge_frame(
-    store: &[u32],
-    w: u32,
-    h: u32,
-    lacking: bool,
-    bad: bool,
-) -> Result<(), Refusal>
+pub fn judge_frame(store: &[u32], w: u32, h: u32, lacking: bool, bad: bool) -> Result<(), Refusal>
     requires { (header_words ≤ length store.now) × (limits_ok (held store.now) ≡ true) × (w ≡ (frame_held (held store.now)).w) × (h ≡ (frame_held (held store.now)).h) × (w ≤ max_frame_width) × (h ≤ max_frame_height) }
     ensures { answer_number result ≡ frame_judged store.now lacking bad }
 {

@@ -74,7 +74,10 @@ fn fields_marked(words: &[u32], r: Records, field: usize, limit: u32) -> bool
     requires { (r.at + r.n * r.width ≤ length words.now) × (field < r.width) }
     ensures { result ≡ fields_ok (λ v. eqb v no_line || ltb v limit) r.width field (part r.at (r.n * r.width) words.now) r.n }
 {
-    each_ok(r, |p| (words[p + field] == NO_LINE) | (words[p + field] < limit))
+    each_ok(
+        r,
+        |p| (words[p + field] == NO_LINE) | (words[p + field] < limit),
+    )
 }
 
 // Whether a dot's ink is 0 or 1 and its kind is right for it.

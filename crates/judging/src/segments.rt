@@ -44,12 +44,7 @@ fn judge_lengths(
 }
 
 // What follows the header: 9 for the lengths, 16 for frame, shears and ink bytes.
-fn judge_behind(
-    store: &[u32],
-    ink: &[u8],
-    kinds: usize,
-    scratch: usize,
-) -> Result<(), Refusal>
+fn judge_behind(store: &[u32], ink: &[u8], kinds: usize, scratch: usize) -> Result<(), Refusal>
     requires { (header_words ≤ length store.now) × (limits_ok (held store.now) ≡ true) }
     ensures { answer_number result ≡ behind_refusal store.now ink.now kinds scratch 0 }
 {

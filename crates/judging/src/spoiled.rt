@@ -13,12 +13,7 @@ use crate::words::{CAPACITY, PAGE_HEIGHT, PAGE_WIDTH, SEGMENTED, SLOPE, STATE};
 use memory::{Refusal, area, float_at, store_words, word_at};
 
 // What follows the header: 9 for the store, the planes and an output of fixed length, 16 for frame, shears, planes and results.
-fn judge_rest(
-    store: &[u32],
-    ink: &[u8],
-    kinds: &[u8],
-    lacking: bool,
-) -> Result<(), Refusal>
+fn judge_rest(store: &[u32], ink: &[u8], kinds: &[u8], lacking: bool) -> Result<(), Refusal>
     requires { (header_words ≤ length store.now) × (limits_ok (held store.now) ≡ true) }
     ensures { answer_number result ≡ rest_refusal store.now ink.now kinds.now lacking }
 {
@@ -44,12 +39,7 @@ fn judge_rest(
 }
 
 // What can refuse a reading of results, kind, box and an output whose length hangs on held results left aside.
-pub fn judge_reading(
-    store: &[u32],
-    ink: &[u8],
-    kinds: &[u8],
-    lacking: bool,
-) -> Result<(), Refusal>
+pub fn judge_reading(store: &[u32], ink: &[u8], kinds: &[u8], lacking: bool) -> Result<(), Refusal>
     ensures { answer_number result ≡ result_refusal (length store.now) (length ink.now) (length kinds.now) (held store.now) lacking (results_spoiled store.now ink.now kinds.now) false false }
 {
     let early = word_at(store, STATE) != SEGMENTED;

@@ -5,8 +5,8 @@ ghost use Rattle.judging.specs.rules.Header.{held, scratch_held};
 ghost use Rattle.judging.specs.rules.Leaves.{leaf_of};
 ghost use Rattle.store.specs.rules.Outcomes.{left, level_left, segment_left, clear_left};
 
-use memory::number_of;
 use crate::sheets::{Counts, Lengths, sheet_of};
+use memory::number_of;
 use store::Handed;
 
 // Levels a mask into a store and an ink plane.

@@ -101,7 +101,12 @@ pub fn ends_with(body: &[u8], answers: &[u64]) -> bool {
 }
 
 // Whether the answer and what was lent for it are as the last three words have them.
-fn is_answered(body: &[u8], answer: Result<u32, Refusal>, labels: &[u32], components: &[u32]) -> bool {
+fn is_answered(
+    body: &[u8],
+    answer: Result<u32, Refusal>,
+    labels: &[u32],
+    components: &[u32],
+) -> bool {
     match answer {
         Ok(count) => ends_with(
             body,

@@ -16,9 +16,9 @@ use crate::words::{
 };
 use memory::{Refusal, number_of, word_at};
 use store::{
-    Handed, clear, count_dots, level, level_gray, read_blocks, read_columns,
-    read_dots, read_figures, read_frame, read_glyphs, read_graphics, read_lines, read_rules,
-    read_summary, rect_to_page, segment, to_page, twenty_line_measure, write_sheet,
+    Handed, clear, count_dots, level, level_gray, read_blocks, read_columns, read_dots,
+    read_figures, read_frame, read_glyphs, read_graphics, read_lines, read_rules, read_summary,
+    rect_to_page, segment, to_page, twenty_line_measure, write_sheet,
 };
 
 // What is called; any other word clears.
@@ -177,7 +177,13 @@ fn read_level(
 }
 
 // The list that a call's first word names.
-fn read_list(op: u32, store: &[u32], ink: &[u8], kinds: &[u8], out: &mut [u32]) -> Result<u32, Refusal>
+fn read_list(
+    op: u32,
+    store: &[u32],
+    ink: &[u8],
+    kinds: &[u8],
+    out: &mut [u32],
+) -> Result<u32, Refusal>
     ensures { told (answer_number result) (answer_value result) (words out.new) ≡ result_told (ResultReading.list (list_named op) out.old) store.now ink.now kinds.now }
 {
     match op {

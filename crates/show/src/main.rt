@@ -6,10 +6,10 @@ ghost use Rattle.memory.specs.rules.Refusals.{answer_value};
 ghost use Rattle.showing.specs.rules.Shows.{shown};
 ghost use Rattle.showing.specs.stages.Rooms.{longest_shown};
 
+use memory::Refusal;
 use showing::read_full;
 use std::io;
 use std::io::{Read, Write};
-use memory::Refusal;
 
 // Longer than any well made input, which has at most 121 bytes.
 const INPUT: usize = 4096;

@@ -70,12 +70,7 @@ fn tell_refusal(number: u32, out: &mut [u8]) -> Result<u32, Refusal>
 }
 
 // The page levelled into the store and the ink plane.
-fn level_page(
-    mask: &[u8],
-    page: Page,
-    store: &mut [u32],
-    ink: &mut [u8],
-) -> Result<(), Refusal>
+fn level_page(mask: &[u8], page: Page, store: &mut [u32], ink: &mut [u8]) -> Result<(), Refusal>
     ensures { left (answer_number result) store.new ink.new ≡ level_left (page_shown mask.now page.width page.height page.skew page.slope) store.old ink.old }
 {
     let sheet = show_sheet();

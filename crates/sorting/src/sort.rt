@@ -35,7 +35,12 @@ pub struct Cuts {
 
 // Sorts an ink plane of bytes 0 and 1; what scratch then holds is laid out in specs/Scratch. None where a labelling has more components than
 // the capacity.
-pub fn sort_ink(ink: &[u8], plan: Plan, sheet: LayoutParams, words: &mut [u32]) -> Option<SortCounts>
+pub fn sort_ink(
+    ink: &[u8],
+    plan: Plan,
+    sheet: LayoutParams,
+    words: &mut [u32],
+) -> Option<SortCounts>
     requires { (SortRoom sheet plan.width plan.height ink.now plan.capacity words.old) × (Planned plan) }
     ensures { (length words.new ≡ length words.old) × (sort_left result sheet plan.width plan.height ink.now plan.capacity words.new) }
 {

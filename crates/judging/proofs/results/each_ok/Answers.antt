@@ -1,8 +1,7 @@
 use mathlib.Core.Path.{◌≡◌, ap, ◌∙◌}
-use Prim.Native.Nat.{ℕ}
 use native.Mathlib.Omega.{arith}
 use Rattle.judging.specs.rules.Spoiled.{every}
-use Rattle.judging.proofs.ResultLaws.{every-none, every_more, record-ends}
+use Rattle.judging.proofs.ResultLaws.{every-none, every_more}
 use Rattle.judging.proofs.results.each_ok.Goals as goal
 
 pub loop-i-init : goal.loop-i-init

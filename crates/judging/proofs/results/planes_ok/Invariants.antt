@@ -1,4 +1,4 @@
-use Prim.Native.Nat.{◌-◌, ◌≤◌}
+use Prim.Native.Nat.{◌≤◌}
 use mathlib.Core.Path.{◌≡◌}
 use Rattle.judging.specs.rules.Spoiled.{every}
 use Rattle.judging.proofs.ResultLaws.{dot_at}

@@ -1,14 +1,10 @@
 use native.Mathlib.Omega.{arith}
 use Prim.Native.Nat.{◌*◌}
-use mathlib.Core.Path.{◌≡◌, ◌∙◌, subst}
+use mathlib.Core.Path.{◌≡◌, ◌∙◌}
 use mathlib.Core.Bool.{◌&&◌, not}
 use borrow.Author.Tests.{eqb-true, not-true}
 use lib.Dec.{eqb}
 use Rattle.memory.proofs.BoolLaws.{and_left, and_right}
-use Rattle.rulings.specs.rules.Rulings.{run_min, thick_max}
-use Rattle.sorting.specs.stages.SortSteps.{cuts_left}
-use Rattle.std.specs.Prelude.{Option}
-use Rattle.sorting.specs.declared.sort.Cuts.{Cuts}
 use Rattle.sorting.proofs.PlanLaws.{plan-across, plan-down, plan-dots, plan-rulings, frame-of, frame-kept}
 use Rattle.sorting.proofs.SortLaws.{told-first, told-second, first_runs, first_inside, first-many, first_done, first-still}
 use Rattle.sorting.proofs.sort.sort_labelled.Goals as goal
