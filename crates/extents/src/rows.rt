@@ -34,6 +34,7 @@ fn extents_of_row(row: &[u8], extents: &mut [u32])
     ensures { extents.new ≡ table (extent (is_ink row.now) (length row.now)) (length row.now) }
 {
     single_dots(row, extents);
+    // a walk, not a count: from one start of a run to the next that is told
     let mut x: usize = 0;
     while x + 1 < row.len() {
         x = extents_from(row, x, extents);
@@ -83,6 +84,7 @@ fn extents_of_runs(row: &[u8], x: usize, to: usize, extents: &mut [u32]) -> usiz
     requires { (x < to) × (to ≤ length row.now) × (RowTo row.now x extents.old) }
     ensures { (x < result) × (RowTo row.now result extents.new) }
 {
+    // a walk, not a count: a run's end tells where the next begins
     let mut s = x;
     while s < to {
         s = extents_of_run(row, s, extents);

@@ -67,6 +67,7 @@ impl NumberedRuns<'_> {
         let mut last = end - base - 1;
         let mut dots = end - start;
         let mut sum = column_sum(start - base, last, dots);
+        // a walk, not a count: while the runs are of one component
         let mut k = first + 1;
         while self.goes_on(k, number, limit) {
             let from = self.runs[2 * k] as usize;
@@ -101,6 +102,7 @@ impl NumberedRuns<'_> {
         let limit = base + self.w;
         let mut count = from.count;
         let mut clear = from.clear;
+        // a walk, not a count: from span to span
         let mut k = from.next;
         while k < self.c {
             let start = self.runs[2 * k] as usize;
@@ -151,6 +153,7 @@ pub fn paint_runs(
         count: 0,
         clear: 0,
     };
+    // a walk, not a count: a row is as many runs as it has
     while reached.next < c {
         let y = words[2 * reached.next] as usize / w;
         reached = list.paint_row(y, reached, labels, components);

@@ -71,6 +71,7 @@ impl SizeTable {
         let base = y * self.w;
         let limit = base + self.w;
         let mut count = from.count;
+        // a walk, not a count: from span to span
         let mut k = from.next;
         while k < self.c {
             let start = words[2 * k] as usize;

@@ -76,6 +76,7 @@ pub fn measure_span(words: &[u32], c: usize, w: usize, base: usize, first: usize
     let end = words[2 * first + 1] as usize;
     let mut last = end - base - 1;
     let mut dots = end - start;
+    // a walk, not a count: while the runs are of one component
     let mut k = first + 1;
     while list.goes_on(k, number, limit) {
         let from = words[2 * k] as usize;

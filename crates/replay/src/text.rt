@@ -59,6 +59,7 @@ fn number_end(text: &[u8], at: usize) -> Option<usize>
 pub fn spread(text: &[u8], room: &mut [u8]) -> Option<usize>
     ensures { IfSome result (λ n. n ≤ length room.new) }
 {
+    // a walk, not a count: each number tells where the next begins
     let mut at = 0;
     let mut to = 0;
     while at < text.len() {

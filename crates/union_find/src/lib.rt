@@ -10,6 +10,7 @@ pub fn find(parents: &mut [u32], x: usize) -> usize
     requires { (x < length parents.old) × ((j : ℕ) → j ≤ x → get_or parents.old j 0 ≤ j) }
     ensures { Found parents.old parents.new x result }
 {
+    // a walk, not a count: from parent to parent
     let mut i = x;
     let mut parent = parents[i] as usize;
     while parent != i {
