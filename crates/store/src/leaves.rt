@@ -11,10 +11,10 @@ ghost use Rattle.store.specs.rules.Outcomes.{left, level_left};
 ghost use Rattle.memory.specs.rules.Refusals.{answer_number};
 
 use judging::{
-    CAPACITY, FRAME_HEIGHT, FRAME_WIDTH, HEADER, LEVELLED, PAGE_HEIGHT, PAGE_WIDTH, STATE,
-    judge_leaf, judge_place,
+    CAPACITY, FRAME_HEIGHT, FRAME_WIDTH, HEADER, LEVELLED, PAGE_HEIGHT, PAGE_WIDTH, SKEW, SLOPE,
+    STATE, judge_leaf, judge_place,
 };
-use memory::{Refusal, bits_of, copy_over};
+use memory::{Refusal, copy_over, put_float};
 use params::LayoutParams;
 
 // What levelling is handed beside mask and sheet (01, part 3).
@@ -59,18 +59,14 @@ fn write_head(a: Head, store: &mut [u32])
     ensures { store.new ≡ over (1 ∷ head_words a.page_w a.page_h a.w a.h a.capacity a.skew a.slope) store.old }
 {
     let mut head = [0u32; 10];
-    let skew = bits_of(a.skew);
-    let slope = bits_of(a.slope);
     head[STATE] = LEVELLED;
     head[PAGE_WIDTH] = a.page_w;
     head[PAGE_HEIGHT] = a.page_h;
     head[FRAME_WIDTH] = a.w;
     head[FRAME_HEIGHT] = a.h;
     head[CAPACITY] = a.capacity;
-    head[6] = (skew % 4294967296) as u32;
-    head[7] = (skew / 4294967296) as u32;
-    head[8] = (slope % 4294967296) as u32;
-    head[9] = (slope / 4294967296) as u32;
+    put_float(&mut head, SKEW, a.skew);
+    put_float(&mut head, SLOPE, a.slope);
     copy_over(store, &head);
 }
 
