@@ -93,17 +93,6 @@ fn move_page(mask: &[u8], a: Head, shears: &mut [u32], ink: &mut [u8])
     levelling::level_plane(mask, 0, sides, &shears[0..pw], &shears[pw..end], ink);
 }
 
-// Both shears behind the header, and the mask moved by them.
-fn move_mask(mask: &[u8], a: Head, store: &mut [u32], ink: &mut [u8])
-    requires sides { PageSides a.page_w a.page_h }
-    requires slope { WithinOne a.slope }
-    requires frame_sides { (a.w ≡ (frame a.page_w a.page_h a.slope).w) × (a.h ≡ (frame a.page_w a.page_h a.slope).h) }
-    requires room { (length mask.now ≡ a.page_w * a.page_h) × (header_words + (a.page_w + a.h) ≤ length store.old) × (a.w * a.h ≤ length ink.old) }
-    ensures { (store.new ≡ put_at header_words ((frame a.page_w a.page_h a.slope).shear ++ (frame a.page_w a.page_h a.slope).shear_x) store.old) × (ink.new ≡ over (levelled (frame a.page_w a.page_h a.slope) 0 mask.now) ink.old) }
-{
-    move_page(mask, a, &mut store[HEADER..], ink);
-}
-
 // Header, shears and ink plane of a leaf that is accepted.
 fn write_leaf(mask: &[u8], a: Head, store: &mut [u32], ink: &mut [u8])
     requires sides { PageSides a.page_w a.page_h }
@@ -113,7 +102,7 @@ fn write_leaf(mask: &[u8], a: Head, store: &mut [u32], ink: &mut [u8])
     ensures { (store.new ≡ put_at header_words ((frame a.page_w a.page_h a.slope).shear ++ (frame a.page_w a.page_h a.slope).shear_x) (over (1 ∷ head_words a.page_w a.page_h a.w a.h a.capacity a.skew a.slope) store.old)) × (ink.new ≡ over (levelled (frame a.page_w a.page_h a.slope) 0 mask.now) ink.old) }
 {
     write_head(a, store);
-    move_mask(mask, a, store, ink);
+    move_page(mask, a, &mut store[HEADER..], ink);
 }
 
 // Levels a mask: the refusal, or the leaf in the store and the ink plane.
