@@ -9,6 +9,7 @@ ghost use Rattle.levelling.specs.rules.Frames.{PageSides, frame};
 ghost use Rattle.levelling.specs.rules.Planes.{levelled};
 ghost use Rattle.stages.specs.rules.Levels.{skew_sheet, in_limits, frame_word, lent_fits, is_levelled, PlaneTold, holds_row, point_in, rect_in, corner_word};
 
+use crate::sheets::BLANK_SHEET;
 use levelling::Point;
 use memory::{MAX_PAGE_SIDE, Rect};
 use params::LayoutParams;
@@ -17,32 +18,11 @@ use params::LayoutParams;
 pub fn novlizeb_applied(least: f64, skew: f64, value: f64) -> f64
     ensures { result ≡ Shears.applied (skew_sheet least) skew value }
 {
-    levelling::applied(skew_sheet(least), skew, value)
-}
-
-fn skew_sheet(shear_min_deg: f64) -> LayoutParams
-    ensures { result ≡ skew_sheet shear_min_deg }
-{
-    LayoutParams {
-        glyph_min_area: 0,
-        glyph_max_extent_frac: 0.0,
-        xheight_min_area: 0,
-        xheight_fallback_px: 0.0,
-        rule_min_len_xh: 0.0,
-        rule_max_thick_xh: 0.0,
-        rule_run_xh: 0.0,
-        graphic_min_xh: 0.0,
-        smear_xh: 0.0,
-        line_min_glyphs: 0,
-        line_min_height_xh: 0.0,
-        line_max_height_xh: 0.0,
-        block_min_overlap: 0.0,
-        block_gap_margin_lines: 0.0,
-        block_max_gap_lines: 0.0,
-        column_gap_xh: 0.0,
-        column_cover_frac: 0.0,
-        shear_min_deg,
-    }
+    let sheet = LayoutParams {
+        shear_min_deg: least,
+        ..BLANK_SHEET
+    };
+    levelling::applied(sheet, skew, value)
 }
 
 fn in_limits(page_w: u32, page_h: u32, slope: f64) -> bool
