@@ -1,9 +1,13 @@
 // The frame that a store holds, by its words.
 ghost use Rattle.std.specs.Prelude.{◌≡◌, ◌+◌, ◌≤◌, length, take, drop, get_or};
 ghost use Rattle.judging.specs.rules.Header.{header_words};
+ghost use Rattle.store.specs.stages.Areas.{HeaderJudged};
 
-use judging::{FRAME_HEIGHT, FRAME_WIDTH, HEADER, PAGE_HEIGHT, PAGE_WIDTH};
-use levelling::Sides;
+use judging::{
+    FRAME_HEIGHT, FRAME_WIDTH, HEADER, PAGE_HEIGHT, PAGE_WIDTH, frame_held, level_head,
+};
+use levelling::{FrameSize, Sides};
+use memory::Refusal;
 
 // The sides of page and frame, and the two shears that stand behind the header.
 #[derive(Clone, Copy, Debug, PartialEq, Eq)]
@@ -34,4 +38,12 @@ pub fn held_frame(store: &[u32]) -> HeldFrame<'_>
         shear: &store[HEADER..start],
         shear_x: &store[start..end],
     }
+}
+
+// The size of the frame that the held slope gives, or the header's refusal.
+pub fn level_size(store: &[u32]) -> Result<FrameSize, Refusal>
+    ensures { HeaderJudged store.now result }
+{
+    level_head(store)?;
+    Ok(frame_held(store))
 }

@@ -9,16 +9,15 @@ ghost use Rattle.store.specs.rules.Readings.Output.{words, integers};
 ghost use Rattle.store.specs.rules.Outcomes.{told, level_told};
 ghost use Rattle.memory.specs.rules.Refusals.{answer_number};
 
-use crate::held_frames::held_frame;
-use judging::{PAGE_HEIGHT, PAGE_WIDTH, frame_held, judge_frame, level_head};
+use crate::held_frames::{held_frame, level_size};
+use judging::{PAGE_HEIGHT, PAGE_WIDTH, judge_frame};
 use memory::{Rect, Refusal, area, word_at};
 
 // All that can refuse a gray plane of so many bytes.
 fn judge_gray(store: &[u32], gray: usize, out: usize) -> Result<(), Refusal>
     ensures { answer_number result ≡ level_judged store.now (not (eqb gray ((held store.now).page_w * (held store.now).page_h)) || ltb out (dots_held (held store.now))) false }
 {
-    level_head(store)?;
-    let size = frame_held(store);
+    let size = level_size(store)?;
     let w = size.w;
     let h = size.h;
     let page = area(word_at(store, PAGE_WIDTH), word_at(store, PAGE_HEIGHT));
@@ -51,8 +50,7 @@ const RECT_LENGTH: usize = 4;
 fn judge_box(store: &[u32], r: Rect, out: usize) -> Result<(), Refusal>
     ensures { answer_number result ≡ level_judged store.now (ltb out 4) (not (box_inside (frame_held (held store.now)) r)) }
 {
-    level_head(store)?;
-    let size = frame_held(store);
+    let size = level_size(store)?;
     let w = size.w;
     let h = size.h;
     let inside = (r.x0 <= r.x1) & (r.x1 < w) & (r.y0 <= r.y1) & (r.y1 < h);

@@ -8,8 +8,8 @@ ghost use Rattle.store.specs.rules.Outcomes.{told, level_told};
 ghost use Rattle.memory.specs.rules.Refusals.{answer_number};
 ghost use Rattle.store.specs.stages.Points.{Coordinate};
 
-use crate::held_frames::held_frame;
-use judging::{PAGE_WIDTH, frame_held, judge_frame, level_head};
+use crate::held_frames::{held_frame, level_size};
+use judging::{PAGE_WIDTH, judge_frame};
 use levelling::Point;
 use memory::Refusal;
 
@@ -20,8 +20,7 @@ const POINT_LENGTH: usize = 2;
 fn judge_point(store: &[u32], x: u32, y: u32, out: usize) -> Result<(), Refusal>
     ensures { answer_number result ≡ level_judged store.now (ltb out point_length) (not (ltb x (frame_held (held store.now)).w && ltb y (frame_held (held store.now)).h)) }
 {
-    level_head(store)?;
-    let size = frame_held(store);
+    let size = level_size(store)?;
     let w = size.w;
     let h = size.h;
     judge_frame(store, w, h, out < POINT_LENGTH, !((x < w) & (y < h)))
