@@ -9,8 +9,7 @@ use borrow.Author.Tests.{ltb-true}
 use lib.Dec.{lit≤, is_le, ltb}
 use lib.IntN.{ℤ, pos, negsuc, sub_ℕ}
 use lib.Ieee.{Float}
-use lib.ListN.{length, get_or, take, drop, set, length-drop}
-use lib.Seq.{length-take-le}
+use lib.ListN.{length, get_or, take, drop, set}
 use mir.Syntax.{Width, w32, w64}
 use mir.Val.{SFits, to_z, of_z, hbits}
 use mir.Facts.{to_z-of_z}

@@ -3,8 +3,8 @@ ghost use Rattle.std.specs.Prelude.{◌≡◌, []};
 ghost use Rattle.store.specs.rules.Outcomes.{left, clear_left};
 ghost use Rattle.memory.specs.rules.Refusals.{answer_number};
 
-use memory::Refusal;
 use judging::{EMPTY, STATE};
+use memory::Refusal;
 
 // Sets the state to empty and changes nothing else; the store may be spoiled.
 pub fn clear(store: &mut [u32]) -> Result<(), Refusal>

@@ -57,7 +57,13 @@ fn written(store: &[u32], kinds: &[u8], kind: u8, r: Rect, out: &mut [u32])
 }
 
 // Counts them: the refusal, or how many there are.
-pub fn count_dots(store: &[u32], ink: &[u8], kinds: &[u8], kind: u32, r: Rect) -> Result<u32, Refusal>
+pub fn count_dots(
+    store: &[u32],
+    ink: &[u8],
+    kinds: &[u8],
+    kind: u32,
+    r: Rect,
+) -> Result<u32, Refusal>
     ensures { told (answer_number result) (answer_value result) none ≡ result_told (ResultReading.count_dots kind r) store.now ink.now kinds.now }
 {
     judge_reading(store, ink, kinds, false)?;

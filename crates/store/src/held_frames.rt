@@ -3,9 +3,7 @@ ghost use Rattle.std.specs.Prelude.{◌≡◌, ◌+◌, ◌≤◌, length, take,
 ghost use Rattle.judging.specs.rules.Header.{header_words};
 ghost use Rattle.store.specs.stages.Areas.{HeaderJudged};
 
-use judging::{
-    FRAME_HEIGHT, FRAME_WIDTH, HEADER, PAGE_HEIGHT, PAGE_WIDTH, frame_held, level_head,
-};
+use judging::{FRAME_HEIGHT, FRAME_WIDTH, HEADER, PAGE_HEIGHT, PAGE_WIDTH, frame_held, level_head};
 use levelling::{FrameSize, Sides};
 use memory::Refusal;
 

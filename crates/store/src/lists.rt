@@ -74,7 +74,13 @@ pub fn list_of(store: &[u32], which: ListName) -> &[u32]
 }
 
 // Reads a list: how many records, and their words over the front of the words lent.
-fn read_list(store: &[u32], ink: &[u8], kinds: &[u8], which: ListName, out: &mut [u32]) -> Result<u32, Refusal>
+fn read_list(
+    store: &[u32],
+    ink: &[u8],
+    kinds: &[u8],
+    which: ListName,
+    out: &mut [u32],
+) -> Result<u32, Refusal>
     ensures { told (answer_number result) (answer_value result) (words out.new) ≡ result_told (ResultReading.list (which_of which) out.old) store.now ink.now kinds.now }
 {
     judge_reading(store, ink, kinds, false)?;
@@ -86,7 +92,12 @@ fn read_list(store: &[u32], ink: &[u8], kinds: &[u8], which: ListName, out: &mut
     Ok(count_of(store, which))
 }
 
-pub fn read_columns(store: &[u32], ink: &[u8], kinds: &[u8], out: &mut [u32]) -> Result<u32, Refusal>
+pub fn read_columns(
+    store: &[u32],
+    ink: &[u8],
+    kinds: &[u8],
+    out: &mut [u32],
+) -> Result<u32, Refusal>
     ensures { told (answer_number result) (answer_value result) (words out.new) ≡ result_told (ResultReading.list Which.columns out.old) store.now ink.now kinds.now }
 {
     read_list(store, ink, kinds, ListName::Columns, out)
@@ -98,7 +109,12 @@ pub fn read_rules(store: &[u32], ink: &[u8], kinds: &[u8], out: &mut [u32]) -> R
     read_list(store, ink, kinds, ListName::Rules, out)
 }
 
-pub fn read_graphics(store: &[u32], ink: &[u8], kinds: &[u8], out: &mut [u32]) -> Result<u32, Refusal>
+pub fn read_graphics(
+    store: &[u32],
+    ink: &[u8],
+    kinds: &[u8],
+    out: &mut [u32],
+) -> Result<u32, Refusal>
     ensures { told (answer_number result) (answer_value result) (words out.new) ≡ result_told (ResultReading.list Which.graphics out.old) store.now ink.now kinds.now }
 {
     read_list(store, ink, kinds, ListName::Graphics, out)

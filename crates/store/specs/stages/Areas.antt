@@ -1,5 +1,5 @@
 -- The lists of a store by their places: each is an area behind the shears, a record width and a word of the header that counts its records.
-use Rattle.std.specs.Prelude.{cond, Bool, true, Result, Ok, Err, ◌≡◌, List, [], ◌∷◌, ℕ, ◌+◌, ◌*◌, ◌≤◌, ◌<◌, eqb, length, get_or, take, drop}
+use Rattle.std.specs.Prelude.{Bool, true, Result, Ok, Err, ◌≡◌, List, [], ◌∷◌, ℕ, ◌+◌, ◌*◌, ◌≤◌, ◌<◌, length, get_or, take, drop}
 use Rattle.memory.specs.rules.Floats.{float_at}
 use Rattle.memory.specs.rules.Limits.{max_page_side, max_frame_width, max_frame_height, max_capacity}
 use Rattle.memory.specs.declared.refusals.Refusal.{Refusal}

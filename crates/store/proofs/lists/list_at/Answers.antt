@@ -27,7 +27,7 @@ arms c =
     let q = c.result_places-places.result in
     let s = c.args.store.now in
     elim c.match-which.branch [
-      in-Columns w ↦ found p n named.Columns q s w.in-Columns.is (same p _ w.place-is)
+      | in-Columns w ↦ found p n named.Columns q s w.in-Columns.is (same p _ w.place-is)
       | in-Rules w ↦ found p n named.Rules q s w.in-Rules.is (same p _ w.place-is)
       | in-Graphics w ↦ found p n named.Graphics q s w.in-Graphics.is (same p _ w.place-is)
       | in-Glyphs w ↦ found p n named.Glyphs q s w.in-Glyphs.is (same p _ w.place-is)
