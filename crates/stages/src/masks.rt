@@ -23,9 +23,7 @@ pub fn novlizeb_label(
 ) -> u64
     ensures { LabelTold (label_mask width height mask.now capacity labels.old components.old scratch.old) result labels.new components.new (length scratch.new) (drop (scratch_words (width * height) capacity) scratch.new) }
 {
-    word_of(labelling::label(
-        mask, width, height, capacity, labels, components, scratch,
-    ))
+    word_of(labelling::label(mask, width, height, capacity, labels, components, scratch))
 }
 
 fn along_of(columns: bool) -> Along

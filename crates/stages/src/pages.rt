@@ -103,7 +103,5 @@ pub fn novlizeb_segment_plane(
 ) -> u32
     ensures { left result results.new kinds.new figures.new (length words.new) (drop (scratch_words (w * h) capacity) words.new) ≡ paged sheet w h ink.now capacity words.old results.old kinds.old figures.old }
 {
-    number_of(segment_plane(
-        ink, w, h, sheet, capacity, words, results, kinds, figures,
-    ))
+    number_of(segment_plane(ink, w, h, sheet, capacity, words, results, kinds, figures))
 }
