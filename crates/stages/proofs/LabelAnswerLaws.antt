@@ -2,7 +2,6 @@
 use mathlib.Core.Path.{◌≡◌, ap, ◌∙◌}
 use mathlib.Core.List.{List}
 use Prim.Native.Nat.{ℕ, ◌+◌}
-use native.Mathlib.Omega.{arith}
 use Rattle.labelling.specs.rules.Answer.{LabelOutcome, label_outcome}
 use Rattle.std.specs.Prelude.{Result}
 use Rattle.memory.specs.declared.refusals.Refusal.{Refusal}

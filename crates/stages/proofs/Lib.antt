@@ -10,8 +10,6 @@ pub mod MapLaws
 pub mod RulingLaws
 -- thin rulings cut and labelled: refusals, room, and what a call leaves
 pub mod CutLaws
--- the value of a unit, measured or assumed, and a kind by it
-pub mod KindLaws
 -- what the calls on a frame judge alike
 pub mod FrameLaws
 -- a whole segmentation: refusals, room, figures, and what a call leaves

@@ -1,7 +1,6 @@
 // Levelling a page plane, and the way back. What is outside document 01's limits, or lent too short,
 // gets 0 or false, and nothing is written.
 ghost use Rattle.std.specs.Prelude.{◌≡◌, ◌++◌, ◌+◌, ◌*◌, ◌≤◌, length};
-ghost use Rattle.memory.specs.rules.Limits.{max_page_side, max_frame_width, max_frame_height};
 ghost use Rattle.memory.specs.rules.Words.{over};
 ghost use Rattle.rounding.specs.rules.Drift.{WithinOne};
 ghost use Rattle.levelling.specs.rules.Shears as Shears;
@@ -9,40 +8,20 @@ ghost use Rattle.levelling.specs.rules.Frames.{PageSides, frame};
 ghost use Rattle.levelling.specs.rules.Planes.{levelled};
 ghost use Rattle.stages.specs.rules.Levels.{skew_sheet, in_limits, frame_word, lent_fits, is_levelled, PlaneTold, holds_row, point_in, rect_in, corner_word};
 
-use levelling::Point;
-use memory::{MAX_PAGE_SIDE, Rect};
+use crate::sheets::BLANK_SHEET;
+use levelling::{FrameSize, Point, Sides};
+use memory::{MAX_PAGE_SIDE, Rect, area};
 use params::LayoutParams;
 
 // The value where the skew is applied, else 0.
 pub fn novlizeb_applied(least: f64, skew: f64, value: f64) -> f64
     ensures { result ≡ Shears.applied (skew_sheet least) skew value }
 {
-    levelling::applied(skew_sheet(least), skew, value)
-}
-
-fn skew_sheet(shear_min_deg: f64) -> LayoutParams
-    ensures { result ≡ skew_sheet shear_min_deg }
-{
-    LayoutParams {
-        glyph_min_area: 0,
-        glyph_max_extent_frac: 0.0,
-        xheight_min_area: 0,
-        xheight_fallback_px: 0.0,
-        rule_min_len_xh: 0.0,
-        rule_max_thick_xh: 0.0,
-        rule_run_xh: 0.0,
-        graphic_min_xh: 0.0,
-        smear_xh: 0.0,
-        line_min_glyphs: 0,
-        line_min_height_xh: 0.0,
-        line_max_height_xh: 0.0,
-        block_min_overlap: 0.0,
-        block_gap_margin_lines: 0.0,
-        block_max_gap_lines: 0.0,
-        column_gap_xh: 0.0,
-        column_cover_frac: 0.0,
-        shear_min_deg,
-    }
+    let sheet = LayoutParams {
+        shear_min_deg: least,
+        ..BLANK_SHEET
+    };
+    levelling::applied(sheet, skew, value)
 }
 
 fn in_limits(page_w: u32, page_h: u32, slope: f64) -> bool
@@ -67,51 +46,46 @@ pub fn novlizeb_plane_size(page_w: u32, page_h: u32, slope: f64) -> u64
     size.h as u64 * 4294967296 + size.w as u64
 }
 
-// Whether a plane has the page's size, and there is room for both shears and the frame.
-fn lent_fits(
-    page: usize,
-    page_w: usize,
-    page_h: usize,
-    w: usize,
-    h: usize,
-    shears: usize,
-    out: usize,
-) -> bool
-    requires { (page_w ≤ max_page_side) × (page_h ≤ max_page_side) × (w ≤ max_frame_width) × (h ≤ max_frame_height) }
-    ensures { result ≡ lent_fits page page_w page_h w h shears out }
-{
-    (page == page_w * page_h) & (page_w + h <= shears) & (w * h <= out)
-}
-
-// Both shears, and the plane moved by them.
-fn level(
-    page: &[u8],
-    fill: u8,
+// A page, and the frame that its slope gives.
+#[derive(Clone, Copy, Debug, PartialEq)]
+struct PageFrame {
     page_w: u32,
     page_h: u32,
     slope: f64,
-    w: usize,
-    h: usize,
-    shears: &mut [u32],
-    out: &mut [u8],
-)
-    requires sides { PageSides page_w page_h }
-    requires slope { WithinOne slope }
-    requires frame_sides { (w ≡ (frame page_w page_h slope).w) × (h ≡ (frame page_w page_h slope).h) }
-    requires room { (length page.now ≡ page_w * page_h) × (page_w + h ≤ length shears.old) × (w * h ≤ length out.old) }
-    ensures { (shears.new ≡ over ((frame page_w page_h slope).shear ++ (frame page_w page_h slope).shear_x) shears.old) × (out.new ≡ over (levelled (frame page_w page_h slope) fill page.now) out.old) }
-{
-    let pw = page_w as usize;
-    let ph = page_h as usize;
-    let end = pw + h;
-    levelling::fill_shears(shears, page_w, page_h, slope);
-    let sides = levelling::Sides {
-        page_w: pw,
-        page_h: ph,
-        w,
-        h,
-    };
-    levelling::level_plane(page, fill, sides, &shears[0..pw], &shears[pw..end], out);
+    size: FrameSize,
+}
+
+impl PageFrame {
+    // Whether a plane has the page's size, and there is room for both shears and the frame.
+    fn lent_fits(self, page: usize, shears: usize, out: usize) -> bool
+        ensures { result ≡ lent_fits page self.page_w self.page_h self.size.w self.size.h shears out }
+    {
+        let rows = self.size.h as usize;
+        (page == area(self.page_w, self.page_h))
+            & (self.page_w as usize + rows <= shears)
+            & (area(self.size.w, self.size.h) <= out)
+    }
+
+    // Both shears, and the plane moved by them.
+    fn level(self, page: &[u8], fill: u8, shears: &mut [u32], out: &mut [u8])
+        requires sides { PageSides self.page_w self.page_h }
+        requires slope { WithinOne self.slope }
+        requires frame_sides { (self.size.w ≡ (frame self.page_w self.page_h self.slope).w) × (self.size.h ≡ (frame self.page_w self.page_h self.slope).h) }
+        requires room { (length page.now ≡ self.page_w * self.page_h) × (self.page_w + self.size.h ≤ length shears.old) × (self.size.w * self.size.h ≤ length out.old) }
+        ensures { (shears.new ≡ over ((frame self.page_w self.page_h self.slope).shear ++ (frame self.page_w self.page_h self.slope).shear_x) shears.old)
+            × (out.new ≡ over (levelled (frame self.page_w self.page_h self.slope) fill page.now) out.old) }
+    {
+        let pw = self.page_w as usize;
+        let sides = Sides {
+            page_w: pw,
+            page_h: self.page_h as usize,
+            w: self.size.w as usize,
+            h: self.size.h as usize,
+        };
+        let end = pw + sides.h;
+        levelling::fill_shears(shears, self.page_w, self.page_h, self.slope);
+        levelling::level_plane(page, fill, sides, &shears[0..pw], &shears[pw..end], out);
+    }
 }
 
 // A page plane moved into its frame, `fill` in the dots that are added; both shears, one after the
@@ -130,21 +104,16 @@ pub fn novlizeb_level_plane(
     if !in_limits(page_w, page_h, slope) {
         return false;
     }
-    let size = levelling::frame_size(page_w, page_h, slope);
-    let w = size.w as usize;
-    let h = size.h as usize;
-    if !lent_fits(
-        page.len(),
-        page_w as usize,
-        page_h as usize,
-        w,
-        h,
-        shears.len(),
-        out.len(),
-    ) {
+    let frame = PageFrame {
+        page_w,
+        page_h,
+        slope,
+        size: levelling::frame_size(page_w, page_h, slope),
+    };
+    if !frame.lent_fits(page.len(), shears.len(), out.len()) {
         return false;
     }
-    level(page, fill, page_w, page_h, slope, w, h, shears, out);
+    frame.level(page, fill, shears, out);
     true
 }
 
@@ -170,16 +139,14 @@ fn point(shears: &[u32], page_w: u32, x: u32, y: u32) -> Point
 pub fn novlizeb_to_page_x(shears: &[u32], page_w: u32, x: u32, y: u32) -> i64
     ensures { result ≡ (point_in shears.now page_w x y).x }
 {
-    let p = point(shears, page_w, x, y);
-    p.x
+    point(shears, page_w, x, y).x
 }
 
 // Its page row.
 pub fn novlizeb_to_page_y(shears: &[u32], page_w: u32, x: u32, y: u32) -> i64
     ensures { result ≡ (point_in shears.now page_w x y).y }
 {
-    let p = point(shears, page_w, x, y);
-    p.y
+    point(shears, page_w, x, y).y
 }
 
 // A frame box on the page.

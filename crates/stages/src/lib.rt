@@ -12,6 +12,7 @@ mod frames;
 mod levels;
 mod masks;
 mod pages;
+mod sheets;
 mod sorted_pages;
 mod sorting_parts;
 

@@ -11,6 +11,7 @@ ghost use Rattle.stages.specs.rules.Frames.{room_refusal, told};
 ghost use Rattle.stages.specs.rules.Sorting.{rulings_fit, RulingsTold, cut_rulings, unit_for, size_sheet};
 
 use crate::frames::{judge_frame, judge_room};
+use crate::sheets::BLANK_SHEET;
 use memory::{MAX_MASK_DOTS, MAX_MASK_SIDE, Refusal, area, number_of, scratch_words};
 use params::LayoutParams;
 use sorting::{Cuts, Unit, label_rulings};
@@ -151,50 +152,26 @@ fn unit_for(measured: bool, value: f64) -> Unit
     }
 }
 
-fn size_sheet(
-    glyph_min_area: u32,
-    glyph_max_extent_frac: f64,
-    rule_min_len_xh: f64,
-    rule_max_thick_xh: f64,
-    rule_run_xh: f64,
-    graphic_min_xh: f64,
-) -> LayoutParams
-    ensures { result ≡ size_sheet glyph_min_area glyph_max_extent_frac rule_min_len_xh rule_max_thick_xh rule_run_xh graphic_min_xh }
-{
-    LayoutParams {
-        glyph_min_area,
-        glyph_max_extent_frac,
-        xheight_min_area: 0,
-        xheight_fallback_px: 0.0,
-        rule_min_len_xh,
-        rule_max_thick_xh,
-        rule_run_xh,
-        graphic_min_xh,
-        smear_xh: 0.0,
-        line_min_glyphs: 0,
-        line_min_height_xh: 0.0,
-        line_max_height_xh: 0.0,
-        block_min_overlap: 0.0,
-        block_gap_margin_lines: 0.0,
-        block_max_gap_lines: 0.0,
-        column_gap_xh: 0.0,
-        column_cover_frac: 0.0,
-        shear_min_deg: 0.0,
-    }
-}
-
 // The least run of a thin ruling, in dots.
 pub fn novlizeb_run_min(rule_run_xh: f64, unit: f64) -> u32
     ensures { result ≡ run_min (size_sheet 0 float_zero float_zero float_zero rule_run_xh float_zero) unit }
 {
-    rulings::run_min(size_sheet(0, 0.0, 0.0, 0.0, rule_run_xh, 0.0), unit)
+    let sheet = LayoutParams {
+        rule_run_xh,
+        ..BLANK_SHEET
+    };
+    rulings::run_min(sheet, unit)
 }
 
 // Its greatest thickness.
 pub fn novlizeb_thick_max(rule_max_thick_xh: f64, unit: f64) -> u32
     ensures { result ≡ thick_max (size_sheet 0 float_zero float_zero rule_max_thick_xh float_zero float_zero) unit }
 {
-    rulings::thick_max(size_sheet(0, 0.0, 0.0, rule_max_thick_xh, 0.0, 0.0), unit)
+    let sheet = LayoutParams {
+        rule_max_thick_xh,
+        ..BLANK_SHEET
+    };
+    rulings::thick_max(sheet, unit)
 }
 
 // The kind of a component of this area, width and height, in a frame w wide and h high: 2 rule, 3
@@ -215,14 +192,14 @@ pub fn novlizeb_kind_by_size(
 ) -> u32
     ensures { result ≡ kind_by_size (size_sheet glyph_min_area glyph_max_extent_frac rule_min_len_xh rule_max_thick_xh float_zero graphic_min_xh) value w h area width height }
 {
-    let sheet = size_sheet(
+    let sheet = LayoutParams {
         glyph_min_area,
         glyph_max_extent_frac,
         rule_min_len_xh,
         rule_max_thick_xh,
-        0.0,
         graphic_min_xh,
-    );
+        ..BLANK_SHEET
+    };
     let unit = unit_for(measured, value);
     sorting::kind_by_size(sheet, unit, w, h, area, width, height)
 }

@@ -2,7 +2,7 @@
 use mathlib.Core.Path.{◌≡◌, refl, sym, ap, ◌∙◌, subst}
 use mathlib.Core.Bool.{Bool, true, false, not, ◌&&◌, ◌||◌, true≢false}
 use mathlib.Core.List.{List, [], ◌∷◌}
-use Prim.Native.Nat.{ℕ, ◌+◌, ◌-◌, ◌*◌, ◌≤◌, ◌<◌}
+use Prim.Native.Nat.{ℕ, ◌+◌, ◌*◌, ◌≤◌, ◌<◌}
 use native.Mathlib.Nat.{mul-le-mul}
 use native.Mathlib.Omega.{arith}
 use borrow.Author.Tests.{lt-ltb, le-ltb, leb-true}
@@ -36,28 +36,6 @@ use Rattle.store.proofs.HeldFrames.{first-held, second-held}
 use Rattle.judging.proofs.SpoiledLaws.{ReadableResults}
 use Rattle.store.proofs.ToldLaws.{told-late, told-done}
 use Rattle.store.proofs.TellLaws.{sides-are}
-
--- ---- the parts as the code takes them
-
-abbrev pub cut_frame : List ℕ → Frame
-cut_frame s =
-    frame_of (get_or s 1 0) (get_or s 2 0) (take (64 + get_or s 1 0 - 64) (drop 64 s))
-    (take (64 + get_or s 1 0 + get_or s 4 0 - (64 + get_or s 1 0)) (drop (64 + get_or s 1 0) s)) (get_or s 3 0) (get_or s 4 0)
-
-cut-is : (s : List ℕ) → cut_frame s ≡ words_frame s
-cut-is s =
-    let a : 64 + get_or s 1 0 - 64 ≡ get_or s 1 0 = omega arith in
-    let b : 64 + get_or s 1 0 + get_or s 4 0 - (64 + get_or s 1 0) ≡ get_or s 4 0 = omega arith in
-    λ i. frame_of (get_or s 1 0) (get_or s 2 0) (take (a i) (drop 64 s)) (take (b i) (drop (64 + get_or s 1 0) s)) (get_or s 3 0) (get_or s 4 0)
-
-pub cut-words : (s kinds : List ℕ) → FrameHere s kinds → FrameWords (cut_frame s) (words_kinds s kinds) × OneWay (cut_frame s)
-cut-words s kinds H = subst (λ (f : Frame). FrameWords f (words_kinds s kinds) × OneWay f) (sym (cut-is s)) (H.frame, H.one_way)
-
-pub cut-count : (s l : List ℕ) (k : ℕ) (r : Rect) (m : ℕ) → count_if (listed (cut_frame s) l k r) m ≡ count_if (listed (words_frame s) l k r) m
-cut-count s l k r m = ap (λ (f : Frame). count_if (listed f l k r) m) (cut-is s)
-
-pub cut_list : (s l : List ℕ) (k : ℕ) (r : Rect) → dot_list (cut_frame s) l k r ≡ dot_list (words_frame s) l k r
-cut_list s l k r = ap (λ (f : Frame). dot_list f l k r) (cut-is s)
 
 pub count_low : (s kinds : List ℕ) → FrameHere s kinds → (p : ℕ → Bool) → count_if p (get_or s 1 0 * get_or s 2 0) ≤ 67108864
 count_low s kinds H p = let a = count-few p (get_or s 1 0 * get_or s 2 0) in let b = H.page in omega arith

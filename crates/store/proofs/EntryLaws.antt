@@ -143,9 +143,6 @@ module _ (a : Leaf) (s ink : List ℕ) (handed : ℕ) (eh : handed ≡ leaf_refu
   pub level-within : WithinOne t
   level-within = slope-within a.sheet a.skew a.slope t (leaf-handed a ok).slope-in et
 
-  pub level-few : a.capacity ≤ max_capacity
-  level-few = (leaf-handed a ok).few
-
   pub level-whole : length a.mask ≡ a.w * a.h
   level-whole = (leaf-handed a ok).whole
 

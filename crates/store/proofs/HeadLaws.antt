@@ -4,7 +4,7 @@ use mathlib.Core.List.{List, [], ◌∷◌, ◌++◌, append_assoc}
 use Prim.Native.Nat.{ℕ, ◌+◌, ◌-◌, ◌≤◌}
 use native.Mathlib.Nat.{not-suc-le-zero}
 use native.Mathlib.Omega.{arith}
-use borrow.Rule.Slice.PartMut.{put_mid, same_len_mid}
+use borrow.Rule.Slice.PartMut.{put_mid}
 use lib.ListN.{length, take, drop, set, length-drop, length-set, take-append-drop}
 use lib.Seq.{take_at, drop_at, take-append-le, drop-append-le, length-take-le}
 use Rattle.memory.specs.rules.Words.{over, put_at}
@@ -71,10 +71,6 @@ front-word (x ∷ s) k h = refl
 
 pub head-room : (s : List ℕ) → 64 ≤ length s → 15 ≤ length (take (length (set s 0 2) - 10) (drop 10 (set s 0 2)))
 head-room s l = let e = part_length 10 (set s 0 2) in let d = length-set s 0 2 in omega arith
-
-pub head-kept : (s part : List ℕ) → length part ≡ length (take (length (set s 0 2) - 10) (drop 10 (set s 0 2)))
-    → length (put_mid 10 (length (set s 0 2) - 10) (set s 0 2) part) ≡ length s
-head-kept s part e = same_len_mid 10 (length (set s 0 2) - 10) (set s 0 2) part e ∙ length-set s 0 2
 
 pub head-written : (f : Segmentation) (s part : List ℕ) → 64 ≤ length s → part ≡ over (figure_words f) (take (length (set s 0 2) - 10) (drop 10 (set s 0 2)))
     → put_mid 10 (length (set s 0 2) - 10) (set s 0 2) part ≡ head_segmented f s

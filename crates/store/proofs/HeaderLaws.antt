@@ -64,10 +64,6 @@ applied-holds Q sheet skew v x z = go (le sheet.shear_min_deg _)
     go false = z
 
 module _ (a : Leaf) where
-  pub frame_is : frame_held (leaf_held 0 a) ≡ (levelling_of a).frame
-  unfolding levelling
-  frame_is = refl
-
   pub frame-of : (st : ℕ) → frame_held (leaf_held st a) ≡ (levelling_of a).frame
   unfolding levelling
   frame-of st = refl

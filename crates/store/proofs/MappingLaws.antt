@@ -15,6 +15,7 @@ use Rattle.memory.specs.rules.Words.{word_at, over}
 use Rattle.memory.proofs.BoolLaws.{and_left, and_right}
 use Rattle.memory.specs.declared.rect.Rect.{Rect}
 use Rattle.levelling.specs.rules.Frames.{Frame, frame_of}
+use Rattle.levelling.specs.declared.frame.Sides.{Sides}
 use Rattle.levelling.specs.rules.Mapping.{rect_to_page}
 use Rattle.levelling.specs.stages.Rooms.{PlaneFits}
 use Rattle.levelling.proofs.FrameLaws.{frame-is-frame_of, frame-plane-fits}
@@ -50,74 +51,39 @@ pub box-judged : (s : List ℕ) (r : Rect) (w h n : ℕ) (lacking : Bool) → w 
     → n ≡ frame_judged s lacking (not (leb r.x0 r.x1 && ltb r.x1 w && leb r.y0 r.y1 && ltb r.y1 h)) → n ≡ frame_judged s lacking (not (box_inside (frame_held (held s)) r))
 box-judged s r w h n lacking ew eh e = e ∙ (λ i. frame_judged s lacking (not (leb r.x0 r.x1 && ltb r.x1 (ew i) && leb r.y0 r.y1 && ltb r.y1 (eh i))))
 
-module _ (s : List ℕ) (lacking bad : Bool) (R : Readable s lacking bad) (pw ph h : ℕ) (e₁ : pw ≡ word_at s 1) (e₂ : ph ≡ word_at s 2) (e₄ : h ≡ word_at s 4) where
+module _ (s : List ℕ) (lacking bad : Bool) (R : Readable s lacking bad) where
   few : Limited (held s)
   few = limited (held s) R.limits
 
-  pw-by : pw ≡ (held s).page_w
+  pw-is : get_or s 1 0 ≡ (held s).page_w
   unfolding held
-  pw-by = e₁
+  pw-is = refl
 
-  ph-by : ph ≡ (held s).page_h
+  ph-is : get_or s 2 0 ≡ (held s).page_h
   unfolding held
-  ph-by = e₂
-
-  h-held : h ≡ (held s).h
-  unfolding held
-  h-held = e₄
+  ph-is = refl
 
   sound : ((held s).w ≡ (frame_held (held s)).w) × ((held s).h ≡ (frame_held (held s)).h) × (part header_words ((held s).page_w + (frame_held (held s)).h) s ≡ (frame_held (held s)).shear ++ (frame_held (held s)).shear_x)
   sound = frame-words s R.limits R.sound
 
-  pub row_by : h ≡ (frame_held (held s)).h
-  row_by = h-held ∙ sound.1
-
-  pub wide_by : (w : ℕ) → w ≡ word_at s 3 → w ≡ (frame_held (held s)).w
+  pub w-is : get_or s 3 0 ≡ (frame_held (held s)).w
   unfolding held
-  wide_by w e = e ∙ sound.0
+  w-is = sound.0
 
-  pub read-room : (0 < pw) × (0 < ph) × (pw ≤ 8192) × (ph ≤ 8192) × (64 + (pw + h) ≤ length s)
+  pub h-is : get_or s 4 0 ≡ (frame_held (held s)).h
+  unfolding held
+  h-is = sound.1
+
+  pub read-room : (0 < get_or s 1 0) × (0 < get_or s 2 0) × (get_or s 1 0 ≤ 8192) × (get_or s 2 0 ≤ 8192) × (64 + (get_or s 1 0 + get_or s 4 0) ≤ length s)
   read-room =
-      let a = pw-by in
-      let b = ph-by in
-      let c = row_by in
+      let a = pw-is in
+      let b = ph-is in
+      let c = h-is in
       let S = few.sides in
       let r = R.room in
       (let q = S.wide in omega arith, let q = S.high in omega arith, let q = S.w_fits in omega arith, let q = S.h_fits in omega arith, omega arith)
 
-  first_part : take pw (drop 64 s) ≡ (frame_held (held s)).shear
-  first_part = ap (λ z. take z (drop 64 s)) pw-by ∙ first-held s R.limits R.sound
-
-  second-part : take h (drop (64 + pw) s) ≡ (frame_held (held s)).shear_x
-  second-part = (λ i. take (row_by i) (drop (64 + pw-by i) s)) ∙ second-held s R.limits R.sound
-
-  -- the frame of the two parts
-  pub frame-of-parts : (w : ℕ) → w ≡ (frame_held (held s)).w → frame_of pw ph (take pw (drop 64 s)) (take h (drop (64 + pw) s)) w h ≡ frame_held (held s)
-  frame-of-parts w ew =
-      (λ i. frame_of (pw-by i) (ph-by i) (first_part i) (second-part i) (ew i) (row_by i))
-      ∙ sym (frame-is-frame_of (held s).page_w (held s).page_h (held s).slope few.sides few.within)
-
-  -- .. as the code takes them
-  pub frame-of-code : (w : ℕ) → w ≡ (frame_held (held s)).w
-      → frame_of pw ph (take (64 + pw - 64) (drop 64 s)) (take (64 + pw + h - (64 + pw)) (drop (64 + pw) s)) w h ≡ frame_held (held s)
-  frame-of-code w ew =
-      let a : 64 + pw - 64 ≡ pw = omega arith in
-      let b : 64 + pw + h - (64 + pw) ≡ h = omega arith in
-      (λ i. frame_of pw ph (take (a i) (drop 64 s)) (take (b i) (drop (64 + pw) s)) w h) ∙ frame-of-parts w ew
-
-  pub plane-fits : (w : ℕ) → w ≡ (frame_held (held s)).w → (gray out : List ℕ) → (not (eqb (length gray) ((held s).page_w * (held s).page_h)) || ltb (length out) (dots_held (held s))) ≡ false
-      → PlaneFits (frame_of pw ph (take (64 + pw - 64) (drop 64 s)) (take (64 + pw + h - (64 + pw)) (drop (64 + pw) s)) w h) gray out
-  plane-fits w ew gray out e =
-      let z = neither _ _ e in
-      subst (λ (f : Frame). PlaneFits f gray out) (sym (frame-of-code w ew))
-      (frame-plane-fits (held s).page_w (held s).page_h (held s).slope few.sides few.within gray out (eqb-true _ _ (not-false _ z.0)) (ltb-false _ _ z.1))
-    where
-      neither : (a b : Bool) → (a || b) ≡ false → (a ≡ false) × (b ≡ false)
-      neither false false e = (refl, refl)
-      neither false true e = absurd (true≢false e)
-      neither true b e = absurd (true≢false e)
-
-  pub rows_inside : (r : Rect) → not (box_inside (frame_held (held s)) r) ≡ false → (r.y0 < h) × (r.y1 < h)
+  pub rows_inside : (r : Rect) → not (box_inside (frame_held (held s)) r) ≡ false → (r.y0 < get_or s 4 0) × (r.y1 < get_or s 4 0)
   rows_inside r e =
       let f = frame_held (held s) in
       let a = leb r.x0 r.x1 in
@@ -127,30 +93,46 @@ module _ (s : List ℕ) (lacking bad : Bool) (R : Readable s lacking bad) (pw ph
       let t = not-false _ e in
       let low = leb-true r.y0 r.y1 (and_right (a && b) c (and_left (a && b && c) d t)) in
       let last = ltb-true r.y1 f.h (and_right (a && b && c) d t) in
-      let q = row_by in
+      let q = h-is in
       (omega arith, omega arith)
 
-  pub box-is : (r b : Rect) → ((w k : ℕ) → b ≡ rect_to_page (frame_of pw ph (take pw (drop 64 s)) (take h (drop (64 + pw) s)) w k) r) → b ≡ rect_to_page (frame_held (held s)) r
-  box-is r b e = e (frame_held (held s)).w h ∙ ap (λ (f : Frame). rect_to_page f r) (frame-of-parts (frame_held (held s)).w refl)
+  -- the shears that the code cuts out
+  module _ (a b : List ℕ) (ea : a ≡ take (get_or s 1 0) (drop 64 s)) (eb : b ≡ take (get_or s 4 0) (drop (64 + get_or s 1 0) s)) where
+    pub frame-cut : frame_of (get_or s 1 0) (get_or s 2 0) a b (get_or s 3 0) (get_or s 4 0) ≡ frame_held (held s)
+    frame-cut =
+        let p : take (get_or s 1 0) (drop 64 s) ≡ (frame_held (held s)).shear = ap (λ z. take z (drop 64 s)) pw-is ∙ first-held s R.limits R.sound in
+        let q : take (get_or s 4 0) (drop (64 + get_or s 1 0) s) ≡ (frame_held (held s)).shear_x = (λ i. take (h-is i) (drop (64 + pw-is i) s)) ∙ second-held s R.limits R.sound in
+        (λ i. frame_of (pw-is i) (ph-is i) ((ea ∙ p) i) ((eb ∙ q) i) (w-is i) (h-is i))
+        ∙ sym (frame-is-frame_of (held s).page_w (held s).page_h (held s).slope few.sides few.within)
 
-  clamp-low : (a n : ℕ) → n ≤ 8192 → min a (n - 1) ≤ 32767
-  clamp-low a n l = omega arith
+    pub frame-by : (q : Sides) → q ≡ record { page_w = get_or s 1 0; page_h = get_or s 2 0; w = get_or s 3 0; h = get_or s 4 0 } → frame_of q.page_w q.page_h a b q.w q.h ≡ frame_held (held s)
+    frame-by q e = ap (λ (q : Sides). frame_of q.page_w q.page_h a b q.w q.h) e ∙ frame-cut
 
-  pub box-small : (r b : Rect) → ((w k : ℕ) → b ≡ rect_to_page (frame_of pw ph (take pw (drop 64 s)) (take h (drop (64 + pw) s)) w k) r)
-      → (b.x0 ≤ 32767) × (b.y0 ≤ 32767) × (b.x1 ≤ 32767) × (b.y1 ≤ 32767)
-  unfolding rect_to_page
-  box-small r b e =
-      let z = read-room in
-      subst (λ (q : Rect). (q.x0 ≤ 32767) × (q.y0 ≤ 32767) × (q.x1 ≤ 32767) × (q.y1 ≤ 32767)) (sym (e 0 0))
-      (clamp-low _ pw z.2, clamp-low _ ph z.3, clamp-low _ pw z.2, clamp-low _ ph z.3)
+    pub plane-fits : (gray out : List ℕ) → (not (eqb (length gray) ((held s).page_w * (held s).page_h)) || ltb (length out) (dots_held (held s))) ≡ false
+        → PlaneFits (frame_of (get_or s 1 0) (get_or s 2 0) a b (get_or s 3 0) (get_or s 4 0)) gray out
+    plane-fits gray out e =
+        let z = neither _ _ e in
+        subst (λ (f : Frame). PlaneFits f gray out) (sym frame-cut)
+        (frame-plane-fits (held s).page_w (held s).page_h (held s).slope few.sides few.within gray out (eqb-true _ _ (not-false _ z.0)) (ltb-false _ _ z.1))
+      where
+        neither : (a b : Bool) → (a || b) ≡ false → (a ≡ false) × (b ≡ false)
+        neither false false e = (refl, refl)
+        neither false true e = absurd (true≢false e)
+        neither true b e = absurd (true≢false e)
 
--- the parts of a box as the code takes them
-pub box-named : (s : List ℕ) (pw ph h : ℕ) (r b : Rect) → ((w k : ℕ) → b ≡ rect_to_page (frame_of pw ph (take (64 + pw - 64) (drop 64 s)) (take (64 + pw + h - (64 + pw)) (drop (64 + pw) s)) w k) r)
-    → (w k : ℕ) → b ≡ rect_to_page (frame_of pw ph (take pw (drop 64 s)) (take h (drop (64 + pw) s)) w k) r
-box-named s pw ph h r b e w k =
-    let a : 64 + pw - 64 ≡ pw = omega arith in
-    let c : 64 + pw + h - (64 + pw) ≡ h = omega arith in
-    e w k ∙ (λ i. rect_to_page (frame_of pw ph (take (a i) (drop 64 s)) (take (c i) (drop (64 + pw) s)) w k) r)
+    module _ (r m : Rect) (e : (w k : ℕ) → m ≡ rect_to_page (frame_of (get_or s 1 0) (get_or s 2 0) a b w k) r) where
+      pub box-is : m ≡ rect_to_page (frame_held (held s)) r
+      box-is = e (get_or s 3 0) (get_or s 4 0) ∙ ap (λ (f : Frame). rect_to_page f r) frame-cut
+
+      clamp-low : (a n : ℕ) → n ≤ 8192 → min a (n - 1) ≤ 32767
+      clamp-low a n l = omega arith
+
+      pub box-small : (m.x0 ≤ 32767) × (m.y0 ≤ 32767) × (m.x1 ≤ 32767) × (m.y1 ≤ 32767)
+      unfolding rect_to_page
+      box-small =
+          let z = read-room in
+          subst (λ (q : Rect). (q.x0 ≤ 32767) × (q.y0 ≤ 32767) × (q.x1 ≤ 32767) × (q.y1 ≤ 32767)) (sym (e 0 0))
+          (clamp-low _ (get_or s 1 0) z.2, clamp-low _ (get_or s 2 0) z.3, clamp-low _ (get_or s 1 0) z.2, clamp-low _ (get_or s 2 0) z.3)
 
 -- ---- four signed numbers over the front
 
@@ -185,8 +167,8 @@ frame-written s out t u x y l ex ey et eu =
 pub frame-read : (s : List ℕ) (lacking bad : Bool) → Readable s lacking bad → frame_put s ≡ frame_words (held s)
 unfolding held
 frame-read s lacking bad R =
-    let w = wide_by s lacking bad R (word_at s 1) (word_at s 2) (word_at s 4) refl refl refl (word_at s 3) refl in
-    let h = row_by s lacking bad R (word_at s 1) (word_at s 2) (word_at s 4) refl refl refl in
+    let w = w-is s lacking bad R in
+    let h = h-is s lacking bad R in
     λ i. get_or s 1 0 ∷ get_or s 2 0 ∷ w i ∷ h i ∷ low_word (float_at s 6) ∷ high_word (float_at s 6) ∷ low_word (float_at s 8) ∷ high_word (float_at s 8) ∷ []
 
 -- ---- any reading that needs only a levelled page

@@ -9,8 +9,7 @@ use borrow.Author.Tests.{ltb-true}
 use lib.Dec.{lit≤, is_le, ltb}
 use lib.IntN.{ℤ, pos, negsuc, sub_ℕ}
 use lib.Ieee.{Float}
-use lib.ListN.{length, get_or, take, drop, set, length-drop}
-use lib.Seq.{length-take-le}
+use lib.ListN.{length, get_or, take, drop, set}
 use mir.Syntax.{Width, w32, w64}
 use mir.Val.{SFits, to_z, of_z, hbits}
 use mir.Facts.{to_z-of_z}
@@ -126,30 +125,11 @@ module _ (s : List ℕ) (y : ℕ) (M : Mappable s y) where
         sub_small y _ (let a = F.1 in omega arith) (le_trans (shear-low (held s).page_w (held s).page_h (held s).slope _) (let a = F.1 in omega arith)),
       )
 
--- the parts as the code takes them
-pub parts-mapped : (s : List ℕ) (pw h y : ℕ) → 64 + (pw + h) ≤ length s → y < h
-    → (length (take (64 + pw - 64) (drop 64 s)) ≡ pw) × (y < length (take (64 + pw + h - (64 + pw)) (drop (64 + pw) s)))
-parts-mapped s pw h y r l =
-    let a : 64 + pw - 64 ≡ pw = omega arith in
-    let b : 64 + pw + h - (64 + pw) ≡ h = omega arith in (
-      ap (λ z. length (take z (drop 64 s))) a ∙ length-take-le pw (drop 64 s) (let d = length-drop 64 s in omega arith),
-      subst (λ z. y < length (take z (drop (64 + pw) s))) (sym b) (let e = length-take-le h (drop (64 + pw) s) (let d = length-drop (64 + pw) s in omega arith) in omega arith),
-    )
-
-pub parts-named : (s : List ℕ) (pw h x y : ℕ) (r : Point) → ((ph w k : ℕ) → r ≡ to_page (frame_of pw ph (take (64 + pw - 64) (drop 64 s)) (take (64 + pw + h - (64 + pw)) (drop (64 + pw) s)) w k) x y)
-    → (ph w k : ℕ) → r ≡ to_page (frame_of pw ph (take pw (drop 64 s)) (take h (drop (64 + pw) s)) w k) x y
-parts-named s pw h x y r e ph w k =
-    let a : 64 + pw - 64 ≡ pw = omega arith in
-    let b : 64 + pw + h - (64 + pw) ≡ h = omega arith in
-    e ph w k ∙ (λ i. to_page (frame_of pw ph (take (a i) (drop 64 s)) (take (b i) (drop (64 + pw) s)) w k) x y)
-
--- the point as the code finds it
-module _ (s : List ℕ) (x y : ℕ) (M : Mappable s y) (lx : x < (frame_held (held s)).w) (pw h : ℕ) (ep : pw ≡ get_or s 1 0) (eh : h ≡ get_or s 4 0) (r : Point)
-    (e : (ph w k : ℕ) → r ≡ to_page (frame_of pw ph (take pw (drop 64 s)) (take h (drop (64 + pw) s)) w k) x y) where
+-- the point as the code finds it, by the shears that it cuts out
+module _ (s : List ℕ) (x y : ℕ) (M : Mappable s y) (lx : x < (frame_held (held s)).w) (a b : List ℕ) (ea : a ≡ take (get_or s 1 0) (drop 64 s)) (eb : b ≡ take (get_or s 4 0) (drop (64 + get_or s 1 0) s)) (r : Point)
+    (e : (ph w k : ℕ) → r ≡ to_page (frame_of (get_or s 1 0) ph a b w k) x y) where
   pub point-is : r ≡ to_page (frame_held (held s)) x y
-  point-is =
-      mapped-is s y M x r (take (get_or s 1 0) (drop 64 s)) (take (get_or s 4 0) (drop (64 + get_or s 1 0) s)) refl refl
-      (λ ph w k. e ph w k ∙ (λ i. to_page (frame_of (ep i) ph (take (ep i) (drop 64 s)) (take (eh i) (drop (64 + ep i) s)) w k) x y))
+  point-is = mapped-is s y M x r a b ea eb e
 
   pub point-small : Coordinate r.x × Coordinate r.y
   point-small = subst (λ (p : Point). Coordinate p.x × Coordinate p.y) (sym point-is) (mapped-small s y M x lx)

@@ -91,9 +91,6 @@ module _ (p : LayoutParams) (w h : ℕ) (m : List ℕ) where
   box-at i l = sym (mapped_at (λ (l : SmoothedLine). l.bbox) (segments.lines_in p w h m) i _ no_rect (let e = lines_long p w h m in omega arith))
 
   -- the words of the lines
-  line_word : ℕ → ℕ → ℕ
-  line_word i j = get_or (encoded line_record (layout p w h m).lines) (i * 8 + j) 0
-
   centre-at : (i : ℕ) → i < length (layout p w h m).lines → centre_at (encoded line_record (layout p w h m).lines) i ≡ (get_or B i no_rect).y0 + (get_or B i no_rect).y1
   centre-at i l =
       let r : (get_or (layout p w h m).lines i no_text).bbox ≡ get_or B i no_rect = ap (λ (t : TextLine). t.bbox) (line_at i l) ∙ box-at i l in

@@ -1,8 +1,8 @@
 -- Segmenting: the sides that an accepted store holds, and what the call leaves.
-use mathlib.Core.Path.{◌≡◌, refl, sym, ap, ◌∙◌, subst}
+use mathlib.Core.Path.{◌≡◌, sym, ap, ◌∙◌, subst}
 use mathlib.Core.Bool.{Bool, true, false, cond, ◌||◌}
 use mathlib.Core.List.{List, ◌++◌}
-use Prim.Native.Nat.{ℕ, zero, suc, ◌+◌, ◌-◌, ◌*◌, ◌≤◌, ◌<◌}
+use Prim.Native.Nat.{ℕ, ◌+◌, ◌-◌, ◌*◌, ◌≤◌, ◌<◌}
 use native.Mathlib.Nat.{le_refl}
 use native.Mathlib.Omega.{arith}
 use borrow.Author.Tests.{ne_eqb, not-false}
@@ -25,7 +25,7 @@ use Rattle.segmenting.specs.rules.Answers.{segment_plane, segment_outcome_by, fi
 use Rattle.segmenting.proofs.PutLaws.{part_length}
 use Rattle.segmenting.specs.rules.Results.{result_words, results_left}
 use Rattle.segmenting.specs.rules.Figures.{figures_of}
-use Rattle.std.specs.Prelude.{Result, Option, Some, None}
+use Rattle.std.specs.Prelude.{Result, Some, None}
 use Rattle.memory.specs.declared.refusals.Refusal.{Refusal}
 use Rattle.memory.specs.rules.Refusals.{answer_number}
 use Rattle.segmenting.specs.declared.results.Segmentation.{Segmentation}

@@ -26,7 +26,7 @@ use Rattle.judging.specs.stages.Judged.{words_ok}
 use Rattle.segmenting.specs.stages.Places.{result_places}
 use Rattle.segmenting.specs.declared.places.ResultPlaces.{ResultPlaces}
 use Rattle.store.specs.declared.lists.RecordList.{RecordList}
-use Rattle.store.specs.stages.Areas.{which_of, place_in, area_at, record_words, count_at, list_start, list_size, list_read, ListsAt}
+use Rattle.store.specs.stages.Areas.{place_in, area_at, record_words, count_at, list_start, list_size, list_read, ListsAt}
 use Rattle.judging.proofs.PartLaws.{length_part}
 use Rattle.judging.proofs.LimitLaws.{limited}
 use Rattle.judging.proofs.ResultLaws.{figure-word, few}

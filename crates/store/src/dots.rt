@@ -9,8 +9,8 @@ ghost use Rattle.store.specs.rules.Readings.Output.{none, words};
 ghost use Rattle.store.specs.rules.Outcomes.{told, result_told};
 ghost use Rattle.memory.specs.rules.Refusals.{answer_number, answer_value};
 
-use judging::{FRAME_HEIGHT, FRAME_WIDTH, HEADER, PAGE_HEIGHT, PAGE_WIDTH, judge_reading};
-use levelling::Sides;
+use crate::held_frames::held_frame;
+use judging::{FRAME_HEIGHT, FRAME_WIDTH, judge_reading};
 use memory::{Rect, Refusal};
 
 // A kind outside 1 to 5, or a box with a corner outside the frame or reversed.
@@ -25,24 +25,13 @@ fn counted(store: &[u32], kinds: &[u8], kind: u8, r: Rect) -> u32
     requires { FrameHere store.now kinds.now }
     ensures { result ≡ count_if (listed (words_frame store.now) (words_kinds store.now kinds.now) kind r) (get_or store.now 1 0 * get_or store.now 2 0) }
 {
-    let page_w = store[PAGE_WIDTH] as usize;
-    let page_h = store[PAGE_HEIGHT] as usize;
-    let w = store[FRAME_WIDTH] as usize;
-    let h = store[FRAME_HEIGHT] as usize;
-    let start = HEADER + page_w;
-    let end = start + h;
-    let dots = w * h;
-    let sides = Sides {
-        page_w: page_w,
-        page_h: page_h,
-        w: w,
-        h: h,
-    };
+    let frame = held_frame(store);
+    let dots = frame.sides.w * frame.sides.h;
     grouping::count_dots(
-        &store[HEADER..start],
-        &store[start..end],
+        frame.shear,
+        frame.shear_x,
         &kinds[..dots],
-        sides,
+        frame.sides,
         kind,
         r,
     ) as u32
@@ -54,24 +43,13 @@ fn written(store: &[u32], kinds: &[u8], kind: u8, r: Rect, out: &mut [u32])
     requires room { 2 * count_if (listed (words_frame store.now) (words_kinds store.now kinds.now) kind r) (get_or store.now 1 0 * get_or store.now 2 0) ≤ length out.old }
     ensures { out.new ≡ over (dot_list (words_frame store.now) (words_kinds store.now kinds.now) kind r) out.old }
 {
-    let page_w = store[PAGE_WIDTH] as usize;
-    let page_h = store[PAGE_HEIGHT] as usize;
-    let w = store[FRAME_WIDTH] as usize;
-    let h = store[FRAME_HEIGHT] as usize;
-    let start = HEADER + page_w;
-    let end = start + h;
-    let dots = w * h;
-    let sides = Sides {
-        page_w: page_w,
-        page_h: page_h,
-        w: w,
-        h: h,
-    };
+    let frame = held_frame(store);
+    let dots = frame.sides.w * frame.sides.h;
     grouping::write_dots(
-        &store[HEADER..start],
-        &store[start..end],
+        frame.shear,
+        frame.shear_x,
         &kinds[..dots],
-        sides,
+        frame.sides,
         kind,
         r,
         out,

@@ -9,10 +9,8 @@ ghost use Rattle.store.specs.rules.Readings.Output.{words};
 ghost use Rattle.store.specs.rules.Outcomes.{told, level_told};
 ghost use Rattle.store.specs.stages.Areas.{frame_put};
 
-use judging::{
-    FRAME_HEIGHT, FRAME_WIDTH, PAGE_HEIGHT, PAGE_WIDTH, SKEW, SLOPE, frame_held, judge_frame,
-    level_head,
-};
+use crate::held_frames::level_size;
+use judging::{FRAME_HEIGHT, FRAME_WIDTH, PAGE_HEIGHT, PAGE_WIDTH, SKEW, SLOPE, judge_frame};
 use memory::{Refusal, float_at, put_float};
 
 // How many words they take.
@@ -22,8 +20,7 @@ const FRAME_LENGTH: usize = 8;
 fn judge_figures(store: &[u32], out: usize) -> Result<(), Refusal>
     ensures { answer_number result ≡ level_judged store.now (ltb out frame_length) false }
 {
-    level_head(store)?;
-    let size = frame_held(store);
+    let size = level_size(store)?;
     judge_frame(store, size.w, size.h, out < FRAME_LENGTH, false)
 }
 

@@ -11,10 +11,10 @@ ghost use Rattle.store.specs.rules.Outcomes.{left, level_left};
 ghost use Rattle.memory.specs.rules.Refusals.{answer_number};
 
 use judging::{
-    CAPACITY, FRAME_HEIGHT, FRAME_WIDTH, HEADER, LEVELLED, PAGE_HEIGHT, PAGE_WIDTH, STATE,
-    judge_leaf, judge_place,
+    CAPACITY, FRAME_HEIGHT, FRAME_WIDTH, HEADER, LEVELLED, PAGE_HEIGHT, PAGE_WIDTH, SKEW, SLOPE,
+    STATE, judge_leaf, judge_place,
 };
-use memory::{Refusal, bits_of, copy_over};
+use memory::{Refusal, copy_over, put_float};
 use params::LayoutParams;
 
 // What levelling is handed beside mask and sheet (01, part 3).
@@ -59,18 +59,14 @@ fn write_head(a: Head, store: &mut [u32])
     ensures { store.new ≡ over (1 ∷ head_words a.page_w a.page_h a.w a.h a.capacity a.skew a.slope) store.old }
 {
     let mut head = [0u32; 10];
-    let skew = bits_of(a.skew);
-    let slope = bits_of(a.slope);
     head[STATE] = LEVELLED;
     head[PAGE_WIDTH] = a.page_w;
     head[PAGE_HEIGHT] = a.page_h;
     head[FRAME_WIDTH] = a.w;
     head[FRAME_HEIGHT] = a.h;
     head[CAPACITY] = a.capacity;
-    head[6] = (skew % 4294967296) as u32;
-    head[7] = (skew / 4294967296) as u32;
-    head[8] = (slope % 4294967296) as u32;
-    head[9] = (slope / 4294967296) as u32;
+    put_float(&mut head, SKEW, a.skew);
+    put_float(&mut head, SLOPE, a.slope);
     copy_over(store, &head);
 }
 
@@ -97,17 +93,6 @@ fn move_page(mask: &[u8], a: Head, shears: &mut [u32], ink: &mut [u8])
     levelling::level_plane(mask, 0, sides, &shears[0..pw], &shears[pw..end], ink);
 }
 
-// Both shears behind the header, and the mask moved by them.
-fn move_mask(mask: &[u8], a: Head, store: &mut [u32], ink: &mut [u8])
-    requires sides { PageSides a.page_w a.page_h }
-    requires slope { WithinOne a.slope }
-    requires frame_sides { (a.w ≡ (frame a.page_w a.page_h a.slope).w) × (a.h ≡ (frame a.page_w a.page_h a.slope).h) }
-    requires room { (length mask.now ≡ a.page_w * a.page_h) × (header_words + (a.page_w + a.h) ≤ length store.old) × (a.w * a.h ≤ length ink.old) }
-    ensures { (store.new ≡ put_at header_words ((frame a.page_w a.page_h a.slope).shear ++ (frame a.page_w a.page_h a.slope).shear_x) store.old) × (ink.new ≡ over (levelled (frame a.page_w a.page_h a.slope) 0 mask.now) ink.old) }
-{
-    move_page(mask, a, &mut store[HEADER..], ink);
-}
-
 // Header, shears and ink plane of a leaf that is accepted.
 fn write_leaf(mask: &[u8], a: Head, store: &mut [u32], ink: &mut [u8])
     requires sides { PageSides a.page_w a.page_h }
@@ -117,7 +102,7 @@ fn write_leaf(mask: &[u8], a: Head, store: &mut [u32], ink: &mut [u8])
     ensures { (store.new ≡ put_at header_words ((frame a.page_w a.page_h a.slope).shear ++ (frame a.page_w a.page_h a.slope).shear_x) (over (1 ∷ head_words a.page_w a.page_h a.w a.h a.capacity a.skew a.slope) store.old)) × (ink.new ≡ over (levelled (frame a.page_w a.page_h a.slope) 0 mask.now) ink.old) }
 {
     write_head(a, store);
-    move_mask(mask, a, store, ink);
+    move_page(mask, a, &mut store[HEADER..], ink);
 }
 
 // Levels a mask: the refusal, or the leaf in the store and the ink plane.

@@ -5,6 +5,7 @@ mod clearing;
 mod dots;
 mod figures;
 mod frames;
+mod held_frames;
 mod layouts;
 mod leaves;
 mod lists;

@@ -1,27 +1,23 @@
 // Readings that need only a levelled page: a gray plane moved into the frame, and the way back for a box.
-ghost use Rattle.std.specs.Prelude.{not, false, ◌||◌, ◌≡◌, ℕ, ◌+◌, ◌*◌, ◌≤◌, ◌<◌, eqb, ltb, length, take, drop};
+ghost use Rattle.std.specs.Prelude.{not, false, ◌||◌, ◌≡◌, ◌*◌, ◌≤◌, eqb, ltb, length};
 ghost use Rattle.memory.specs.rules.Words.{over};
-ghost use Rattle.levelling.specs.rules.Frames.{frame_of};
-ghost use Rattle.levelling.specs.rules.Mapping.{rect_to_page};
 ghost use Rattle.levelling.specs.rules.Planes.{level_gray};
-ghost use Rattle.judging.specs.rules.Header.{header_words, held, frame_held, dots_held};
+ghost use Rattle.judging.specs.rules.Header.{held, frame_held, dots_held};
 ghost use Rattle.judging.specs.stages.Judged.{level_judged};
 ghost use Rattle.store.specs.rules.Readings.{LevelReading, box_inside, filled, rect_numbers};
 ghost use Rattle.store.specs.rules.Readings.Output.{words, integers};
 ghost use Rattle.store.specs.rules.Outcomes.{told, level_told};
 ghost use Rattle.memory.specs.rules.Refusals.{answer_number};
 
-use judging::{
-    FRAME_HEIGHT, FRAME_WIDTH, HEADER, PAGE_HEIGHT, PAGE_WIDTH, frame_held, judge_frame, level_head,
-};
+use crate::held_frames::{held_frame, level_size};
+use judging::{PAGE_HEIGHT, PAGE_WIDTH, judge_frame};
 use memory::{Rect, Refusal, area, word_at};
 
 // All that can refuse a gray plane of so many bytes.
 fn judge_gray(store: &[u32], gray: usize, out: usize) -> Result<(), Refusal>
     ensures { answer_number result ≡ level_judged store.now (not (eqb gray ((held store.now).page_w * (held store.now).page_h)) || ltb out (dots_held (held store.now))) false }
 {
-    level_head(store)?;
-    let size = frame_held(store);
+    let size = level_size(store)?;
     let w = size.w;
     let h = size.h;
     let page = area(word_at(store, PAGE_WIDTH), word_at(store, PAGE_HEIGHT));
@@ -34,26 +30,8 @@ fn put_gray(store: &[u32], gray: &[u8], out: &mut [u8])
     requires { level_judged store.now (not (eqb (length gray.now) ((held store.now).page_w * (held store.now).page_h)) || ltb (length out.old) (dots_held (held store.now))) false ≡ 0 }
     ensures { out.new ≡ over (level_gray (frame_held (held store.now)) gray.now) out.old }
 {
-    let pw = word_at(store, PAGE_WIDTH) as usize;
-    let ph = word_at(store, PAGE_HEIGHT) as usize;
-    let w = word_at(store, FRAME_WIDTH) as usize;
-    let h = word_at(store, FRAME_HEIGHT) as usize;
-    let start = HEADER + pw;
-    let end = start + h;
-    let sides = levelling::Sides {
-        page_w: pw,
-        page_h: ph,
-        w,
-        h,
-    };
-    levelling::level_plane(
-        gray,
-        255,
-        sides,
-        &store[HEADER..start],
-        &store[start..end],
-        out,
-    );
+    let frame = held_frame(store);
+    levelling::level_plane(gray, 255, frame.sides, frame.shear, frame.shear_x, out);
 }
 
 // Moves a gray plane of the page into the frame: the refusal, or the plane; dots that the frame adds are 255.
@@ -72,22 +50,11 @@ const RECT_LENGTH: usize = 4;
 fn judge_box(store: &[u32], r: Rect, out: usize) -> Result<(), Refusal>
     ensures { answer_number result ≡ level_judged store.now (ltb out 4) (not (box_inside (frame_held (held store.now)) r)) }
 {
-    level_head(store)?;
-    let size = frame_held(store);
+    let size = level_size(store)?;
     let w = size.w;
     let h = size.h;
     let inside = (r.x0 <= r.x1) & (r.x1 < w) & (r.y0 <= r.y1) & (r.y1 < h);
     judge_frame(store, w, h, out < RECT_LENGTH, !inside)
-}
-
-// The page box of a frame box, by the shears that stand behind the header.
-fn mapped_box(store: &[u32], page_w: u32, page_h: u32, h: u32, r: Rect) -> Rect
-    requires { (0 < page_w) × (0 < page_h) × (r.y0 < h) × (r.y1 < h) × (header_words + (page_w + h) ≤ length store.now) }
-    ensures { (w k : ℕ) → result ≡ rect_to_page (frame_of page_w page_h (take page_w (drop header_words store.now)) (take h (drop (header_words + page_w) store.now)) w k) r }
-{
-    let start = HEADER + page_w as usize;
-    let end = start + h as usize;
-    levelling::rect_to_page(&store[HEADER..start], &store[start..end], page_w, page_h, r)
 }
 
 // The four numbers of a box over the front of the numbers lent.
@@ -106,9 +73,10 @@ pub fn rect_to_page(store: &[u32], r: Rect, rect: &mut [i32]) -> Result<(), Refu
     ensures { told (answer_number result) 0 (integers rect.new) ≡ level_told (LevelReading.box r rect.old) store.now }
 {
     judge_box(store, r, rect.len())?;
-    let page_w = word_at(store, PAGE_WIDTH);
-    let page_h = word_at(store, PAGE_HEIGHT);
-    let h = word_at(store, FRAME_HEIGHT);
-    write_box(mapped_box(store, page_w, page_h, h, r), rect);
+    let frame = held_frame(store);
+    let page_w = store[PAGE_WIDTH];
+    let page_h = store[PAGE_HEIGHT];
+    let page_box = levelling::rect_to_page(frame.shear, frame.shear_x, page_w, page_h, r);
+    write_box(page_box, rect);
     Ok(())
 }

@@ -29,7 +29,7 @@ pub fn pitch_read(store: &[u32]) -> u32
     )
 }
 
-// Their twenty-line measure.
+// Their twenty-line measure. Beside `pitch_read` and not one with it: a closure for the call that differs would need clauses with all that it asks.
 pub fn twenty_read(store: &[u32]) -> u32
     requires { LinesAt store.now }
     ensures { result ≡ twenty_read store.now }

@@ -1,8 +1,6 @@
 // The way back to the page from a store: a point.
-ghost use Rattle.std.specs.Prelude.{not, ◌&&◌, ◌≡◌, ℕ, ◌+◌, ◌≤◌, ◌<◌, ltb, length, take, drop};
-ghost use Rattle.judging.specs.rules.Header.{header_words, held, frame_held};
-ghost use Rattle.levelling.specs.rules.Frames.{frame_of};
-ghost use Rattle.levelling.specs.rules.Mapping.{to_page};
+ghost use Rattle.std.specs.Prelude.{not, ◌&&◌, ◌≡◌, ◌≤◌, ltb, length};
+ghost use Rattle.judging.specs.rules.Header.{held, frame_held};
 ghost use Rattle.store.specs.rules.Readings.{filled, point_numbers, point_length, LevelReading};
 ghost use Rattle.judging.specs.stages.Judged.{level_judged};
 ghost use Rattle.store.specs.rules.Readings.Output.{integers};
@@ -10,9 +8,10 @@ ghost use Rattle.store.specs.rules.Outcomes.{told, level_told};
 ghost use Rattle.memory.specs.rules.Refusals.{answer_number};
 ghost use Rattle.store.specs.stages.Points.{Coordinate};
 
-use judging::{FRAME_HEIGHT, HEADER, PAGE_WIDTH, frame_held, judge_frame, level_head};
+use crate::held_frames::{held_frame, level_size};
+use judging::{PAGE_WIDTH, judge_frame};
 use levelling::Point;
-use memory::{Refusal, word_at};
+use memory::Refusal;
 
 // How many numbers a point takes.
 const POINT_LENGTH: usize = 2;
@@ -21,8 +20,7 @@ const POINT_LENGTH: usize = 2;
 fn judge_point(store: &[u32], x: u32, y: u32, out: usize) -> Result<(), Refusal>
     ensures { answer_number result ≡ level_judged store.now (ltb out point_length) (not (ltb x (frame_held (held store.now)).w && ltb y (frame_held (held store.now)).h)) }
 {
-    level_head(store)?;
-    let size = frame_held(store);
+    let size = level_size(store)?;
     let w = size.w;
     let h = size.h;
     judge_frame(store, w, h, out < POINT_LENGTH, !((x < w) & (y < h)))
@@ -37,23 +35,13 @@ fn put_point(p: Point, point: &mut [i32])
     point[1] = p.y as i32;
 }
 
-// The page point of a frame point, by the shears that stand behind the header.
-fn mapped(store: &[u32], page_w: u32, h: u32, x: u32, y: u32) -> Point
-    requires { (0 < page_w) × (y < h) × (header_words + (page_w + h) ≤ length store.now) }
-    ensures { (page_h w k : ℕ) → result ≡ to_page (frame_of page_w page_h (take page_w (drop header_words store.now)) (take h (drop (header_words + page_w) store.now)) w k) x y }
-{
-    let start = HEADER + page_w as usize;
-    let end = start + h as usize;
-    levelling::to_page(&store[HEADER..start], &store[start..end], page_w, x, y)
-}
-
 // Maps a frame point: the refusal, or the page's column and row, which may lie outside the page.
 pub fn to_page(store: &[u32], x: u32, y: u32, point: &mut [i32]) -> Result<(), Refusal>
     ensures { told (answer_number result) 0 (integers point.new) ≡ level_told (LevelReading.point x y point.old) store.now }
 {
     judge_point(store, x, y, point.len())?;
-    let page_w = word_at(store, PAGE_WIDTH);
-    let h = word_at(store, FRAME_HEIGHT);
-    put_point(mapped(store, page_w, h, x, y), point);
+    let frame = held_frame(store);
+    let p = levelling::to_page(frame.shear, frame.shear_x, store[PAGE_WIDTH], x, y);
+    put_point(p, point);
     Ok(())
 }

@@ -1,8 +1,11 @@
 -- The lists of a store by their places: each is an area behind the shears, a record width and a word of the header that counts its records.
-use Rattle.std.specs.Prelude.{cond, List, [], ◌∷◌, ℕ, ◌+◌, ◌*◌, ◌≤◌, ◌<◌, eqb, length, get_or, take, drop}
+use Rattle.std.specs.Prelude.{Bool, true, Result, Ok, Err, ◌≡◌, List, [], ◌∷◌, ℕ, ◌+◌, ◌*◌, ◌≤◌, ◌<◌, length, get_or, take, drop}
 use Rattle.memory.specs.rules.Floats.{float_at}
 use Rattle.memory.specs.rules.Limits.{max_page_side, max_frame_width, max_frame_height, max_capacity}
+use Rattle.memory.specs.declared.refusals.Refusal.{Refusal}
+use Rattle.memory.specs.rules.Refusals.{number}
 use Rattle.levelling.specs.rules.Frames.{Frame, frame_of}
+use Rattle.levelling.specs.declared.frame.FrameSize.{FrameSize}
 use Rattle.grouping.specs.stages.Dots.{FrameWords, OneWay}
 use Rattle.sorting.specs.rules.Units.{median}
 use Rattle.grouping.specs.rules.Readings.{twenty_of, summarized}
@@ -15,7 +18,9 @@ use Rattle.grouping.specs.rules.BlockRecords.{block_words, column_words}
 use Rattle.segmenting.specs.rules.Figures.{figures_length}
 use Rattle.segmenting.specs.stages.Places.{result_places}
 use Rattle.segmenting.specs.declared.places.ResultPlaces.{ResultPlaces}
-use Rattle.judging.specs.rules.Header.{low_word, high_word, part, figures_at, lists_at}
+use Rattle.judging.specs.rules.Header.{held, frame_held, low_word, high_word, part, figures_at, lists_at}
+use Rattle.judging.specs.rules.Spoiled.{limits_ok}
+use Rattle.judging.specs.stages.Judged.{frame_judged, level_judged}
 use Rattle.judging.specs.rules.Views.{glyph_height_at, box_length}
 use Rattle.listing.specs.rules.Pages.{edition}
 use Rattle.listing.specs.rules.Sheets.{sheet_text}
@@ -153,3 +158,18 @@ summary_words s =
       ink = get_or s 19 0;
     })
     (pitch_read s) (height_read s)
+
+-- what the header of a levelled page gives: the size of the frame, and that the judgement of what follows is the whole judgement
+pub record HeaderPassed (s : List ℕ) (size : FrameSize) : Type 0 where
+  pub words : 64 ≤ length s
+  pub limits : limits_ok (held s) ≡ true
+  pub wide : size.w ≡ (frame_held (held s)).w
+  pub high : size.h ≡ (frame_held (held s)).h
+  pub w_fits : size.w ≤ max_frame_width
+  pub h_fits : size.h ≤ max_frame_height
+  pub judged : (lacking bad : Bool) → frame_judged s lacking bad ≡ level_judged s lacking bad
+
+-- .. or the refusal, whatever follows
+abbrev pub HeaderJudged : List ℕ → Result FrameSize Refusal → Type 0
+HeaderJudged s (Ok size) = HeaderPassed s size
+HeaderJudged s (Err r) = (lacking bad : Bool) → number r ≡ level_judged s lacking bad

@@ -1,6 +1,7 @@
 use Rattle.store.proofs.leaves.write_head.Goals as goal
 
--- `store::leaves::write_head` meets its contract: ten words over the front. Assumes nothing.
+-- `store::leaves::write_head` meets its contract: ten words over the front. The search finds this too; written out, a wrong word is refused
+-- as the word that differs (must-fail/state_not_written). Assumes nothing.
 
 pub returns : goal.returns
-returns c = rw (c.copy_over.ensures, c.bits_of-slope.ensures, c.bits_of-skew.ensures)
+returns c = rw (c.copy_over.ensures, c.put_float-2.ensures, c.put_float.ensures)

@@ -3,9 +3,9 @@ use Rattle.memory.specs.rules.Words.{over}
 use Rattle.levelling.specs.rules.Frames.{Frame}
 use Rattle.levelling.specs.rules.Planes.{levelled}
 use Rattle.levelling.proofs.ShearParts.{parts_are, parts-fit}
-use Rattle.stages.proofs.levels.level.Goals as goal
+use Rattle.stages.proofs.levels.PageFrame.level.Goals as goal
 
--- `stages::levels::level` meets its contract: the words that were filled are the frame's own shears. Assumes nothing.
+-- `stages::levels::PageFrame::level` meets its contract: the words that were filled are the frame's own shears. Assumes nothing.
 
 pub level_plane-requires : goal.level_plane-requires
 level_plane-requires c =
