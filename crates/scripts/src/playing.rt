@@ -226,6 +226,7 @@ fn read_planes(
 }
 
 // The call that these words are. What one call does not take, the others have as it was.
+// The lent slices are no struct: tried with one of `&mut` slices, and the proofs of the arms that lend `&store[..n]`, and of `play` behind its loop, didn't close.
 fn perform(
     call: &[u32],
     floats: &[f64],
