@@ -125,8 +125,9 @@ pub found_part : (s : List ℕ) (at kind n k : ℕ) → k ≡ field_count kind �
 unfolding part
 found_part s at kind n k f = let q : at + n * k - at ≡ n * k = omega arith in ap (λ z. take z (drop at s)) (q ∙ ap (λ z. n * z) f)
 
-pub found-long : (s : List ℕ) (at kind n : ℕ) (a : List ℕ) → a ≡ entries_at s at kind n → at + n * field_count kind ≤ length s → n * field_count kind ≤ length a
-found-long s at kind n a e h = let l = ap length e ∙ length_part at (n * field_count kind) s h in omega arith
+pub found-long : (s : List ℕ) (at kind n : ℕ) {a : List ℕ} {m : ℕ} → (a ≡ entries_at s at kind n) × (m ≡ n) → at + n * field_count kind ≤ length s → m * field_count kind ≤ length a
+found-long s at kind n {a} {m} e h =
+    let l = ap length e.0 ∙ length_part at (n * field_count kind) s h in let g = ap (λ z. z * field_count kind) e.1 in omega arith
 
 -- one more entry is written
 pub entries-more : (s out out' words : List ℕ) (at kind n i p q : ℕ) → i < n → at + length (entries_text kind words n) ≤ length s

@@ -26,16 +26,16 @@ length_three kind a m b n c k =
     let z = entries_text (kind + 2) c k in
     length-append (x ++ y) z ∙ (λ i. (length-append x y ∙ (λ j. length-entries kind a m j + length-entries (kind + 1) b n j)) i + length-entries (kind + 2) c k i)
 
--- the entries of three kinds, with their words as they are found
-module _ (kind : ℕ) (a b c a' b' c' : List ℕ) (m n k : ℕ) (ea : a ≡ a') (eb : b ≡ b') (ec : c ≡ c') where
-  found : three_kinds kind a m b n c k ≡ three_kinds kind a' m b' n c' k
-  found = λ i. three_kinds kind (ea i) m (eb i) n (ec i) k
+-- the entries of three kinds, with their words and how many they are as they are found
+module _ (kind : ℕ) {a b c a' b' c' : List ℕ} {m n k m' n' k' : ℕ} (ea : (a ≡ a') × (m ≡ m')) (eb : (b ≡ b') × (n ≡ n')) (ec : (c ≡ c') × (k ≡ k')) where
+  found : three_kinds kind a m b n c k ≡ three_kinds kind a' m' b' n' c' k'
+  found = λ i. three_kinds kind (ea.0 i) (ea.1 i) (eb.0 i) (eb.1 i) (ec.0 i) (ec.1 i)
 
-  pub found-room : (out : List ℕ) (at : ℕ) → at + length (three_kinds kind a' m b' n c' k) ≤ length out → at + length (three_kinds kind a m b n c k) ≤ length out
+  pub found-room : (out : List ℕ) (at : ℕ) → at + length (three_kinds kind a' m' b' n' c' k') ≤ length out → at + length (three_kinds kind a m b n c k) ≤ length out
   found-room out at h = subst (λ (t : List ℕ). at + length t ≤ length out) (sym found) h
 
-  pub found-put : (out out' : List ℕ) (at r : ℕ) → Put out at (three_kinds kind a m b n c k) r out' → Put out at (three_kinds kind a' m b' n c' k) r out'
-  found-put out out' at r h = subst (λ (t : List ℕ). Put out at t r out') found h
+  pub found-put : {out out' : List ℕ} {at r : ℕ} → Put out at (three_kinds kind a m b n c k) r out' → Put out at (three_kinds kind a' m' b' n' c' k') r out'
+  found-put {out} {out'} {at} {r} h = subst (λ (t : List ℕ). Put out at t r out') found h
 
 module _ (e w h page_w page_h : ℕ) (figures lines blocks rules graphics glyphs columns : List ℕ) where
   -- the first seven kinds in three parts

@@ -31,34 +31,36 @@ pub fn put_entry(out: &mut [u8], at: usize, kind: u32, words: &[u32], from: usiz
     q + 1
 }
 
-// All n entries of a kind.
-fn put_entries(out: &mut [u8], at: usize, kind: u32, words: &[u32], n: u32) -> usize
-    requires { (kind < 8) × (n * field_count kind ≤ length words.now) × (at + length (entries_text kind words.now n) ≤ length out.old) }
-    ensures { Put out.old at (entries_text kind words.now n) result out.new }
+// All entries of a kind.
+fn put_entries(out: &mut [u8], at: usize, kind: u32, list: Entries) -> usize
+    requires { (kind < 8) × (list.n * field_count kind ≤ length list.words.now) × (at + length (entries_text kind list.words.now list.n) ≤ length out.old) }
+    ensures { Put out.old at (entries_text kind list.entry.words.now list.entry.n) result out.new }
 {
     let count = field_count(kind as usize);
     let mut p = at;
-    for i in 0..n as usize {
-        p = put_entry(out, p, kind, words, i * count);
+    for i in 0..list.n as usize {
+        p = put_entry(out, p, kind, list.words, i * count);
     }
     p
 }
 
-// The words of the n entries of a kind that stand from word `at` on.
-pub fn entries_at(words: &[u32], at: usize, kind: usize, n: u32) -> &[u32]
-    requires { (kind < 8) × (at + n * field_count kind ≤ length words.now) }
-    ensures { result.now ≡ entries_at words.now at kind n }
-{
-    let end = at + n as usize * field_count(kind);
-    &words[at..end]
+// The entries of a kind: their words, and how many they are.
+#[derive(Clone, Copy, Debug, PartialEq, Eq)]
+pub struct Entries<'a> {
+    pub words: &'a [u32],
+    pub n: u32,
 }
 
-// How many entries a kind has, and the two kinds after it.
-#[derive(Clone, Copy, Debug, PartialEq, Eq)]
-pub struct ThreeCounts {
-    pub first: u32,
-    pub second: u32,
-    pub third: u32,
+// The n entries of a kind whose words stand from word `at` on.
+pub fn entries_at(words: &[u32], at: usize, kind: usize, n: u32) -> Entries
+    requires { (kind < 8) × (at + n * field_count kind ≤ length words.now) }
+    ensures { (result.words.now ≡ entries_at words.now at kind n) × (result.n ≡ n) }
+{
+    let end = at + n as usize * field_count(kind);
+    Entries {
+        words: &words[at..end],
+        n,
+    }
 }
 
 // All entries of a kind and of the two kinds after it.
@@ -66,15 +68,14 @@ pub fn put_three_kinds(
     out: &mut [u8],
     at: usize,
     kind: u32,
-    first: &[u32],
-    second: &[u32],
-    third: &[u32],
-    n: ThreeCounts,
+    first: Entries,
+    second: Entries,
+    third: Entries,
 ) -> usize
-    requires { (kind < 6) × (n.first * field_count kind ≤ length first.now) × (n.second * field_count (kind + 1) ≤ length second.now) × (n.third * field_count (kind + 2) ≤ length third.now) × (at + length (three_kinds kind first.now n.first second.now n.second third.now n.third) ≤ length out.old) }
-    ensures { Put out.old at (three_kinds kind first.now n.first second.now n.second third.now n.third) result out.new }
+    requires { (kind < 6) × (first.n * field_count kind ≤ length first.words.now) × (second.n * field_count (kind + 1) ≤ length second.words.now) × (third.n * field_count (kind + 2) ≤ length third.words.now) × (at + length (three_kinds kind first.words.now first.n second.words.now second.n third.words.now third.n) ≤ length out.old) }
+    ensures { Put out.old at (three_kinds kind first.entry.words.now first.entry.n second.entry.words.now second.entry.n third.entry.words.now third.entry.n) result out.new }
 {
-    let p = put_entries(out, at, kind, first, n.first);
-    let q = put_entries(out, p, kind + 1, second, n.second);
-    put_entries(out, q, kind + 2, third, n.third)
+    let p = put_entries(out, at, kind, first);
+    let q = put_entries(out, p, kind + 1, second);
+    put_entries(out, q, kind + 2, third)
 }

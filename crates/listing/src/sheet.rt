@@ -4,11 +4,11 @@ ghost use Rattle.memory.specs.rules.Words.{word_at, over};
 ghost use Rattle.segmenting.specs.rules.Figures.{figures_length};
 ghost use Rattle.listing.specs.rules.Pages.{edition};
 ghost use Rattle.listing.specs.rules.Sheets.{head_text};
-ghost use Rattle.listing.specs.stages.Parts.{lines_to_rules, graphics_to_columns, entry_length, sheet_length};
+ghost use Rattle.listing.specs.stages.Parts.{entry_length, sheet_length};
 ghost use Rattle.listing.specs.stages.Puts.{Put};
-ghost use Rattle.listing.specs.stages.Lists.{ListsIn, lines_in, blocks_in, rules_in, graphics_in, glyphs_in, columns_in, sheet_in};
+ghost use Rattle.listing.specs.stages.Lists.{ListsIn, sheet_in};
 
-use crate::entries::{ThreeCounts, entries_at, put_entry, put_three_kinds};
+use crate::entries::{entries_at, put_entry, put_three_kinds};
 use crate::formats::entry_length;
 use segmenting::ResultPlaces;
 
@@ -85,56 +85,6 @@ fn put_head(out: &mut [u8], sides: SheetSides, figures: &[u32]) -> usize
     put_entry(out, 0, 0, &head, 0)
 }
 
-// The entries of lines, blocks and rules.
-fn put_lines_to_rules(
-    out: &mut [u8],
-    at: usize,
-    figures: &[u32],
-    words: &[u32],
-    places: ResultPlaces,
-) -> usize
-    requires { ListsIn figures.now places (length words.now) × (at + length (lines_to_rules figures.now (lines_in figures.now words.now places) (blocks_in figures.now words.now places) (rules_in figures.now words.now places)) ≤ length out.old) }
-    ensures { Put out.old at (lines_to_rules figures.now (lines_in figures.now words.now places) (blocks_in figures.now words.now places) (rules_in figures.now words.now places)) result out.new }
-{
-    let first = figures[LINES];
-    let second = figures[BLOCKS];
-    let third = figures[RULES];
-    let n = ThreeCounts {
-        first,
-        second,
-        third,
-    };
-    let lines = entries_at(words, places.lines, 1, first);
-    let blocks = entries_at(words, places.blocks, 2, second);
-    let rules = entries_at(words, places.rules, 3, third);
-    put_three_kinds(out, at, 1, lines, blocks, rules, n)
-}
-
-// The entries of graphics, glyphs and columns.
-fn put_graphics_to_columns(
-    out: &mut [u8],
-    at: usize,
-    figures: &[u32],
-    words: &[u32],
-    places: ResultPlaces,
-) -> usize
-    requires { ListsIn figures.now places (length words.now) × (at + length (graphics_to_columns figures.now (graphics_in figures.now words.now places) (glyphs_in figures.now words.now places) (columns_in figures.now words.now places)) ≤ length out.old) }
-    ensures { Put out.old at (graphics_to_columns figures.now (graphics_in figures.now words.now places) (glyphs_in figures.now words.now places) (columns_in figures.now words.now places)) result out.new }
-{
-    let first = figures[GRAPHICS];
-    let second = figures[GLYPHS];
-    let third = figures[COLUMNS];
-    let n = ThreeCounts {
-        first,
-        second,
-        third,
-    };
-    let graphics = entries_at(words, places.graphics, 4, first);
-    let glyphs = entries_at(words, places.glyphs, 5, second);
-    let columns = entries_at(words, places.columns, 6, third);
-    put_three_kinds(out, at, 4, graphics, glyphs, columns, n)
-}
-
 // Writes the sheet over the front; its length. The lists stand in the words at their places.
 pub fn write_sheet_text(
     out: &mut [u8],
@@ -146,8 +96,14 @@ pub fn write_sheet_text(
     requires { ListsIn figures.now places (length words.now) × (sheet_length figures.now ≤ length out.old) }
     ensures { (result ≡ sheet_length figures.now) × (out.new ≡ over (sheet_in sides figures.now words.now places) out.old) }
 {
+    let lines = entries_at(words, places.lines, 1, figures[LINES]);
+    let blocks = entries_at(words, places.blocks, 2, figures[BLOCKS]);
+    let rules = entries_at(words, places.rules, 3, figures[RULES]);
+    let graphics = entries_at(words, places.graphics, 4, figures[GRAPHICS]);
+    let glyphs = entries_at(words, places.glyphs, 5, figures[GLYPHS]);
+    let columns = entries_at(words, places.columns, 6, figures[COLUMNS]);
     let p = put_head(out, sides, figures);
-    let q = put_lines_to_rules(out, p, figures, words, places);
-    let r = put_graphics_to_columns(out, q, figures, words, places);
+    let q = put_three_kinds(out, p, 1, lines, blocks, rules);
+    let r = put_three_kinds(out, q, 4, graphics, glyphs, columns);
     put_entry(out, r, 7, figures, DOTS)
 }

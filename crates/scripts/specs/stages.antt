@@ -1,2 +1,3 @@
 -- what the parts of `play` do
+pub mod Calls
 pub mod Playing

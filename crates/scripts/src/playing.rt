@@ -9,6 +9,7 @@ ghost use Rattle.account.specs.rules.Calls.{Act, world};
 ghost use Rattle.scripts.specs.rules.Scripts.{script_of, outputs, memory, call_words, store_at, ink_at, kinds_at, scratch_at, words_of, lent_of, sheet_from, leaf_from, list_named, level_reading, words_reading, result_reading, fills_bytes, Played};
 ghost use Rattle.scripts.specs.stages.Playing.{left_back, Filled, Did};
 
+use crate::calls::Call;
 use crate::script::{box_from, bytes_of, cut, float_at, sheet_of};
 use crate::words::{
     CALL_WORDS, CAPACITY, HEIGHT, INK, KIND, KINDS, LEFT, OP, OUT, SCRATCH, STORE, TOP, TURNS,
@@ -20,43 +21,6 @@ use store::{
     read_figures, read_frame, read_glyphs, read_graphics, read_lines, read_rules, read_summary,
     rect_to_page, segment, to_page, twenty_line_measure, write_sheet,
 };
-
-// What is called; any other word clears.
-const LEVEL: u32 = 1;
-
-const SEGMENT: u32 = 2;
-
-const TO_PAGE: u32 = 3;
-
-const RECT_TO_PAGE: u32 = 4;
-
-const LEVEL_GRAY: u32 = 5;
-
-const FRAME: u32 = 6;
-
-const FIGURES: u32 = 7;
-
-const SUMMARY: u32 = 8;
-
-const TWENTY_LINES: u32 = 9;
-
-const COUNT_DOTS: u32 = 10;
-
-const READ_DOTS: u32 = 11;
-
-const COLUMNS: u32 = 12;
-
-const RULES: u32 = 13;
-
-const GRAPHICS: u32 = 14;
-
-const GLYPHS: u32 = 15;
-
-const LINES: u32 = 16;
-
-const BLOCKS: u32 = 17;
-
-const SHEET: u32 = 18;
 
 // What the log gets of a call.
 #[derive(Clone, Copy, Debug, PartialEq, Eq)]
@@ -154,18 +118,18 @@ fn read_level(
 ) -> Result<(), Refusal>
     ensures { (ns : List Float) → Filled (fills_bytes (Act.read_level (level_reading call.now bytes.now (outputs words.old gray.old integers.old ns)))) (level_told (level_reading call.now bytes.now (outputs words.old gray.old integers.old ns)) store.now) (answer_number result) 0 (outputs words.old gray.old integers.old ns) (outputs words.new gray.new integers.new ns) }
 {
-    match word_at(call, OP) {
-        TO_PAGE => {
+    match Call::from(word_at(call, OP)) {
+        Call::ToPage => {
             let n = cut(call, OUT, integers.len());
             let x = word_at(call, LEFT);
             let y = word_at(call, TOP);
             to_page(store, x, y, &mut integers[..n])
         }
-        RECT_TO_PAGE => {
+        Call::RectToPage => {
             let n = cut(call, OUT, integers.len());
             rect_to_page(store, box_from(call), &mut integers[..n])
         }
-        LEVEL_GRAY => {
+        Call::LevelGray => {
             let n = cut(call, OUT, gray.len());
             level_gray(store, bytes_of(call, bytes), &mut gray[..n])
         }
@@ -186,12 +150,12 @@ fn read_list(
 ) -> Result<u32, Refusal>
     ensures { told (answer_number result) (answer_value result) (words out.new) ≡ result_told (ResultReading.list (list_named op) out.old) store.now ink.now kinds.now }
 {
-    match op {
-        COLUMNS => read_columns(store, ink, kinds, out),
-        RULES => read_rules(store, ink, kinds, out),
-        GRAPHICS => read_graphics(store, ink, kinds, out),
-        GLYPHS => read_glyphs(store, ink, kinds, out),
-        LINES => read_lines(store, ink, kinds, out),
+    match Call::from(op) {
+        Call::Columns => read_columns(store, ink, kinds, out),
+        Call::Rules => read_rules(store, ink, kinds, out),
+        Call::Graphics => read_graphics(store, ink, kinds, out),
+        Call::Glyphs => read_glyphs(store, ink, kinds, out),
+        Call::Lines => read_lines(store, ink, kinds, out),
         _ => read_blocks(store, ink, kinds, out),
     }
 }
@@ -200,13 +164,14 @@ fn read_list(
 fn read_words(call: &[u32], store: &[u32], ink: &[u8], kinds: &[u8], out: &mut [u32]) -> Logged
     ensures { told result.number result.value (words out.new) ≡ result_told (words_reading call.now out.old) store.now ink.now kinds.now }
 {
-    match word_at(call, OP) {
-        FIGURES => log_outcome(read_figures(store, ink, kinds, out)),
-        READ_DOTS => {
+    let op = word_at(call, OP);
+    match Call::from(op) {
+        Call::Figures => log_outcome(read_figures(store, ink, kinds, out)),
+        Call::ReadDots => {
             let kind = word_at(call, KIND);
             log_answer(read_dots(store, ink, kinds, kind, box_from(call), out))
         }
-        op => log_answer(read_list(op, store, ink, kinds, out)),
+        _ => log_answer(read_list(op, store, ink, kinds, out)),
     }
 }
 
@@ -222,17 +187,17 @@ fn read_results(
 ) -> Logged
     ensures { (is : List ℤ) → Filled (fills_bytes (Act.read_result (result_reading call.now (outputs words.old gray.old is numbers.old)))) (result_told (result_reading call.now (outputs words.old gray.old is numbers.old)) store.now ink.now kinds.now) result.number result.value (outputs words.old gray.old is numbers.old) (outputs words.new gray.new is numbers.new) }
 {
-    match word_at(call, OP) {
-        SUMMARY => {
+    match Call::from(word_at(call, OP)) {
+        Call::Summary => {
             let n = cut(call, OUT, numbers.len());
             log_outcome(read_summary(store, ink, kinds, &mut numbers[..n]))
         }
-        TWENTY_LINES => log_answer(twenty_line_measure(store, ink, kinds)),
-        COUNT_DOTS => {
+        Call::TwentyLines => log_answer(twenty_line_measure(store, ink, kinds)),
+        Call::CountDots => {
             let kind = word_at(call, KIND);
             log_answer(count_dots(store, ink, kinds, kind, box_from(call)))
         }
-        SHEET => {
+        Call::Sheet => {
             let n = cut(call, OUT, gray.len());
             log_answer(write_sheet(store, ink, kinds, &mut gray[..n]))
         }
@@ -261,6 +226,7 @@ fn read_planes(
 }
 
 // The call that these words are. What one call does not take, the others have as it was.
+// The lent slices are no struct: tried with one of `&mut` slices, and the proofs of the arms that lend `&store[..n]`, and of `play` behind its loop, didn't close.
 fn perform(
     call: &[u32],
     floats: &[f64],
@@ -277,14 +243,14 @@ fn perform(
     ensures { Did floats.now bytes.now (length scratch.old) call.now (memory (world store.old ink.old kinds.old) (outputs words.old gray.old integers.old numbers.old)) result.number result.value (memory (world store.new ink.new kinds.new) (outputs words.new gray.new integers.new numbers.new)) }
 {
     let n = cut(call, STORE, store.len());
-    match word_at(call, OP) {
-        LEVEL => log_outcome(level_call(call, floats, bytes, store, ink)),
-        SEGMENT => log_outcome(segment_call(call, floats, store, ink, kinds, scratch)),
-        TO_PAGE..=FRAME => {
+    match Call::from(word_at(call, OP)) {
+        Call::Level => log_outcome(level_call(call, floats, bytes, store, ink)),
+        Call::Segment => log_outcome(segment_call(call, floats, store, ink, kinds, scratch)),
+        Call::ToPage | Call::RectToPage | Call::LevelGray | Call::Frame => {
             log_outcome(read_level(call, bytes, &store[..n], words, gray, integers))
         }
-        FIGURES..=SHEET => read_planes(call, &store[..n], ink, kinds, words, gray, numbers),
-        _ => log_outcome(clear(&mut store[..n])),
+        Call::Clear => log_outcome(clear(&mut store[..n])),
+        _ => read_planes(call, &store[..n], ink, kinds, words, gray, numbers),
     }
 }
 

@@ -14,23 +14,23 @@ loop-i-init c = let a = c.args in put-none a.out.now a.at
 
 pub overflow_mul-i : goal.overflow_mul-i
 overflow_mul-i c =
-    omega (arith, words-there c.args.n c.loop-i.i (field_count c.args.kind) (length c.args.words.now) c.field_count-count.result c.field_count-count.ensures c.requires.1 (omega arith))
+    omega (arith, words-there c.args.list.n c.loop-i.i (field_count c.args.kind) (length c.args.list.words.now) c.field_count-count.result c.field_count-count.ensures c.requires.1 (omega arith))
 
 pub put_entry-p-requires : goal.put_entry-p-requires
 put_entry-p-requires c =
     let a = c.args in (
       c.requires.0,
-      words-there a.n c.loop-i.i (field_count a.kind) (length a.words.now) c.field_count-count.result c.field_count-count.ensures c.requires.1 (omega arith),
-      entries-room a.out.now c.loop-i.out a.words.now a.at a.kind a.n c.loop-i.i c.loop-i.p (omega arith) c.requires.2 c.field_count-count.result c.field_count-count.ensures c.loop-i.invariant,
+      words-there a.list.n c.loop-i.i (field_count a.kind) (length a.list.words.now) c.field_count-count.result c.field_count-count.ensures c.requires.1 (omega arith),
+      entries-room a.out.now c.loop-i.out a.list.words.now a.at a.kind a.list.n c.loop-i.i c.loop-i.p (omega arith) c.requires.2 c.field_count-count.result c.field_count-count.ensures c.loop-i.invariant,
     )
 
 pub loop-i-preserved : goal.loop-i-preserved
 loop-i-preserved c =
     let a = c.args in
-    entries-more a.out.now c.loop-i.out c.put_entry-p.new.out a.words.now a.at a.kind a.n c.loop-i.i c.loop-i.p c.put_entry-p.result (omega arith) c.requires.2 c.field_count-count.result c.field_count-count.ensures c.loop-i.invariant c.put_entry-p.ensures
+    entries-more a.out.now c.loop-i.out c.put_entry-p.new.out a.list.words.now a.at a.kind a.list.n c.loop-i.i c.loop-i.p c.put_entry-p.result (omega arith) c.requires.2 c.field_count-count.result c.field_count-count.ensures c.loop-i.invariant c.put_entry-p.ensures
 
 pub returns : goal.returns
 returns c =
     let a = c.args in
-    let e : c.loop-i.i ≡ a.n = omega arith in
-    subst (λ n. Put a.out.now a.at (entries_text a.kind a.words.now n) c.loop-i.p c.loop-i.out) e c.loop-i.invariant
+    let e : c.loop-i.i ≡ a.list.n = omega arith in
+    subst (λ n. Put a.out.now a.at (entries_text a.kind a.list.words.now n) c.loop-i.p c.loop-i.out) e c.loop-i.invariant
