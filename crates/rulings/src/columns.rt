@@ -138,7 +138,7 @@ impl<'a> Plane<'a> {
         ensures { (from ≤ result) × (result ≤ self.entry.sweep.outer) }
     {
         let outer = self.sweep.outer;
-        // a walk, not a count: extents' chunk_end tells where a strip ends
+        // strip by strip, each as long as extents' chunk_end makes it
         let mut b = from;
         while b < outer {
             let next = chunk_end(b, outer);
