@@ -31,13 +31,6 @@ const HEAD: usize = 6;
 const LINE_FEED: u8 = 10;
 
 #[derive(Clone, Copy, Debug, PartialEq, Eq)]
-enum Outcome {
-    End,
-    Same,
-    Differs,
-}
-
-#[derive(Clone, Copy, Debug, PartialEq, Eq)]
 struct Tally {
     cases: u64,
     differences: u64,
@@ -54,53 +47,45 @@ fn agrees(kind: u64, digits: &[u8]) -> bool {
     }
 }
 
-// Reads the digits of a case and its line feed into room, and judges them.
-fn judge_body<R: Read>(
-    input: &mut R,
-    kind: u64,
-    count: u64,
-    room: &mut [u8],
-) -> io::Result<Outcome> {
+// Reads the digits of a case and its line feed into room: whether they have the Rust's answer.
+fn judge_body<R: Read>(input: &mut R, kind: u64, count: u64, room: &mut [u8]) -> io::Result<bool> {
     let digits = count as usize;
     if digits >= room.len() {
-        return Ok(Outcome::Differs);
+        return Ok(false);
     }
     let end = digits + 1;
     let got = read_full(input, &mut room[0..end])?;
     if got != end {
-        return Ok(Outcome::Differs);
+        return Ok(false);
     }
     if room[digits] != LINE_FEED {
-        return Ok(Outcome::Differs);
+        return Ok(false);
     }
     let body = &room[0..digits];
-    if text::are_digits(body) & agrees(kind, body) {
-        Ok(Outcome::Same)
-    } else {
-        Ok(Outcome::Differs)
-    }
+    Ok(text::are_digits(body) & agrees(kind, body))
 }
 
-// Reads a case and judges it.
-fn next_case<R: Read>(input: &mut R) -> io::Result<Outcome> {
+// Reads the next case, unless the input has ended: whether it has the Rust's answer.
+fn next_case<R: Read>(input: &mut R) -> io::Result<Option<bool>> {
     let mut head = [0u8; HEAD];
     let got = read_full(input, &mut head)?;
     if got == 0 {
-        return Ok(Outcome::End);
+        return Ok(None);
     }
     if got != HEAD {
-        return Ok(Outcome::Differs);
+        return Ok(Some(false));
     }
     if !text::are_digits(&head) {
-        return Ok(Outcome::Differs);
+        return Ok(Some(false));
     }
     let mut room = [0u8; CASE];
-    judge_body(
+    let same = judge_body(
         input,
         text::number(&head[0..2]),
         text::number(&head[2..]),
         &mut room,
-    )
+    )?;
+    Ok(Some(same))
 }
 
 // Every case of the input, counted.
@@ -111,13 +96,12 @@ fn replay<R: Read>(input: &mut R) -> io::Result<Tally> {
         first: None,
     };
     for cases in 0..MOST_CASES {
-        match next_case(input)? {
-            Outcome::End => break,
-            Outcome::Same => {}
-            Outcome::Differs => {
-                tally.differences += 1;
-                tally.first = tally.first.or(Some(cases + 1));
-            }
+        let Some(same) = next_case(input)? else {
+            break;
+        };
+        if !same {
+            tally.differences += 1;
+            tally.first = tally.first.or(Some(cases + 1));
         }
         tally.cases = cases + 1;
     }

@@ -22,11 +22,7 @@ pub fn are_digits(text: &[u8]) -> bool {
 
 // n with one digit more at its end, the digits above 16 dropped; 0 where a byte is no digit.
 fn with_digit(n: u64, b: u8) -> u64 {
-    let last = match digit(b) {
-        Some(d) => d,
-        None => 0,
-    };
-    n % 0x1000_0000_0000_0000 * 16 + last as u64
+    n % 0x1000_0000_0000_0000 * 16 + digit(b).unwrap_or(0) as u64
 }
 
 // The number that the digits spell, by its last 16 digits.
@@ -120,9 +116,5 @@ pub fn whole(body: &[u8], i: usize) -> u32 {
 
 // The number whose two's complement at 64 bits the word is.
 pub fn signed(word: u64) -> i64 {
-    if word < 0x8000_0000_0000_0000 {
-        word as i64
-    } else {
-        -1 - ((0xffff_ffff_ffff_ffff - word) as i64)
-    }
+    word.cast_signed()
 }

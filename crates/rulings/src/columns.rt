@@ -138,7 +138,7 @@ impl<'a> Plane<'a> {
         ensures { (from ≤ result) × (result ≤ self.entry.sweep.outer) }
     {
         let outer = self.sweep.outer;
-        // strip by strip, each as long as extents' chunk_end makes it
+        // strip by strip: how long one is stands in extents' chunk_end alone, and a stride would say it again
         let mut b = from;
         while b < outer {
             let next = chunk_end(b, outer);

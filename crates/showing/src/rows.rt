@@ -28,6 +28,7 @@ pub fn rows_good(s: &[u8], w: usize, h: usize) -> bool
     requires { (w ≤ 16) × (row_at w h ≤ length s.now) }
     ensures { result ≡ every (row_good s.now w) h }
 {
+    // `(0..h).all(..)` says as much, and its promise was not proved of it
     for y in 0..h {
         if !row_good(s, w, y) {
             return false;
@@ -54,7 +55,8 @@ pub fn fill_mask(s: &[u8], w: usize, h: usize, mask: &mut [u8])
     ensures { mask.new ≡ over (dots_in s.now w h) mask.old }
 {
     let n = w * h;
-    for i in 0..n {
-        mask[i] = dot_at(s, w, h, i);
+    let page = &mut mask[..n];
+    for (i, dot) in page.iter_mut().enumerate() {
+        *dot = dot_at(s, w, h, i);
     }
 }

@@ -6,4 +6,4 @@ use Rattle.showing.specs.rules.Inputs.{dot_at}
 use Rattle.showing.proofs.rows.fill_mask.Given as goal
 
 abbrev pub invariant-loop-i : goal.invariant-loop-i
-invariant-loop-i l = l.mask ≡ table (dot_at l.s l.w) l.i ++ drop l.i l.initial.mask
+invariant-loop-i l = l.page ≡ table (dot_at l.s l.w) l.i ++ drop l.i l.initial.page
