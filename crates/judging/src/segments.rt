@@ -64,7 +64,7 @@ fn judge_behind(store: &[u32], ink: &[u8], kinds: usize, scratch: usize) -> Resu
     if differs | ink_spoiled(ink, dots) {
         return Err(Refusal::Spoiled);
     }
-    Ok(())
+    Ok(()) // only the page itself can refuse now
 }
 
 // All that can refuse the call but the page itself.

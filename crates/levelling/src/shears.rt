@@ -126,7 +126,9 @@ impl Shear {
     }
 }
 
-// Drift i: the row drift of page column i, or the column drift of frame row i.
+// Drift i: the row drift of page column i, or the column drift of frame row i. In place in each loop over a shear, where which it is and the slope
+// are known.
+#[inline(always)]
 fn drift_of(which: Drift, i: u32, slope: f64) -> i64
     ensures { result ≡ drift_of which slope i }
 {

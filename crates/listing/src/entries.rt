@@ -31,7 +31,8 @@ pub fn put_entry(out: &mut [u8], at: usize, kind: u32, words: &[u32], from: usiz
     q + 1
 }
 
-// All entries of a kind.
+// All entries of a kind. In place at each of its six calls, where the kind is known, so that the digits of its words are too.
+#[inline(always)]
 fn put_entries(out: &mut [u8], at: usize, kind: u32, list: Entries) -> usize
     requires { (kind < 8) × (list.n * field_count kind ≤ length list.words.now) × (at + length (entries_text kind list.words.now list.n) ≤ length out.old) }
     ensures { Put out.old at (entries_text kind list.entry.words.now list.entry.n) result out.new }
@@ -64,6 +65,7 @@ pub fn entries_at(words: &[u32], at: usize, kind: usize, n: u32) -> Entries
 }
 
 // All entries of a kind and of the two kinds after it.
+#[inline(always)]
 pub fn put_three_kinds(
     out: &mut [u8],
     at: usize,

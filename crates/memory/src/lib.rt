@@ -1,4 +1,4 @@
-// Lent memory: words, floats in two words, and the chain of tests that refuses a call; boxes of dots, and the small numbers' work that all share. Every crate above keeps its records in
+// Lent memory: words, floats in two words, refusals and the numbers that answers tell; masks, boxes of dots, and the limits that all share. Every crate above keeps its records in
 // memory that the caller lends, and says what that memory holds by the definitions in specs/.
 #![tactic(auto)]
 

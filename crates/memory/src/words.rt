@@ -15,7 +15,10 @@ pub fn copy_over<T: Copy>(dst: &mut [T], src: &[T])
     requires { length src.now ≤ length dst.old }
     ensures { dst.new ≡ over src.now dst.old }
 {
-    dst[..src.len()].copy_from_slice(src);
+    // word by word: the library's copy calls `memmove`, which an archive for C would have to be given
+    for i in 0..src.len() {
+        dst[i] = src[i];
+    }
 }
 
 // v in every place.

@@ -38,35 +38,45 @@ struct Tally {
     first: Option<u64>,
 }
 
-// Whether the case of these digits has the Rust's answer.
-fn agrees(kind: u64, digits: &[u8]) -> bool {
-    let mut room = [0u8; CASE];
-    match text::spread(digits, &mut room) {
+// Whether the case of these digits has the Rust's answer; they are spread into room.
+fn agrees(kind: u64, digits: &[u8], room: &mut [u8]) -> bool {
+    match text::spread(digits, room) {
         Some(n) => kinds::agrees(kind, &room[..n]),
         None => false,
     }
 }
 
-// Reads the digits of a case and its line feed into room: whether they have the Rust's answer.
-fn judge_body<R: Read>(input: &mut R, kind: u64, count: u64, room: &mut [u8]) -> io::Result<bool> {
+// Reads the digits of a case and its line feed into bytes: whether they have the Rust's answer.
+fn judge_body<R: Read>(
+    input: &mut R,
+    kind: u64,
+    count: u64,
+    bytes: &mut [u8],
+    room: &mut [u8],
+) -> io::Result<bool> {
     let digits = count as usize;
-    if digits >= room.len() {
+    if digits >= bytes.len() {
         return Ok(false);
     }
     let end = digits + 1;
-    let got = read_full(input, &mut room[0..end])?;
+    let got = read_full(input, &mut bytes[0..end])?;
     if got != end {
         return Ok(false);
     }
-    if room[digits] != LINE_FEED {
+    if bytes[digits] != LINE_FEED {
         return Ok(false);
     }
-    let body = &room[0..digits];
-    Ok(text::are_digits(body) & agrees(kind, body))
+    let body = &bytes[0..digits];
+    Ok(text::are_digits(body) & agrees(kind, body, room))
 }
 
-// Reads the next case, unless the input has ended: whether it has the Rust's answer.
-fn next_case<R: Read>(input: &mut R) -> io::Result<Option<bool>> {
+// Reads the next case, unless the input has ended: whether it has the Rust's answer. Both rooms are of the length of the longest case, and are
+// lent, since blanking them anew for each case takes longer than a short case.
+fn next_case<R: Read>(
+    input: &mut R,
+    bytes: &mut [u8],
+    room: &mut [u8],
+) -> io::Result<Option<bool>> {
     let mut head = [0u8; HEAD];
     let got = read_full(input, &mut head)?;
     if got == 0 {
@@ -78,12 +88,12 @@ fn next_case<R: Read>(input: &mut R) -> io::Result<Option<bool>> {
     if !text::are_digits(&head) {
         return Ok(Some(false));
     }
-    let mut room = [0u8; CASE];
     let same = judge_body(
         input,
         text::number(&head[0..2]),
         text::number(&head[2..]),
-        &mut room,
+        bytes,
+        room,
     )?;
     Ok(Some(same))
 }
@@ -95,8 +105,10 @@ fn replay<R: Read>(input: &mut R) -> io::Result<Tally> {
         differences: 0,
         first: None,
     };
+    let mut bytes = [0u8; CASE];
+    let mut room = [0u8; CASE];
     for cases in 0..MOST_CASES {
-        let Some(same) = next_case(input)? else {
+        let Some(same) = next_case(input, &mut bytes, &mut room)? else {
             break;
         };
         if !same {

@@ -1,4 +1,4 @@
--- `nearest_whole` over whole numbers: at a whole number, in order, and between its neighbours.
+-- `nearest_whole` over whole numbers: at a whole number, below a half, in order, and between its neighbours.
 use Rattle.std.proofs.Common.{◌≡◌, ℕ, suc, ◌+◌, ◌*◌, ◌/◌, ◌<◌, ◌≤◌, sym, ap, ◌∙◌, le_trans, le_of_eq, lt_of_lt_of_le, mul_assoc, mul_comm, div-lt_iff_lt-mul, add-mul, le-div_iff_mul-le, mul_left_comm, arith}
 use lib.Ieee.Nearest.{div_mono}
 use Rattle.rounding.specs.rules.Rounding.{nearest_whole}
@@ -52,3 +52,9 @@ nearest_whole-above n d g D h = (le-div_iff_mul-le (two_pos d D)).1 (le_trans (l
 
     out : (g d : ℕ) → suc g * (2 * d) ≡ 2 * (g * d) + 2 * d
     out g d = native.Mathlib.Nat.suc-mul g (2 * d) ∙ ap (λ (z : ℕ). z + 2 * d) (mul_left_comm g 2 d)
+
+pub nearest_whole-below-half : (n d : ℕ) → 2 * n < d → nearest_whole n d ≡ 0
+nearest_whole-below-half n d h = native.Mathlib.Nat.div-eq_of_lt (go n d h)
+  where
+    go : (n d : ℕ) → 2 * n < d → 2 * n + d < 2 * d
+    go n d h = omega arith

@@ -11,6 +11,14 @@ pub first_so : (a b : Bool) → T a → T (a || b)
 first_so true b t = tt
 first_so false b t = absurd t
 
+pub first-not : (a b : Bool) → T (not (a || b)) → T (not a)
+first-not true b t = absurd t
+first-not false b t = tt
+
+pub second-not : (a b : Bool) → T (not (a || b)) → T (not b)
+second-not true b t = absurd t
+second-not false b t = t
+
 -- below, or equal by a test q of either order
 pub at_most : (a b : ℕ) (q : Bool) → (T q → a ≡ b) → T (ltb a b || (q && true)) → a ≤ b
 at_most a b q f t = go (ltb a b) q (ltb→lt a b) f t

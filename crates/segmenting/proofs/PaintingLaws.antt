@@ -12,7 +12,7 @@ use Rattle.std.proofs.lemmas.List.{length-replicate, replicate_more}
 use Rattle.memory.specs.rules.Lists.{table}
 use Rattle.memory.specs.rules.Words.{over}
 use Rattle.memory.proofs.TableLaws.{table-ext}
-use Rattle.memory.proofs.PartLaws.{part-is-table, part_filled}
+use Rattle.memory.proofs.PartLaws.{over-all, part-is-table, part_filled}
 use Rattle.memory.specs.rules.Masks.{is_ink}
 use Rattle.labelling.specs.rules.Labels.{labelling}
 use Rattle.labelling.specs.stages.InkRuns.{start_of, end_of}
@@ -29,15 +29,18 @@ pub part-long : (t : List ℕ) (a e : ℕ) → a ≤ e → e ≤ length t → le
 part-long t a e h k = simp (length-take, length-drop) (omega arith)
 
 module _ (ink l v : List ℕ) (a e : ℕ) (h : a ≤ e) (k : e ≤ length ink) (r : length ink ≤ length l)
-    (ev : v ≡ take (e - a) (drop a ink)) where
+    (ev : v ≡ over (take (e - a) (drop a ink)) (take (e - a) (drop a l))) where
+  copied : v ≡ take (e - a) (drop a ink)
+  copied = ev ∙ over-all (take (e - a) (drop a ink)) (take (e - a) (drop a l)) (part-long ink a e h k ∙ sym (part-long l a e h (omega arith)))
+
   pub copied-long : length (put_mid a (e - a) l v) ≡ length l
-  copied-long = same_len_mid a (e - a) l v (ap length ev ∙ (part-long ink a e h k ∙ sym (part-long l a e h (omega arith))))
+  copied-long = same_len_mid a (e - a) l v (ap length copied ∙ (part-long ink a e h k ∙ sym (part-long l a e h (omega arith))))
 
   pub copied-to : (f : ℕ → ℕ) (l₀ : List ℕ) → PaintedTo f l₀ l a → ((i : ℕ) → a ≤ i → i < e → f i ≡ get_or ink i 0) → PaintedTo f l₀ (put_mid a (e - a) l v) e
   copied-to f l₀ P q =
       subst (PaintedTo f l₀ (put_mid a (e - a) l v)) (let z : a + (e - a) ≡ e = omega arith in z)
       (part_filled f l₀ l v a (e - a) P
-      (ev ∙ (part-is-table ink a (e - a) 0 (omega arith) ∙ table-ext (λ i. get_or ink (a + i) 0) (λ i. f (a + i)) (e - a) (λ i b. sym (q (a + i) (omega arith) (omega arith))))))
+      (copied ∙ (part-is-table ink a (e - a) 0 (omega arith) ∙ table-ext (λ i. get_or ink (a + i) 0) (λ i. f (a + i)) (e - a) (λ i b. sym (q (a + i) (omega arith) (omega arith))))))
 
 -- A run
 
@@ -57,7 +60,7 @@ module _ {s ink l : List ℕ} {runs kinds k done : ℕ} (R : RunPaintable s runs
       let e = R.plane in
       (omega arith, omega arith, omega arith, omega arith)
 
-  pub run-painted : (v u : List ℕ) → v ≡ take (start - done) (drop done ink)
+  pub run-painted : (v u : List ℕ) → v ≡ over (take (start - done) (drop done ink)) (take (start - done) (drop done l))
       → u ≡ replicate (length (take (end - start) (drop start (put_mid done (start - done) l v)))) kind
       → RunPainted s runs kinds k done ink l (put_mid start (end - start) (put_mid done (start - done) l v) u) end
   run-painted v u ev eu =
@@ -199,12 +202,12 @@ module _ {w h : ℕ} {m ink s : List ℕ} {runs kinds : ℕ} {out₀ : List ℕ}
               (λ i g b. on k i l g b));
         }
 
-    pub kinds-done : runs ≤ k → (v : List ℕ) → v ≡ take (length ink - done) (drop done ink)
+    pub kinds-done : runs ≤ k → (v : List ℕ) → v ≡ over (take (length ink - done) (drop done ink)) (take (length ink - done) (drop done out))
         → put_mid done (length ink - done) out v ≡ over (table (painted_kind m (labelling w h m).labels s kinds ink) (w * h)) out₀
     kinds-done b v ev =
         copied-to ink out v done (length ink) S.inside (le_refl (length ink)) kinds-last.1 ev (painted_kind m (labelling w h m).labels s kinds ink) out₀ (S.painted (painted_kind m (labelling w h m).labels s kinds ink) on-runs off-runs)
         (λ i g c. off-runs k i S.upto c (λ u. absurd (omega arith)) (λ j e. let a = S.last j e in omega arith))
         ∙ (ap (λ z. table (painted_kind m (labelling w h m).labels s kinds ink) z ++ drop z out₀) A.plane ∙ over-table (painted_kind m (labelling w h m).labels s kinds ink) (w * h) out₀)
 
-    pub kinds-length : (v : List ℕ) → v ≡ take (length ink - done) (drop done ink) → length (put_mid done (length ink - done) out v) ≡ length out₀
+    pub kinds-length : (v : List ℕ) → v ≡ over (take (length ink - done) (drop done ink)) (take (length ink - done) (drop done out)) → length (put_mid done (length ink - done) out v) ≡ length out₀
     kinds-length v ev = copied-long ink out v done (length ink) S.inside (le_refl (length ink)) kinds-last.1 ev ∙ S.len

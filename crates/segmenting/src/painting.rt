@@ -5,6 +5,8 @@ ghost use Rattle.memory.specs.rules.Words.{over};
 ghost use Rattle.labelling.specs.rules.Labels.{labelling};
 ghost use Rattle.segmenting.specs.stages.Painting.{painted_kind, RunPaintable, RunPainted, Paintable};
 
+use memory::copy_over;
+
 // The ink from dot `done` up to run k, and the kind of its component on the run; answers where the run ends.
 fn paint_run(
     ink: &[u8],
@@ -22,7 +24,7 @@ fn paint_run(
     let end = words[2 * k + 1] as usize;
     let number = words[2 * runs + k] as usize;
     let kind = words[kinds + (number - 1)] % 8;
-    out[done..start].copy_from_slice(&ink[done..start]);
+    copy_over(&mut out[done..start], &ink[done..start]);
     out[start..end].fill(kind as u8);
     end
 }
@@ -37,5 +39,5 @@ pub fn paint_kinds(ink: &[u8], words: &[u32], runs: usize, kinds: usize, out: &m
     for k in 0..runs {
         done = paint_run(ink, words, runs, kinds, k, done, out);
     }
-    out[done..ink.len()].copy_from_slice(&ink[done..]);
+    copy_over(&mut out[done..ink.len()], &ink[done..]);
 }

@@ -60,9 +60,10 @@ pub fn kind_by_size(
 ) -> u32
     ensures { result ≡ kind_by_size p (unit_value unit) w h area width height }
 {
+    let (Unit::Measured(unit) | Unit::Assumed(unit)) = unit;
     let scale = Scale {
         sheet: p,
-        unit: unit.value(),
+        unit,
         w,
         h,
     };
@@ -83,14 +84,21 @@ impl Scale {
     fn kind(self, area: u32, width: u32, height: u32) -> Kind
         ensures { number_of result ≡ kind_by_size self.sheet self.unit self.w self.h area width height }
     {
-        if self.is_rule(width, height) | self.is_rule(height, width) {
-            Kind::Rule
-        } else if self.is_graphic(width, height) {
-            Kind::Graphic
-        } else if area < self.sheet.glyph_min_area {
+        // every test is made, and the kinds chosen after: a branch a test would be guessed wrong where sizes alternate
+        let small = if area < self.sheet.glyph_min_area {
             Kind::Speck
         } else {
             Kind::Glyph
+        };
+        let rest = if self.is_graphic(width, height) {
+            Kind::Graphic
+        } else {
+            small
+        };
+        if self.is_rule(width, height) | self.is_rule(height, width) {
+            Kind::Rule
+        } else {
+            rest
         }
     }
 

@@ -2,7 +2,6 @@
 pub mod Written
 -- what levelling is handed
 pub mod Handed
--- the number and value of an answer
 -- what each reading asks and answers
 pub mod Readings
 -- what each call answers and leaves

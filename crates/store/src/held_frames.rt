@@ -39,7 +39,7 @@ pub fn held_frame(store: &[u32]) -> HeldFrame<'_>
 }
 
 // The size of the frame that the held slope gives, or the header's refusal.
-pub fn level_size(store: &[u32]) -> Result<FrameSize, Refusal>
+pub(crate) fn level_size(store: &[u32]) -> Result<FrameSize, Refusal>
     ensures { HeaderJudged store.now result }
 {
     level_head(store)?;

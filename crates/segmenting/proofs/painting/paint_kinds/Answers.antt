@@ -11,4 +11,4 @@ pub loop-k-preserved : goal.loop-k-preserved
 loop-k-preserved c = kinds-more c.requires.3 c.loop-k.invariant c.loop-k-test.true c.paint_run-done.new.out c.paint_run-done.result c.paint_run-done.ensures
 
 pub returns : goal.returns
-returns c = λ w h m A. kinds-done A c.loop-k.invariant c.loop-k-test.false c.copy_from_slice.new.self c.copy_from_slice.ensures.after
+returns c = λ w h m A. kinds-done A c.loop-k.invariant c.loop-k-test.false c.copy_over.new.dst c.copy_over.ensures

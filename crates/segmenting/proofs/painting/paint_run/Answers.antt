@@ -8,4 +8,4 @@ returns c =
     let w = c.args.words.now in
     let k = c.args.k in
     run-painted c.requires (get_or w (2 * k) 0) (get_or w (2 * k + 1) 0) (held_kind w c.args.kinds (get_or w (2 * c.args.runs + k) 0 - 1)) refl refl refl
-    c.copy_from_slice.new.self c.fill.new.self c.copy_from_slice.ensures.after (c.fill.ensures.after (λ y h. h))
+    c.copy_over.new.dst c.fill.new.self c.copy_over.ensures (c.fill.ensures.after (λ y h. h))
