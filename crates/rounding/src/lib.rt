@@ -21,7 +21,7 @@ pub fn round(x: f64) -> f64
     if (x >= 0.5) | (-x >= 0.5) {
         x.round()
     } else {
-        // a zero with the sign of x, or a NaN: most drifts of a gentle slope, and the library's rounding is as long for them as for any
+        // a zero with the sign of x, or a NaN: all drifts of a level page, and the library's rounding is as long for them as for any
         x * 0.0
     }
 }
