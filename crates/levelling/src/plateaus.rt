@@ -100,10 +100,7 @@ fn copy_columns(dst: &mut [u8], src: &[u8])
         copy_chunk(dst, src);
         return;
     }
-    // dot by dot, which is compiled to wide moves: the library's copy took a third longer for the rows of a level page
-    for i in 0..src.len() {
-        dst[i] = src[i];
-    }
+    copy_over(dst, src);
 }
 
 // The same of one chunk, all of it read before any of it is written: then the machine moves it in its widest steps.
